@@ -6,6 +6,8 @@ use Rattle.std.proofs.lemmas.Option.{slice_get_within, slice_get-get_or}
 use Rattle.pool_pages.specs.MakerTold.{MakerTold}
 use Rattle.pool_index.specs.Shard.{one_if}
 use Rattle.pool_slots.specs.declared.errors.AllocError.TheVariants as alloc
+use Rattle.pool_slots.specs.declared.listed_heaps.ListedHeaps.{ListedHeaps}
+use Rattle.pool_slots.specs.declared.listed_heaps.PlainHeap.{PlainHeap}
 use Rattle.pool_alloc.specs.Objects.{objects_in}
 use Rattle.pool_alloc.specs.Bounds.{bound_of, steps_left}
 use Rattle.pool_alloc.specs.Calls.{IsIdle, begun_call}
@@ -32,8 +34,8 @@ use Rattle.pool_run.specs.declared.reply.Reply.TheVariants.{Refused}
 use Rattle.pool_run.specs.declared.reply.Refusal.TheVariants.{NoSuchGrant, Alloc}
 use Rattle.pool_run.specs.declared.running_party.RunningParty.{RunningParty}
 use Rattle.pool_run.proofs.Parties.{can_step, called_plain, returned_stage}
-use Rattle.pool_run.specs.Acts.{Act, requests, on_memory, on_table, drops, purges, releases, act_of, Wanted, an_instance, a_component, a_stack}
-use Rattle.pool_run.proofs.Opened.{idle_is, IsStep, drops_opened, module_opened, plain_opened, component_opened, stack_asked_opened}
+use Rattle.pool_run.specs.Acts.{Act, requests, on_memory, on_table, drops, purges, releases, act_of, Wanted, an_instance, a_component, a_stack, a_heap, heap_type}
+use Rattle.pool_run.proofs.Opened.{idle_is, IsStep, drops_opened, module_opened, plain_opened}
 use Rattle.pool_run.proofs.StageSteps.{is_none, none_idle, is_key}
 use Rattle.pool_run.proofs.Stepped.{IsStepped, stepped}
 use Rattle.pool_alloc.specs.Stages.{stage_of}
@@ -44,27 +46,27 @@ busy_count : (b idle : Bool) → idle ≡ b → one_if (not idle) ≡ one_if (no
 busy_count b idle is = ap (λ (v : Bool). one_if (not v)) is
 
 module _ {P : Type 0} where
-  key_some : (o : Option (Outcome P)) → is_key o ≡ true → is_some o ≡ true
+  key_some : (o : Option (Outcome P PlainHeap)) → is_key o ≡ true → is_some o ≡ true
   key_some None key = absurd cc
   key_some (Some x) key = refl
 
   -- a frame that isn't about to draw a stripe
-  abbrev pub IsReady : Frame P → Type 0
+  abbrev pub IsReady : Frame P PlainHeap → Type 0
   IsReady f = is_drawing (stage_of f) ≡ false
 
   -- A turn leaves no stripe to be drawn, and so many more calls began. A call under way has fewer steps left, and one
   -- that begins has fewer than its bound.
-  pub record HasAdvanced (more bound : ℕ) (c : PoolCore P) (p : RunningParty P) (t : Turned P) : Type 0 where
+  pub record HasAdvanced (more bound : ℕ) (c : PoolCore P PlainHeap) (p : RunningParty P) (t : Turned P) : Type 0 where
     pub ready : IsReady t.party.frame
     pub fewer : is_idle p.frame.phase ≡ false → steps_left t.core t.party.frame + 1 ≤ steps_left c p.frame
     pub bounded : is_idle p.frame.phase ≡ true → steps_left t.core t.party.frame + 1 ≤ bound
     pub begun : begun_by t.party ≡ begun_by p + more
 
-  looser : (more bound most : ℕ) (c : PoolCore P) (p : RunningParty P) (t : Turned P) → bound ≤ most → HasAdvanced more bound c p t → HasAdvanced more most c p t
+  looser : (more bound most : ℕ) (c : PoolCore P PlainHeap) (p : RunningParty P) (t : Turned P) → bound ≤ most → HasAdvanced more bound c p t → HasAdvanced more most c p t
   looser more bound most c p t less on = record { ready = on.ready; fewer = on.fewer; bounded = λ idle. omega (arith, on.bounded idle, less); begun = on.begun }
 
   -- An answer leaves the pool and the frame as the step did,
-  answered_ready : (o : Option (Outcome P)) (c : PoolCore P) (p : RunningParty P) → IsReady p.frame → IsReady (answered o c p).party.frame
+  answered_ready : (o : Option (Outcome P PlainHeap)) (c : PoolCore P PlainHeap) (p : RunningParty P) → IsReady p.frame → IsReady (answered o c p).party.frame
   answered_ready None c p ready = ready
   answered_ready (Some answer.Key) c p ready = ready
   answered_ready (Some (answer.Granted grant)) c p ready = ready
@@ -73,7 +75,7 @@ module _ {P : Type 0} where
   answered_ready (Some (answer.Released n)) c p ready = ready
   answered_ready (Some (answer.Refused e)) c p ready = ready
 
-  answered_left : (o : Option (Outcome P)) (c : PoolCore P) (p : RunningParty P) → steps_left (answered o c p).core (answered o c p).party.frame ≡ steps_left c p.frame
+  answered_left : (o : Option (Outcome P PlainHeap)) (c : PoolCore P PlainHeap) (p : RunningParty P) → steps_left (answered o c p).core (answered o c p).party.frame ≡ steps_left c p.frame
   answered_left None c p = refl
   answered_left (Some answer.Key) c p = refl
   answered_left (Some (answer.Granted grant)) c p = refl
@@ -83,7 +85,7 @@ module _ {P : Type 0} where
   answered_left (Some (answer.Refused e)) c p = refl
 
   -- and the call that ended with it, if one did, counts on as its command.
-  answered_begun : (d : PoolCore P) (p : RunningParty P) (f : Frame P) (o : Option (Outcome P)) → is_idle p.frame.phase ≡ false → is_some o ≡ is_idle f.phase → is_key o ≡ false → begun_by (answered o d (record p { frame = f })).party ≡ begun_by p
+  answered_begun : (d : PoolCore P PlainHeap) (p : RunningParty P) (f : Frame P PlainHeap) (o : Option (Outcome P PlainHeap)) → is_idle p.frame.phase ≡ false → is_some o ≡ is_idle f.phase → is_key o ≡ false → begun_by (answered o d (record p { frame = f })).party ≡ begun_by p
   answered_begun d p f None busy ends keyless = omega (arith, busy_count false (is_idle p.frame.phase) busy, busy_count false (is_idle f.phase) (sym ends))
   answered_begun d p f (Some answer.Key) busy ends keyless = absurd cc
   answered_begun d p f (Some (answer.Granted grant)) busy ends keyless = omega (arith, busy_count false (is_idle p.frame.phase) busy, busy_count true (is_idle f.phase) (sym ends))
@@ -93,31 +95,32 @@ module _ {P : Type 0} where
   answered_begun d p f (Some (answer.Refused e)) busy ends keyless = omega (arith, busy_count false (is_idle p.frame.phase) busy, busy_count true (is_idle f.phase) (sym ends))
 
   -- it ends exactly where the step answers
-  ends_where : (b none : Bool) (o : Option (Outcome P)) → is_some o ≡ (not b && none) → b ≡ false → is_some o ≡ none
+  ends_where : (b none : Bool) (o : Option (Outcome P PlainHeap)) → is_some o ≡ (not b && none) → b ≡ false → is_some o ≡ none
   ends_where true none o is busy = absurd cc
   ends_where false none o is busy = is
 
-  is_none_of : (f : Frame P) → is_none (stage_of f) ≡ is_idle f.phase
+  is_none_of : (f : Frame P PlainHeap) → is_none (stage_of f) ≡ is_idle f.phase
   is_none_of f = none_idle f.phase f.asked f.ending (objects_in f.objects)
 
   -- A step of the call under way.
-  step_advanced : (maker : MakerTold) (bound : ℕ) (c : PoolCore P) (p : RunningParty P) (t : Turned P) → CanTurn maker c p → IsReady p.frame → is_idle p.frame.phase ≡ false → Steps c p t → HasAdvanced 0 bound c p t
+  step_advanced : (maker : MakerTold) (bound : ℕ) (c : PoolCore P PlainHeap) (p : RunningParty P) (t : Turned P) → CanTurn maker c p → IsReady p.frame → is_idle p.frame.phase ≡ false → Steps c p t → HasAdvanced 0 bound c p t
   step_advanced maker bound c p t can ready busy steps =
-      let a : After P = steps.0 in
+      let a : After P PlainHeap = steps.0 in
       let on : IsStepped maker steps.1.0 steps.1.1 c p.frame a = stepped maker steps.1.0 steps.1.1 c p.frame a (can_step maker c p can) steps.1.3 in
       let left : steps_left a.core a.frame + 1 ≤ steps_left c p.frame = on.fewer busy in
-      let q : RunningParty P = record p { frame = a.frame } in
+      let r : RunningParty P = record p { heaps = t.party.heaps } in
+      let q : RunningParty P = record r { frame = a.frame } in
       let ends : is_some a.outcome ≡ is_idle a.frame.phase = ends_where (is_none (stage_of p.frame)) (is_none (stage_of a.frame)) a.outcome on.staged.answer (is_none_of p.frame ∙ busy) ∙ is_none_of a.frame in
       subst (HasAdvanced 0 bound c p) (sym steps.2)
       (record {
         ready = answered_ready a.outcome a.core q on.staged.drawn;
         fewer = λ on. omega (arith, answered_left a.outcome a.core q, left);
         bounded = λ idle. absurd cc;
-        begun = omega (arith, answered_begun a.core p a.frame a.outcome busy ends (on.staged.key ∙ ready));
+        begun = omega (arith, answered_begun a.core r a.frame a.outcome busy ends (on.staged.key ∙ ready));
       })
 
 -- a party that is idle, and may turn
-module _ {P : Type 0} (maker : MakerTold) (c : PoolCore P) (p : RunningParty P) (can : CanTurn maker c p) (ready : IsReady p.frame) (is : is_idle p.frame.phase ≡ true) where
+module _ {P : Type 0} (maker : MakerTold) (c : PoolCore P PlainHeap) (p : RunningParty P) (can : CanTurn maker c p) (ready : IsReady p.frame) (is : is_idle p.frame.phase ≡ true) where
   idle : IsIdle p.frame
   idle = idle_is p.frame.phase is
 
@@ -132,11 +135,11 @@ module _ {P : Type 0} (maker : MakerTold) (c : PoolCore P) (p : RunningParty P) 
   none_left = omega (arith, idle_left c p.frame idle)
 
   -- a command that ends at once
-  replies_on : (live : List (Option (Grant P))) (store : ListedStore) (reply : Reply) (t : Turned P) → Leaves (replies reply live store) c p t → HasAdvanced 1 1 c p t
+  replies_on : (live : List (Option (Grant P PlainHeap))) (store : ListedStore) (reply : Reply) (t : Turned P) → Leaves (replies reply live store) c p t → HasAdvanced 1 1 c p t
   replies_on live store reply t leaves = subst (HasAdvanced 1 1 c p) (sym leaves) (record { ready = ready; fewer = λ busy. never busy; bounded = λ idles. omega (arith, idle_left c (one_step p.frame) idle); begun = omega arith })
 
   -- a call that begins, and makes its first step
-  begins_step : (bound : ℕ) (frame : Frame P) (live : List (Option (Grant P))) (t : Turned P) → IsStep maker c p frame live → IsReady frame → steps_left c frame ≤ bound → Leaves (makes_step frame live) c p t → HasAdvanced 1 bound c p t
+  begins_step : (bound : ℕ) (frame : Frame P PlainHeap) (live : List (Option (Grant P PlainHeap))) (t : Turned P) → IsStep maker c p frame live → IsReady frame → steps_left c frame ≤ bound → Leaves (makes_step frame live) c p t → HasAdvanced 1 bound c p t
   begins_step bound frame live t step begun most leaves =
       let q : RunningParty P = record p { frame = frame; live = live } in
       let on : HasAdvanced 0 bound c q t = step_advanced maker bound c q t step.can begun step.busy leaves in
@@ -144,7 +147,7 @@ module _ {P : Type 0} (maker : MakerTold) (c : PoolCore P) (p : RunningParty P) 
       record { ready = on.ready; fewer = λ busy. never busy; bounded = λ idles. omega (arith, on.fewer step.busy, most); begun = omega (arith, on.begun, one, not_busy) }
 
   -- a give-back
-  drops_on : (of : ℕ) (x : Option (Grant P)) (t : Turned P) → slice_index_or p.live of None ≡ x → Leaves (drop_opening x of p) c p t → HasAdvanced 1 (bound_returned c x) c p t
+  drops_on : (of : ℕ) (x : Option (Grant P PlainHeap)) (t : Turned P) → slice_index_or p.live of None ≡ x → Leaves (drop_opening x of p) c p t → HasAdvanced 1 (bound_returned c x) c p t
   drops_on of None t has leaves = replies_on p.live p.store (Refused NoSuchGrant) t leaves
   drops_on of (Some grant) t has leaves =
       begins_step (bound_of c (call.GiveBack grant)) (begun_call (call.GiveBack grant) p.frame) (slice_set p.live of None) t (drops_opened maker c p can idle of (Some grant) has)
@@ -169,17 +172,20 @@ module _ {P : Type 0} (maker : MakerTold) (c : PoolCore P) (p : RunningParty P) 
   purges_on None o t opens leaves = absurd opens
   purges_on (Some kept) o t opens leaves =
       let L : Opening P → Type 0 = λ x. Leaves x c p t in
-      begins_step (bound_of c (call.Purge kept.id)) (begun_call (call.Purge kept.id) p.frame) p.live t (plain_opened maker c p can idle (call.Purge kept.id) tt) refl (begun_bounded c (call.Purge kept.id) p.frame (at_rest maker c.settings c.plan p.frame can.party.sound.frame idle) can.core.plan.stripes) (subst L opens leaves)
+      begins_step (bound_of c (call.Purge kept.id)) (begun_call (call.Purge kept.id) p.frame) p.live t (plain_opened maker c p can idle (call.Purge kept.id) tt (λ is. absurd cc)) refl (begun_bounded c (call.Purge kept.id) p.frame (at_rest maker c.settings c.plan p.frame can.party.sound.frame idle) can.core.plan.stripes) (subst L opens leaves)
 
   -- a request for whatever it is
   wanted_on : (w : World) (modules : List ModuleAsked) (wanted : Wanted) (o : Opening P) (t : Turned P) → AreCallsFor w.terms c.settings modules → OpensWanted modules wanted p o → Leaves o c p t → p.done < length p.live → HasAdvanced 1 (bound_begun modules (requests wanted) c p) c p t
   wanted_on w modules (an_instance number) o t calls opens leaves room = requests_on w number (slice_get modules number) o t (calls number) opens leaves room
   wanted_on w modules (a_component info) o t calls opens leaves room =
       let L : Opening P → Type 0 = λ x. Leaves x c p t in
-      begins_step (bound_of c (call.Component info)) (begun_call (call.Component info) p.frame) p.live t (component_opened maker c p can idle info room) refl (begun_bounded c (call.Component info) p.frame (at_rest maker c.settings c.plan p.frame can.party.sound.frame idle) can.core.plan.stripes) (subst L opens leaves)
+      begins_step (bound_of c (call.Component info)) (begun_call (call.Component info) p.frame) p.live t (plain_opened maker c p can idle (call.Component info) tt (λ is. room)) refl (begun_bounded c (call.Component info) p.frame (at_rest maker c.settings c.plan p.frame can.party.sound.frame idle) can.core.plan.stripes) (subst L opens leaves)
   wanted_on w modules a_stack o t calls opens leaves room =
       let L : Opening P → Type 0 = λ x. Leaves x c p t in
-      begins_step (bound_of c call.Stack) (begun_call call.Stack p.frame) p.live t (stack_asked_opened maker c p can idle room) refl (begun_bounded c call.Stack p.frame (at_rest maker c.settings c.plan p.frame can.party.sound.frame idle) can.core.plan.stripes) (subst L opens leaves)
+      begins_step (bound_of c call.Stack) (begun_call call.Stack p.frame) p.live t (plain_opened maker c p can idle call.Stack tt (λ is. room)) refl (begun_bounded c call.Stack p.frame (at_rest maker c.settings c.plan p.frame can.party.sound.frame idle) can.core.plan.stripes) (subst L opens leaves)
+  wanted_on w modules (a_heap limits) o t calls opens leaves room =
+      let L : Opening P → Type 0 = λ x. Leaves x c p t in
+      begins_step (bound_of c (call.Heap (heap_type limits))) (begun_call (call.Heap (heap_type limits)) p.frame) p.live t (plain_opened maker c p can idle (call.Heap (heap_type limits)) (omega arith) (λ is. room)) refl (begun_bounded c (call.Heap (heap_type limits)) p.frame (at_rest maker c.settings c.plan p.frame can.party.sound.frame idle) can.core.plan.stripes) (subst L opens leaves)
 
   act_on : (w : World) (modules : List ModuleAsked) (act : Act) (o : Opening P) (t : Turned P) → AreCallsFor w.terms c.settings modules → OpensAct modules act p o → Leaves o c p t → p.done < length p.live → HasAdvanced 1 (bound_begun modules act c p) c p t
   act_on w modules (requests wanted) o t calls opens leaves room = wanted_on w modules wanted o t calls opens leaves room
@@ -195,25 +201,25 @@ module _ {P : Type 0} (maker : MakerTold) (c : PoolCore P) (p : RunningParty P) 
   act_on w modules (purges number) o t calls opens leaves room = purges_on (slice_get modules number) o t opens leaves
   act_on w modules releases o t calls opens leaves room =
       let L : Opening P → Type 0 = λ x. Leaves x c p t in
-      begins_step (bound_of c call.Release) (begun_call call.Release p.frame) p.live t (plain_opened maker c p can idle call.Release tt) refl (begun_bounded c call.Release p.frame (at_rest maker c.settings c.plan p.frame can.party.sound.frame idle) can.core.plan.stripes) (subst L opens leaves)
+      begins_step (bound_of c call.Release) (begun_call call.Release p.frame) p.live t (plain_opened maker c p can idle call.Release tt (λ is. absurd cc)) refl (begun_bounded c call.Release p.frame (at_rest maker c.settings c.plan p.frame can.party.sound.frame idle) can.core.plan.stripes) (subst L opens leaves)
 
   -- The stripe is drawn in one turn.
-  drawn_by : (o : Option (Outcome P)) (d : PoolCore P) (f : Frame P) → p.keyed ≡ false → is_key o ≡ true → is_idle f.phase ≡ true → IsReady f → HasAdvanced 1 1 c p (answered o d (record p { frame = f }))
-  drawn_by (Some answer.Key) d f keyed key idles drawn =
+  drawn_by : (o : Option (Outcome P PlainHeap)) (d : PoolCore P PlainHeap) (f : Frame P PlainHeap) (heaps : ListedHeaps) → p.keyed ≡ false → is_key o ≡ true → is_idle f.phase ≡ true → IsReady f → HasAdvanced 1 1 c p (answered o d (record p { frame = f; heaps = heaps }))
+  drawn_by (Some answer.Key) d f heaps keyed key idles drawn =
       let none : one_if p.keyed ≡ 0 = ap one_if keyed in
       let over : one_if (not (is_idle f.phase)) ≡ 0 = ap (λ (v : Bool). one_if (not v)) idles in
       let left : steps_left d f ≡ 0 = idle_left d f (idle_is f.phase idles) in
       record { ready = drawn; fewer = λ busy. never busy; bounded = λ i. omega (arith, left); begun = omega (arith, none, over, not_busy) }
-  drawn_by _ d f keyed key idles drawn = absurd cc
+  drawn_by _ d f heaps keyed key idles drawn = absurd cc
 
   drawn_on : (t : Turned P) → p.keyed ≡ false → Steps c (record p { frame = begun_call call.Key p.frame }) t → HasAdvanced 1 1 c p t
   drawn_on t keyed steps =
       let q : RunningParty P = record p { frame = begun_call call.Key p.frame } in
-      let a : After P = steps.0 in
-      let on : IsStepped maker steps.1.0 steps.1.1 c q.frame a = stepped maker steps.1.0 steps.1.1 c q.frame a (can_step maker c q (called_plain maker call.Key c p tt can idle)) steps.1.3 in
+      let a : After P PlainHeap = steps.0 in
+      let on : IsStepped maker steps.1.0 steps.1.1 c q.frame a = stepped maker steps.1.0 steps.1.1 c q.frame a (can_step maker c q (called_plain maker call.Key c p tt can idle (λ is. absurd cc))) steps.1.3 in
       let some : is_some a.outcome ≡ true = key_some a.outcome on.staged.key in
       let idles : is_idle a.frame.phase ≡ true = sym (is_none_of a.frame) ∙ ap is_none (on.staged.settled some) in
-      subst (HasAdvanced 1 1 c p) (sym steps.2) (drawn_by a.outcome a.core a.frame keyed on.staged.key idles on.staged.drawn)
+      subst (HasAdvanced 1 1 c p) (sym steps.2) (drawn_by a.outcome a.core a.frame t.party.heaps keyed on.staged.key idles on.staged.drawn)
 
   -- where there is no command left one turn is the bound
   none_bound : (keyed : Bool) (modules : List ModuleAsked) → bound_keyed keyed modules None c p ≡ 1
@@ -246,7 +252,7 @@ module _ {P : Type 0} (maker : MakerTold) (c : PoolCore P) (p : RunningParty P) 
   next_on w modules commands (Some command) true o t calls next drawn room opens leaves = act_on w modules (act_of command) o t calls opens leaves (omega (arith, room, slice_get_within commands p.done command next))
 
 module _ {P : Type 0} where
-  advanced_at : (w : World) (modules : List ModuleAsked) (commands : List Command) (c : PoolCore P) (p : RunningParty P) (o : Opening P) (t : Turned P) (b : Bool) → is_idle p.frame.phase ≡ b → AreCallsFor w.terms c.settings modules → CanTurn w.maker c p → IsReady p.frame → length commands ≤ length p.live → OpensAt b modules commands p o → Leaves o c p t → HasAdvanced (one_if (begins_by (length commands) p)) (bound_by modules commands c p) c p t
+  advanced_at : (w : World) (modules : List ModuleAsked) (commands : List Command) (c : PoolCore P PlainHeap) (p : RunningParty P) (o : Opening P) (t : Turned P) (b : Bool) → is_idle p.frame.phase ≡ b → AreCallsFor w.terms c.settings modules → CanTurn w.maker c p → IsReady p.frame → length commands ≤ length p.live → OpensAt b modules commands p o → Leaves o c p t → HasAdvanced (one_if (begins_by (length commands) p)) (bound_by modules commands c p) c p t
   advanced_at w modules commands c p o t true idle calls can ready room opens leaves =
       let A : ℕ → Type 0 = λ n. HasAdvanced n (bound_by modules commands c p) c p t in
       subst A (sym (counts_next w.maker c p can ready idle commands (slice_get commands p.done) refl)) (next_on w.maker c p can ready idle w modules commands (slice_get commands p.done) p.keyed o t calls refl refl room opens leaves)
@@ -257,5 +263,5 @@ module _ {P : Type 0} where
       subst A (sym none) (step_advanced w.maker (bound_by modules commands c p) c p t can ready busy (subst L opens leaves))
 
   -- How far each turn of a party takes it.
-  pub has_advanced : (w : World) (modules : List ModuleAsked) (commands : List Command) (c : PoolCore P) (p : RunningParty P) (t : Turned P) → AreCallsFor w.terms c.settings modules → CanTurn w.maker c p → IsReady p.frame → length commands ≤ length p.live → Turns modules commands c p t → HasAdvanced (one_if (begins_by (length commands) p)) (bound_by modules commands c p) c p t
+  pub has_advanced : (w : World) (modules : List ModuleAsked) (commands : List Command) (c : PoolCore P PlainHeap) (p : RunningParty P) (t : Turned P) → AreCallsFor w.terms c.settings modules → CanTurn w.maker c p → IsReady p.frame → length commands ≤ length p.live → Turns modules commands c p t → HasAdvanced (one_if (begins_by (length commands) p)) (bound_by modules commands c p) c p t
   has_advanced w modules commands c p t calls can ready room turns = advanced_at w modules commands c p turns.0 t (is_idle p.frame.phase) refl calls can ready room turns.1 turns.2

@@ -1,9 +1,10 @@
 -- The first step of a command, and each turn, as the party sees it.
-use Rattle.std.proofs.Common.{◌≡◌, ℕ, ◌+◌, ◌<◌, ◌≤◌, Bool, true, false, List, length, map, Option, Some, None, refl, sym, ap, ◌∙◌, subst, inl, inr, arith}
+use Rattle.std.proofs.Common.{◌≡◌, ℕ, ◌+◌, ◌<◌, ◌≤◌, Bool, true, false, List, [], length, map, Option, Some, None, refl, sym, ap, ◌∙◌, subst, inl, inr, arith}
 use Rattle.std.specs.Prelude.{IfSome, IsSome, option_map, slice_get, slice_set, slice_index_or}
 use Rattle.std.proofs.lemmas.List.{map-set}
 use Rattle.std.proofs.lemmas.Option.{slice_get_within}
 use Rattle.pool_slots.specs.declared.errors.AllocError.TheVariants as alloc
+use Rattle.pool_slots.specs.declared.listed_heaps.PlainHeap.{PlainHeap}
 use Rattle.pool_alloc.specs.Objects.{objects_in}
 use Rattle.pool_alloc.specs.Calls.{IsIdle, begun_call}
 use Rattle.pool_alloc.specs.Stepping.{is_idle}
@@ -16,13 +17,13 @@ use Rattle.pool_alloc.specs.declared.frame.Phase.{Phase}
 use Rattle.pool_alloc.specs.Stages.{Stage, no_call, stage_at, stage_of}
 use Rattle.pool_run.specs.PartyRules.{rule_of}
 use Rattle.pool_run.specs.Private.{private_stacks, PrivateMemory, PrivateState, PrivateGrant, instance_grant, Grants, grant_at, request_of, MovesBytes, Moves, Drops, private_memories, private_tables, with_table}
-use Rattle.pool_run.specs.PrivateTables.{Host, PrivateTable, TableMoves}
+use Rattle.pool_run.specs.PrivateTables.{Host, PrivateTable, StoredTable, TableMoves}
 use Rattle.pool_alloc.specs.TableLeases.{LeasedTable}
-use Rattle.pool_alloc.specs.declared.frame.Grant.TheVariants.{Instance as instance, Component as component, Stack as stack}
+use Rattle.pool_alloc.specs.declared.frame.Grant.TheVariants.{Instance as instance, Component as component, Stack as stack, Heap as heap}
 use Rattle.pool_table.specs.declared.gc_store.ListedStore.{ListedStore}
 use Rattle.pool_run.specs.Rooms.{World, TellsOfPool, TellsMove}
-use Rattle.pool_run.specs.Turns.{Turned, one_step, with_reply, private_memory, private_table, LeaseMoves, MovesTable, private_grant, grants_of, host_of_party, Turns, memory_leases, table_leases, Opening, replies, makes_step, drop_opening, OpensRequest, OpensPurge, OpensAct, OpensNext, OpensAt, Leaves, private_stack, StackLeaseMoves, MovesLeasedBytes, stack_leases, OpensWanted}
-use Rattle.pool_run.specs.Ties.{TiedAs, IsPrivate, CanTurn, IsAlone}
+use Rattle.pool_run.specs.Turns.{Turned, stored_as, one_step, with_reply, private_memory, private_table, LeaseMoves, MovesTable, private_grant, grants_of, host_of_party, Turns, memory_leases, table_leases, Opening, replies, makes_step, drop_opening, OpensRequest, OpensPurge, OpensAct, OpensNext, OpensAt, Leaves, private_stack, StackLeaseMoves, MovesLeasedBytes, stack_leases, OpensWanted}
+use Rattle.pool_run.specs.Ties.{seen_by_party, TiedAs, IsPrivate, CanTurn, IsAlone}
 use Rattle.pool_run.proofs.Parties.{returned_stage}
 use Rattle.pool_run.specs.Worlds.{IsWorldOf, IsCallFor, AreCallsFor}
 use Rattle.pool_run.specs.declared.command.Command.{Command}
@@ -33,9 +34,9 @@ use Rattle.pool_run.specs.declared.running_party.RunningParty.{RunningParty}
 use Rattle.pool_run.proofs.Grants.{state_of, grants_set, told_at}
 use Rattle.pool_run.proofs.Causes.{memory_cause}
 use Rattle.pool_run.proofs.Turning.{SeesTurn, replied, step_private}
-use Rattle.pool_run.specs.Acts.{MemoryOp, TableOp, Act, requests, on_memory, on_table, drops, purges, releases, act_of, act_at, Wanted, an_instance, a_component, a_stack}
+use Rattle.pool_run.specs.Acts.{MemoryOp, TableOp, gets, sets, lengthens, asks_length, Act, requests, on_memory, on_table, drops, purges, releases, act_of, act_at, Wanted, an_instance, a_component, a_stack, a_heap, heap_type}
 use Rattle.pool_run.specs.Objects.{object_at, with_object, MovesNamed, MovesObject}
-use Rattle.pool_run.proofs.Opened.{idle_is, IsStep, still_alone, drops_opened, module_opened, plain_opened, step_opened, component_opened, stack_asked_opened}
+use Rattle.pool_run.proofs.Opened.{idle_is, IsStep, still_alone, drops_opened, module_opened, plain_opened, step_opened}
 use Rattle.pool_run.proofs.SlotKinds.{tables_seen_of, stacks_seen_of}
 use Rattle.pool_run.proofs.StackMoves.{stack_op_seen}
 use Rattle.pool_run.specs.PrivateStacks.{StackMoves}
@@ -54,66 +55,82 @@ abbrev SeesTable : TableOp → Host → ℕ → ℕ → PrivateTable → Private
 SeesTable op host before after t new reply = TableMoves op host (record { table = t; calls = before }) (record { table = new; calls = after }) reply
 
 -- So it moves what is told of the party's tables beside the calls on its store.
-stored_moves : (op : TableOp) (host : Host) (before after of k : ℕ) (grants new : Grants) (reply : Reply) (o : Option PrivateTable) → MovesNamed (SeesTable op host before after) o (with_object private_tables of k) grants reply new → (o ≡ None → after ≡ before)
-    → MovesNamed (TableMoves op host) (option_map (λ t. record { table = t; calls = before }) o) (with_table of k) (state_of grants before) reply (state_of new after)
-stored_moves op host before after of k grants new reply None is none = (is.0, ap (λ (g : Grants). state_of g after) is.1 ∙ ap (state_of grants) (none refl))
-stored_moves op host before after of k grants new reply (Some t) is none = (record { table = is.0; calls = after }, is.1, ap (λ (g : Grants). state_of g after) is.2)
+stored_moves : (op : TableOp) (host : Host) (heaps before after of k : ℕ) (grants new : Grants) (reply : Reply) (o : Option PrivateTable) → MovesNamed (SeesTable op host before after) o (with_object private_tables of k) grants reply new → (o ≡ None → after ≡ before)
+    → MovesNamed (TableMoves op host) (option_map (λ t. record { table = t; calls = before }) o) (with_table of k) (state_of grants before heaps) reply (state_of new after heaps)
+stored_moves op host heaps before after of k grants new reply None is none = (is.0, ap (λ (g : Grants). state_of g after heaps) is.1 ∙ ap (λ (n : ℕ). state_of grants n heaps) (none refl))
+stored_moves op host heaps before after of k grants new reply (Some t) is none = (record { table = is.0; calls = after }, is.1, ap (λ (g : Grants). state_of g after heaps) is.2)
+
+-- It calls no maker of heaps.
+any_maker : (op : TableOp) (host : Host) (unmade : List ℕ) (t new : StoredTable) (reply : Reply) → TableMoves op (record host { unmade = unmade }) t new reply → TableMoves op host t new reply
+any_maker (gets at) host unmade t new reply moves = moves
+any_maker (sets at count value) host unmade t new reply moves = moves
+any_maker (lengthens by) host unmade t new reply moves = moves
+any_maker asks_length host unmade t new reply moves = moves
 
 -- The party sees its tables by their leases.
-changed_table : {P : Type 0} (k : ℕ) (l : LeasedTable) (g : Grant P) → private_grant (table_leases.put_in k l g) ≡ private_tables.put_in k (private_table l) (private_grant g)
+changed_table : {P : Type 0} (k : ℕ) (l : LeasedTable) (g : Grant P PlainHeap) → private_grant (table_leases.put_in k l g) ≡ private_tables.put_in k (private_table l) (private_grant g)
 changed_table k l (instance lease) = ap (λ (ts : List PrivateTable). instance_grant (record { memories = map private_memory lease.memories.items; tables = ts })) (map-set private_table lease.tables.items k l)
 changed_table k l component = refl
 changed_table k l (stack lease) = refl
+changed_table k l (heap lease memory) = refl
 
 tables_seen_by : (P : Type 0) → AreSeen (table_leases {P = P}) private_tables private_grant private_table
 tables_seen_by P = record { same = tables_seen_of; changed = changed_table }
 
 -- The party sees its stacks by their leases.
-changed_stack : {P : Type 0} (k : ℕ) (l : LeasedStack) (g : Grant P) → private_grant (stack_leases.put_in k l g) ≡ private_stacks.put_in k (private_stack l) (private_grant g)
+changed_stack : {P : Type 0} (k : ℕ) (l : LeasedStack) (g : Grant P PlainHeap) → private_grant (stack_leases.put_in k l g) ≡ private_stacks.put_in k (private_stack l) (private_grant g)
 changed_stack k l (instance lease) = refl
 changed_stack k l component = refl
 changed_stack k l (stack lease) = refl
+changed_stack k l (heap lease memory) = refl
 
 stacks_seen : (P : Type 0) → AreSeen (stack_leases {P = P}) private_stacks private_grant private_stack
 stacks_seen P = record { same = stacks_seen_of; changed = changed_stack }
 
 -- a party of this world: what it was told, and that it may turn
-module _ {P : Type 0} (w : World) (start : Grants) (commands : List Command) (before : List Reply) (c : PoolCore P) (p : RunningParty P) (private : IsPrivate w start commands before p) (world : IsWorldOf w c) (can : CanTurn w.maker c p) (alone : w.alone ≡ true → IsAlone c p.frame p.live) (ruled : host_of_party p ≡ w.terms.host) (striped : p.frame.stripe ≡ w.terms.stripe) where
+module _ {P : Type 0} (w : World) (start : Grants) (commands : List Command) (before : List Reply) (c : PoolCore P PlainHeap) (p : RunningParty P) (private : IsPrivate w start commands before p) (world : IsWorldOf w c) (can : CanTurn w.maker c p) (alone : w.alone ≡ true → IsAlone c p.frame p.live) (ruled : host_of_party p ≡ w.terms.host) (striped : p.frame.stripe ≡ w.terms.stripe) where
   -- a call makes its next step
-  steps_seen : (frame : Frame P) (live : List (Option (Grant P))) (t : Turned P) → IsStep w.maker c p frame live → TiedAs w (stage_of frame) commands p.done frame.asked (grants_of live) private.grants → Leaves (makes_step frame live) c p t → SeesTurn w start commands before t
+  steps_seen : (frame : Frame P PlainHeap) (live : List (Option (Grant P PlainHeap))) (t : Turned P) → IsStep w.maker c p frame live → TiedAs w (stage_of frame) commands p.done frame.asked (seen_by_party (record p { frame = frame; live = live })) private.told → Leaves (makes_step frame live) c p t → SeesTurn w start commands before t
   steps_seen frame live t step tied follows =
-      step_private w start commands before c (record p { frame = frame; live = live }) t (record { grants = private.grants; run = private.run; count = private.count; tied = tied })
-      world step.can (λ e. still_alone w.maker c p frame live step (alone e)) (ap (λ (h : Host). h.rule) ruled) (step.stripe ∙ striped) follows
+      step_private w start commands before c (record p { frame = frame; live = live }) t (record { told = private.told; run = private.run; count = private.count; tied = tied })
+      world step.can (λ e. still_alone w.maker c p frame live step (alone e)) ruled (step.stripe ∙ striped) follows
 
   module _ (idle : IsIdle p.frame) where
     none : stage_of p.frame ≡ no_call
-    none = ap (λ (phase : Phase P). stage_at phase p.frame.asked p.frame.ending (objects_in p.frame.objects)) idle
+    none = ap (λ (phase : Phase P PlainHeap). stage_at phase p.frame.asked p.frame.ending (objects_in p.frame.objects)) idle
 
-    told_now : grants_of p.live ≡ private.grants
-    told_now =
-        let Tied : Stage → Type 0 = λ s. TiedAs w s commands p.done p.frame.asked (grants_of p.live) private.grants in
+    whole : seen_by_party p ≡ private.told
+    whole =
+        let Tied : Stage → Type 0 = λ s. TiedAs w s commands p.done p.frame.asked (seen_by_party p) private.told in
         subst Tied none private.tied
+
+    told_now : grants_of p.live ≡ private.told.grants
+    told_now = ap (λ (s : PrivateState). s.grants) whole
 
     -- what the party may see before
     abbrev told : PrivateState
-    told = state_of private.grants p.store.made
+    told = state_of private.told.grants p.store.made p.heaps.made
+
+    same_told : told ≡ private.told
+    same_told = ap (λ (s : PrivateState). record s { grants = private.told.grants }) whole
 
     -- a command ends at once
-    ends_seen : (act : Act) (live : List (Option (Grant P))) (store : ListedStore) (reply : Reply) (t : Turned P) → act_at commands p.done ≡ Some act → Moves w.terms p.done told act reply (state_of (grants_of live) store.made) → TellsOfPool w private.grants act reply → Leaves (replies reply live store) c p t → SeesTurn w start commands before t
+    ends_seen : (act : Act) (live : List (Option (Grant P PlainHeap))) (store : ListedStore) (reply : Reply) (t : Turned P) → act_at commands p.done ≡ Some act → Moves w.terms p.done told act reply (state_of (grants_of live) store.made p.heaps.made) → TellsOfPool w private.told.grants act reply → Leaves (replies reply live store) c p t → SeesTurn w start commands before t
     ends_seen act live store reply t next step pool follows =
-        subst (SeesTurn w start commands before) (sym follows) (replied w start commands before p (record p { frame = one_step p.frame; live = live; store = store; done = p.done + 1 }) act reply private refl none next step pool)
+        let From : PrivateState → Type 0 = λ s. Moves w.terms p.done s act reply (state_of (grants_of live) store.made p.heaps.made) in
+        subst (SeesTurn w start commands before) (sym follows) (replied w start commands before p (record p { frame = one_step p.frame; live = live; store = store; done = p.done + 1 }) act reply private refl none next (subst From same_told step) pool)
 
     -- a give-back
-    drops_seen : (of : ℕ) (x : Option (Grant P)) (t : Turned P) → slice_index_or p.live of None ≡ x → Leaves (drop_opening x of p) c p t → act_at commands p.done ≡ Some (drops of) → SeesTurn w start commands before t
+    drops_seen : (of : ℕ) (x : Option (Grant P PlainHeap)) (t : Turned P) → slice_index_or p.live of None ≡ x → Leaves (drop_opening x of p) c p t → act_at commands p.done ≡ Some (drops of) → SeesTurn w start commands before t
     drops_seen of None t has follows next =
-        let Back : Option PrivateGrant → Type 0 = λ o. Drops o private.grants of (Refused NoSuchGrant) (grants_of p.live) in
-        ends_seen (drops of) p.live p.store (Refused NoSuchGrant) t next (grants_of p.live, subst Back (sym (told_at p.live private.grants of None told_now has)) (refl, told_now), refl) tt follows
+        let Back : Option PrivateGrant → Type 0 = λ o. Drops o private.told.grants of (Refused NoSuchGrant) (grants_of p.live) in
+        ends_seen (drops of) p.live p.store (Refused NoSuchGrant) t next (grants_of p.live, subst Back (sym (told_at p.live private.told.grants of None told_now has)) (refl, told_now), refl) tt follows
     drops_seen of (Some grant) t has follows next =
-        let new : List (Option (Grant P)) = slice_set p.live of None in
-        let emptied : grants_of new ≡ slice_set private.grants of None = grants_set p.live of None ∙ ap (λ (g : Grants). slice_set g of None) told_now in
-        let Tied : Stage → Type 0 = λ s. TiedAs w s commands p.done (begun_call (call.GiveBack grant) p.frame).asked (grants_of new) private.grants in
-        let there : IsSome (grant_at private.grants of) = is_told private_grant (grant_at private.grants of) grant (told_at p.live private.grants of (Some grant) told_now has) in
-        steps_seen (begun_call (call.GiveBack grant) p.frame) new t (drops_opened w.maker c p can idle of (Some grant) has) (subst Tied (sym (returned_stage grant p.frame)) (record { of = of; act = next; there = there; ended = emptied })) follows
+        let new : List (Option (Grant P PlainHeap)) = slice_set p.live of None in
+        let emptied : grants_of new ≡ slice_set private.told.grants of None = grants_set p.live of None ∙ ap (λ (g : Grants). slice_set g of None) told_now in
+        let Tied : Stage → Type 0 = λ s. TiedAs w s commands p.done (begun_call (call.GiveBack grant) p.frame).asked (seen_by_party (record p { live = new })) private.told in
+        let there : IsSome (grant_at private.told.grants of) = is_told private_grant (grant_at private.told.grants of) grant (told_at p.live private.told.grants of (Some grant) told_now has) in
+        steps_seen (begun_call (call.GiveBack grant) p.frame) new t (drops_opened w.maker c p can idle of (Some grant) has) (subst Tied (sym (returned_stage grant p.frame)) (ap (λ (s : PrivateState). record s { grants = grants_of new }) whole, record { of = of; act = next; there = there; ended = emptied })) follows
 
     -- a request for an instance
     requests_seen : (number : ℕ) (kept : Option ModuleAsked) (o : Opening P) (t : Turned P) → IfSome kept (IsCallFor w.terms c.settings number) → OpensRequest kept p o → Leaves o c p t → act_at commands p.done ≡ Some (requests (an_instance number)) → p.done < length p.live → SeesTurn w start commands before t
@@ -121,13 +138,13 @@ module _ {P : Type 0} (w : World) (start : Grants) (commands : List Command) (be
     requests_seen number (Some kept) o t for opens follows next room =
         let F : Opening P → Type 0 = λ x. Leaves x c p t in
         elim opens [
-          | inl is ↦ ends_seen (requests (an_instance number)) p.live p.store (Refused (Alloc alloc.Memory)) t next (grants_of p.live, ((memory_cause w (request_of w.terms number) private.grants).0, told_now), refl) tt (subst F is follows)
+          | inl is ↦ ends_seen (requests (an_instance number)) p.live p.store (Refused (Alloc alloc.Memory)) t next (grants_of p.live, ((memory_cause w (request_of w.terms number) private.told.grants).0, told_now), refl) tt (subst F is follows)
           | inr is ↦
-              steps_seen (begun_call (call.Module kept) p.frame) p.live t (module_opened w.maker c p can idle kept for.fit room) (told_now, record { number = number; act = next; asked_for = for.asked; so_far = tt }) (subst F is follows)
+              steps_seen (begun_call (call.Module kept) p.frame) p.live t (module_opened w.maker c p can idle kept for.fit room) (whole, record { number = number; act = next; asked_for = for.asked; so_far = tt }) (subst F is follows)
         ]
 
     -- an operation on a memory, and on a stack
-    memory_moves : (op : MemoryOp) (of k : ℕ) (live : List (Option (Grant P))) (reply : Reply) → MovesObject memory_leases (LeaseMoves op (rule_of p.limits)) of k p.live reply live → MovesObject private_memories (SeesMove w op) of k private.grants reply (grants_of live)
+    memory_moves : (op : MemoryOp) (of k : ℕ) (live : List (Option (Grant P PlainHeap))) (reply : Reply) → MovesObject memory_leases (LeaseMoves op (rule_of p.limits)) of k p.live reply live → MovesObject private_memories (SeesMove w op) of k private.told.grants reply (grants_of live)
     memory_moves op of k live reply is =
         let seen : MovesObject private_memories (SeesMove w op) of k (grants_of p.live) reply (grants_of live) =
         on_seen memory_leases private_memories private_grant private_memory (memories_seen P) (LeaseMoves op (rule_of p.limits)) (SeesMove w op) of k p.live live reply
@@ -135,7 +152,7 @@ module _ {P : Type 0} (w : World) (start : Grants) (commands : List Command) (be
         let On : Grants → Type 0 = λ g. MovesObject private_memories (SeesMove w op) of k g reply (grants_of live) in
         subst On told_now seen
 
-    stack_moves : (op : MemoryOp) (of k : ℕ) (live : List (Option (Grant P))) (reply : Reply) → MovesObject stack_leases (StackLeaseMoves op) of k p.live reply live → MovesObject private_stacks (StackMoves op) of k private.grants reply (grants_of live)
+    stack_moves : (op : MemoryOp) (of k : ℕ) (live : List (Option (Grant P PlainHeap))) (reply : Reply) → MovesObject stack_leases (StackLeaseMoves op) of k p.live reply live → MovesObject private_stacks (StackMoves op) of k private.told.grants reply (grants_of live)
     stack_moves op of k live reply is =
         let seen : MovesObject private_stacks (StackMoves op) of k (grants_of p.live) reply (grants_of live) =
         on_seen stack_leases private_stacks private_grant private_stack (stacks_seen P) (StackLeaseMoves op) (StackMoves op) of k p.live live reply
@@ -144,66 +161,71 @@ module _ {P : Type 0} (w : World) (start : Grants) (commands : List Command) (be
         subst On told_now seen
 
     -- so it is of the grant that is named
-    abbrev Moved : MemoryOp → ℕ → ℕ → Reply → List (Option (Grant P)) → Option PrivateGrant → Type 0
-    Moved op of k reply live x = MovesBytes op w.terms.host.rule x of k private.grants reply (grants_of live)
+    abbrev Moved : MemoryOp → ℕ → ℕ → Reply → List (Option (Grant P PlainHeap)) → Option PrivateGrant → Type 0
+    Moved op of k reply live x = MovesBytes op w.terms.host.rule x of k private.told.grants reply (grants_of live)
 
-    bytes_move : (x : Option (Grant P)) (op : MemoryOp) (of k : ℕ) (live : List (Option (Grant P))) (reply : Reply) → MovesLeasedBytes op (rule_of p.limits) x of k p.live reply live → Moved op of k reply live (option_map private_grant x)
-    bytes_move None op of k live reply is = named_moves w op (object_at private_memories of k private.grants) (with_object private_memories of k) private.grants (grants_of live) reply (memory_moves op of k live reply is)
-    bytes_move (Some (instance lease)) op of k live reply is = named_moves w op (object_at private_memories of k private.grants) (with_object private_memories of k) private.grants (grants_of live) reply (memory_moves op of k live reply is)
-    bytes_move (Some component) op of k live reply is = named_moves w op (object_at private_memories of k private.grants) (with_object private_memories of k) private.grants (grants_of live) reply (memory_moves op of k live reply is)
+    bytes_move : (x : Option (Grant P PlainHeap)) (op : MemoryOp) (of k : ℕ) (live : List (Option (Grant P PlainHeap))) (reply : Reply) → MovesLeasedBytes op (rule_of p.limits) x of k p.live reply live → Moved op of k reply live (option_map private_grant x)
+    bytes_move None op of k live reply is = named_moves w op (object_at private_memories of k private.told.grants) (with_object private_memories of k) private.told.grants (grants_of live) reply (memory_moves op of k live reply is)
+    bytes_move (Some (instance lease)) op of k live reply is = named_moves w op (object_at private_memories of k private.told.grants) (with_object private_memories of k) private.told.grants (grants_of live) reply (memory_moves op of k live reply is)
+    bytes_move (Some component) op of k live reply is = named_moves w op (object_at private_memories of k private.told.grants) (with_object private_memories of k) private.told.grants (grants_of live) reply (memory_moves op of k live reply is)
+    bytes_move (Some (heap lease memory)) op of k live reply is = named_moves w op (object_at private_memories of k private.told.grants) (with_object private_memories of k) private.told.grants (grants_of live) reply (memory_moves op of k live reply is)
     bytes_move (Some (stack lease)) op of k live reply is = stack_moves op of k live reply is
 
     -- and no memory of a stack's grant tells of the pool
     abbrev Told : MemoryOp → Reply → Option PrivateMemory → Type 0
     Told op reply x = IfSome x (λ m. TellsMove w op m reply)
 
-    bytes_tell : (x : Option (Grant P)) (op : MemoryOp) (of k : ℕ) (live : List (Option (Grant P))) (reply : Reply) → grant_at private.grants of ≡ option_map private_grant x → MovesLeasedBytes op (rule_of p.limits) x of k p.live reply live → Told op reply (object_at private_memories of k private.grants)
-    bytes_tell None op of k live reply there is = named_tells w op (object_at private_memories of k private.grants) (with_object private_memories of k) private.grants (grants_of live) reply (memory_moves op of k live reply is)
-    bytes_tell (Some (instance lease)) op of k live reply there is = named_tells w op (object_at private_memories of k private.grants) (with_object private_memories of k) private.grants (grants_of live) reply (memory_moves op of k live reply is)
-    bytes_tell (Some component) op of k live reply there is = named_tells w op (object_at private_memories of k private.grants) (with_object private_memories of k) private.grants (grants_of live) reply (memory_moves op of k live reply is)
+    bytes_tell : (x : Option (Grant P PlainHeap)) (op : MemoryOp) (of k : ℕ) (live : List (Option (Grant P PlainHeap))) (reply : Reply) → grant_at private.told.grants of ≡ option_map private_grant x → MovesLeasedBytes op (rule_of p.limits) x of k p.live reply live → Told op reply (object_at private_memories of k private.told.grants)
+    bytes_tell None op of k live reply there is = named_tells w op (object_at private_memories of k private.told.grants) (with_object private_memories of k) private.told.grants (grants_of live) reply (memory_moves op of k live reply is)
+    bytes_tell (Some (instance lease)) op of k live reply there is = named_tells w op (object_at private_memories of k private.told.grants) (with_object private_memories of k) private.told.grants (grants_of live) reply (memory_moves op of k live reply is)
+    bytes_tell (Some component) op of k live reply there is = named_tells w op (object_at private_memories of k private.told.grants) (with_object private_memories of k) private.told.grants (grants_of live) reply (memory_moves op of k live reply is)
+    bytes_tell (Some (heap lease memory)) op of k live reply there is = named_tells w op (object_at private_memories of k private.told.grants) (with_object private_memories of k) private.told.grants (grants_of live) reply (memory_moves op of k live reply is)
     bytes_tell (Some (stack lease)) op of k live reply there is =
-        let none : object_at private_memories of k private.grants ≡ None = ap (λ (x : Option PrivateGrant). option_and_then (λ g. slice_get (private_memories.in_grant g) k) x) there in
+        let none : object_at private_memories of k private.told.grants ≡ None = ap (λ (x : Option PrivateGrant). option_and_then (λ g. slice_get (private_memories.in_grant g) k) x) there in
         subst (Told op reply) (sym none) tt
 
     -- a command on bytes
-    moves_seen : (op : MemoryOp) (of k : ℕ) (live : List (Option (Grant P))) (reply : Reply) (t : Turned P) → MovesLeasedBytes op (rule_of p.limits) (slice_index_or p.live of None) of k p.live reply live → act_at commands p.done ≡ Some (on_memory of k op) → Leaves (replies reply live p.store) c p t → SeesTurn w start commands before t
+    moves_seen : (op : MemoryOp) (of k : ℕ) (live : List (Option (Grant P PlainHeap))) (reply : Reply) (t : Turned P) → MovesLeasedBytes op (rule_of p.limits) (slice_index_or p.live of None) of k p.live reply live → act_at commands p.done ≡ Some (on_memory of k op) → Leaves (replies reply live p.store) c p t → SeesTurn w start commands before t
     moves_seen op of k live reply t is next follows =
-        let x : Option (Grant P) = slice_index_or p.live of None in
-        let there : grant_at private.grants of ≡ option_map private_grant x = told_at p.live private.grants of x told_now refl in
+        let x : Option (Grant P PlainHeap) = slice_index_or p.live of None in
+        let there : grant_at private.told.grants of ≡ option_map private_grant x = told_at p.live private.told.grants of x told_now refl in
         ends_seen (on_memory of k op) live p.store reply t next
         (grants_of live, subst (Moved op of k reply live) (sym there) (bytes_move x op of k live reply is), refl)
         (bytes_tell x op of k live reply there is) follows
 
     -- a command on a table
-    tables_seen : (op : TableOp) (of k : ℕ) (live : List (Option (Grant P))) (store : ListedStore) (reply : Reply) (t : Turned P) → MovesObject table_leases (MovesTable op (rule_of p.limits) p.store store) of k p.live reply live → (object_at table_leases of k p.live ≡ None → store ≡ p.store) → act_at commands p.done ≡ Some (on_table of k op) → Leaves (replies reply live store) c p t → SeesTurn w start commands before t
+    tables_seen : (op : TableOp) (of k : ℕ) (live : List (Option (Grant P PlainHeap))) (store : ListedStore) (reply : Reply) (t : Turned P) → MovesObject table_leases (MovesTable op (rule_of p.limits) p.store store) of k p.live reply live → (object_at table_leases of k p.live ≡ None → store ≡ p.store) → act_at commands p.done ≡ Some (on_table of k op) → Leaves (replies reply live store) c p t → SeesTurn w start commands before t
     tables_seen op of k live store reply t is unasked next follows =
         let Sees : PrivateTable → PrivateTable → Reply → Type 0 = SeesTable op w.terms.host p.store.made store.made in
         let By : Host → PrivateTable → PrivateTable → Reply → Type 0 = λ h x y r. SeesTable op h p.store.made store.made x y r in
         let seen : MovesObject private_tables Sees of k (grants_of p.live) reply (grants_of live) =
         on_seen table_leases private_tables private_grant private_table (tables_seen_by P) (MovesTable op (rule_of p.limits) p.store store) Sees of k p.live live reply
-        (λ m. subst (λ (h : Host). By h (private_table m.old) (private_table m.changed) reply) ruled m.move.move) is in
+        (λ m. subst (λ (h : Host). By h (private_table m.old) (private_table m.changed) reply) ruled (any_maker op (host_of_party p) [] (stored_as m.old p.store) (stored_as m.changed store) reply m.move.move)) is in
         let On : Grants → Type 0 = λ g. MovesObject private_tables Sees of k g reply (grants_of live) in
-        let none : object_at private_tables of k private.grants ≡ None → store.made ≡ p.store.made =
+        let none : object_at private_tables of k private.told.grants ≡ None → store.made ≡ p.store.made =
         λ nothing. ap (λ (x : ListedStore). x.made) (unasked (none_seen table_leases private_tables private_grant private_table (tables_seen_by P) (MovesTable op (rule_of p.limits) p.store store) Sees of k p.live (ap (object_at private_tables of k) told_now ∙ nothing))) in
         ends_seen (on_table of k op) live store reply t next
-        (stored_moves op w.terms.host p.store.made store.made of k private.grants (grants_of live) reply (object_at private_tables of k private.grants) (subst On told_now seen) none) tt follows
+        (stored_moves op w.terms.host p.heaps.made p.store.made store.made of k private.told.grants (grants_of live) reply (object_at private_tables of k private.told.grants) (subst On told_now seen) none) tt follows
 
     -- a purge
     purges_seen : (number : ℕ) (kept : Option ModuleAsked) (o : Opening P) (t : Turned P) → OpensPurge kept p o → Leaves o c p t → act_at commands p.done ≡ Some (purges number) → SeesTurn w start commands before t
     purges_seen number None o t opens follows next = absurd opens
     purges_seen number (Some kept) o t opens follows next =
         let F : Opening P → Type 0 = λ x. Leaves x c p t in
-        steps_seen (begun_call (call.Purge kept.id) p.frame) p.live t (plain_opened w.maker c p can idle (call.Purge kept.id) tt) (told_now, record { number = number; act = next }) (subst F opens follows)
+        steps_seen (begun_call (call.Purge kept.id) p.frame) p.live t (plain_opened w.maker c p can idle (call.Purge kept.id) tt (λ is. absurd cc)) (whole, record { number = number; act = next }) (subst F opens follows)
 
     -- a request for whatever it is
     wanted_seen : (modules : List ModuleAsked) (wanted : Wanted) (o : Opening P) (t : Turned P) → AreCallsFor w.terms c.settings modules → OpensWanted modules wanted p o → Leaves o c p t → act_at commands p.done ≡ Some (requests wanted) → p.done < length p.live → SeesTurn w start commands before t
     wanted_seen modules (an_instance number) o t calls opens follows next room = requests_seen number (slice_get modules number) o t (calls number) opens follows next room
     wanted_seen modules (a_component info) o t calls opens follows next room =
         let F : Opening P → Type 0 = λ x. Leaves x c p t in
-        steps_seen (begun_call (call.Component info) p.frame) p.live t (component_opened w.maker c p can idle info room) (told_now, next) (subst F opens follows)
+        steps_seen (begun_call (call.Component info) p.frame) p.live t (plain_opened w.maker c p can idle (call.Component info) tt (λ is. room)) (whole, next) (subst F opens follows)
     wanted_seen modules a_stack o t calls opens follows next room =
         let F : Opening P → Type 0 = λ x. Leaves x c p t in
-        steps_seen (begun_call call.Stack p.frame) p.live t (stack_asked_opened w.maker c p can idle room) (told_now, next) (subst F opens follows)
+        steps_seen (begun_call call.Stack p.frame) p.live t (plain_opened w.maker c p can idle call.Stack tt (λ is. room)) (whole, next) (subst F opens follows)
+    wanted_seen modules (a_heap limits) o t calls opens follows next room =
+        let F : Opening P → Type 0 = λ x. Leaves x c p t in
+        steps_seen (begun_call (call.Heap (heap_type limits)) p.frame) p.live t (plain_opened w.maker c p can idle (call.Heap (heap_type limits)) (omega arith) (λ is. room)) (whole, limits, refl, next) (subst F opens follows)
 
     act_seen : (modules : List ModuleAsked) (act : Act) (o : Opening P) (t : Turned P) → AreCallsFor w.terms c.settings modules → OpensAct modules act p o → Leaves o c p t → act_at commands p.done ≡ Some act → p.done < length p.live → SeesTurn w start commands before t
     act_seen modules (requests wanted) o t calls opens follows next room = wanted_seen modules wanted o t calls opens follows next room
@@ -219,7 +241,7 @@ module _ {P : Type 0} (w : World) (start : Grants) (commands : List Command) (be
     act_seen modules (purges number) o t calls opens follows next room = purges_seen number (slice_get modules number) o t opens follows next
     act_seen modules releases o t calls opens follows next room =
         let F : Opening P → Type 0 = λ x. Leaves x c p t in
-        steps_seen (begun_call call.Release p.frame) p.live t (plain_opened w.maker c p can idle call.Release tt) (told_now, next) (subst F opens follows)
+        steps_seen (begun_call call.Release p.frame) p.live t (plain_opened w.maker c p can idle call.Release tt (λ is. absurd cc)) (whole, next) (subst F opens follows)
 
     next_seen : (modules : List ModuleAsked) (next : Option Command) (keyed : Bool) (o : Opening P) (t : Turned P) → AreCallsFor w.terms c.settings modules → slice_get commands p.done ≡ next → length commands ≤ length p.live → OpensNext modules next keyed p o → Leaves o c p t → SeesTurn w start commands before t
     next_seen modules None keyed o t calls next room opens follows =
@@ -227,7 +249,7 @@ module _ {P : Type 0} (w : World) (start : Grants) (commands : List Command) (be
         subst (SeesTurn w start commands before) (sym (subst F opens follows)) private
     next_seen modules (Some command) false o t calls next room opens follows =
         let F : Opening P → Type 0 = λ x. Leaves x c p t in
-        steps_seen (begun_call call.Key p.frame) p.live t (plain_opened w.maker c p can idle call.Key tt) told_now (subst F opens follows)
+        steps_seen (begun_call call.Key p.frame) p.live t (plain_opened w.maker c p can idle call.Key tt (λ is. absurd cc)) whole (subst F opens follows)
     next_seen modules (Some command) true o t calls next room opens follows =
         act_seen modules (act_of command) o t calls opens follows (ap (option_map act_of) next) (omega (arith, room, slice_get_within commands p.done command next))
 
@@ -239,5 +261,5 @@ module _ {P : Type 0} (w : World) (start : Grants) (commands : List Command) (be
 
 module _ {P : Type 0} where
   -- After a turn of a party its replies are still a private run.
-  pub turn_private : (w : World) (modules : List ModuleAsked) (start : Grants) (commands : List Command) (before : List Reply) (c : PoolCore P) (p : RunningParty P) (t : Turned P) → IsWorldOf w c → AreCallsFor w.terms c.settings modules → CanTurn w.maker c p → (w.alone ≡ true → IsAlone c p.frame p.live) → host_of_party p ≡ w.terms.host → p.frame.stripe ≡ w.terms.stripe → length commands ≤ length p.live → IsPrivate w start commands before p → Turns modules commands c p t → IsPrivate w start commands (with_reply t.reply before) t.party
+  pub turn_private : (w : World) (modules : List ModuleAsked) (start : Grants) (commands : List Command) (before : List Reply) (c : PoolCore P PlainHeap) (p : RunningParty P) (t : Turned P) → IsWorldOf w c → AreCallsFor w.terms c.settings modules → CanTurn w.maker c p → (w.alone ≡ true → IsAlone c p.frame p.live) → host_of_party p ≡ w.terms.host → p.frame.stripe ≡ w.terms.stripe → length commands ≤ length p.live → IsPrivate w start commands before p → Turns modules commands c p t → IsPrivate w start commands (with_reply t.reply before) t.party
   turn_private w modules start commands before c p t world calls can alone ruled striped room private turns = seen_at w start commands before c p private world can alone ruled striped (is_idle p.frame.phase) modules turns.0 t refl calls room turns.1 turns.2

@@ -18,6 +18,7 @@ use Rattle.pool_run.specs.Turns.{Turned}
 use Rattle.pool_run.specs.declared.command.Command.{Command}
 use Rattle.pool_run.specs.declared.running_party.RunningParty.{RunningParty}
 use Rattle.pool_run.proofs.Advanced.{IsReady, HasAdvanced}
+use Rattle.pool_slots.specs.declared.listed_heaps.PlainHeap.{PlainHeap}
 
 -- the elements in other places stay
 pub set_other : {X : Type 0} (xs : List X) (i k : ℕ) (x : X) → k ≢ i → slice_get (slice_set xs i x) k ≡ slice_get xs k
@@ -41,7 +42,7 @@ module _ {P : Type 0} where
   still_drawn s i more bound p t drawn turned = All-set IsDrawn s.parties i t.party turned.ready drawn
 
   -- A call has as many turns left over a pool of the same sizes.
-  left_over : (c d : PoolCore P) (o : Option (RunningParty P)) → IsSameSize c d → turns_left d o ≡ turns_left c o
+  left_over : (c d : PoolCore P PlainHeap) (o : Option (RunningParty P)) → IsSameSize c d → turns_left d o ≡ turns_left c o
   left_over c d None size = refl
   left_over c d (Some p) size = steps_left_same c d p.frame size
 

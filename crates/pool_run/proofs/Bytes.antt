@@ -23,7 +23,7 @@ use Rattle.pool_run.specs.Private.{Terms, PrivateMemory, begun_memory, private_w
 use Rattle.pool_run.specs.Turns.{seen_as, private_memory}
 
 -- what is written into the first n elements is written into a list's first n
-take_put : (i n : ℕ) (new xs : List ℕ) → i + length new ≤ n → take n (put i new xs) ≡ put i new (take n xs)
+pub take_put : (i n : ℕ) (new xs : List ℕ) → i + length new ≤ n → take n (put i new xs) ≡ put i new (take n xs)
 take_put i n new xs within = same_lists _ _ (grind (arith, places)) (λ k d h. grind (arith, places))
 
 -- a write to the first bytes of a region

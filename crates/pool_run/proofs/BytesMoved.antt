@@ -8,60 +8,73 @@ use Rattle.std.proofs.lemmas.List.{set-get_or, same_lists, places}
 use Rattle.pool_limits.specs.Growth.{GrowthRule}
 use Rattle.pool_pages.specs.Contents.{Contents}
 use Rattle.pool_images.specs.Slots.{Slot}
+use Rattle.pool_slots.specs.PlainSlots.{StackState}
 use Rattle.pool_alloc.specs.Leases.{Lease}
+use Rattle.pool_alloc.specs.HeapLeases.{LeasedHeap}
 use Rattle.pool_alloc.specs.StackLeases.{LeasedStack}
 use Rattle.pool_alloc.specs.declared.frame.Grant.{Grant}
-use Rattle.pool_alloc.specs.declared.frame.Grant.TheVariants.{Instance as instance, Component as component, Stack as stack}
+use Rattle.pool_alloc.specs.declared.frame.Grant.TheVariants.{Instance as instance, Component as component, Stack as stack, Heap as heap}
 use Rattle.pool_run.specs.Acts.{MemoryOp}
-use Rattle.pool_run.specs.AtOnce.{MovesGrantBytes, MovesStackBytes, MovesTakenBytes}
+use Rattle.pool_run.specs.AtOnce.{MovesGrantBytes, MovesOnly, MovesTakenBytes}
 use Rattle.pool_run.specs.Objects.{MovesNamed, object_at, with_object}
 use Rattle.pool_run.specs.PrivateStacks.{ReadsBytes}
-use Rattle.pool_run.specs.Turns.{LeaseMoves, stack_bytes, StackLeaseMoves, memory_leases, stack_leases, with_stack_lease, MovesLeasedBytes}
+use Rattle.pool_run.specs.Turns.{LeaseMoves, stack_bytes, StackStateMoves, StackLeaseMoves, memory_leases, stack_leases, with_stack_lease, with_lease, MovesLeasedBytes}
 use Rattle.pool_run.specs.declared.reply.Reply.{Reply}
 use Rattle.pool_run.specs.declared.reply.Reply.TheVariants.{Bytes, Refused}
 use Rattle.pool_run.specs.declared.reply.Refusal.TheVariants.{NoSuchGrant}
 use Rattle.pool_run.proofs.Named.{taken_moved, put_back}
+use Rattle.pool_slots.specs.declared.listed_heaps.PlainHeap.{PlainHeap}
 
 module _ {P : Type 0} (op : MemoryOp) (rule : GrowthRule) (of k : ℕ) where
-  abbrev granted_stack : LeasedStack → Grant P
+  abbrev granted_stack : LeasedStack → Grant P PlainHeap
   granted_stack l = stack l
 
   -- what is done to a stack is done to its grant
-  grant_moved : (y : Option LeasedStack) (lease l : LeasedStack) (reply : Reply) (changed : Grant P) → changed ≡ stack l → MovesNamed (StackLeaseMoves op) y (λ m old. m) lease reply l → MovesNamed (StackLeaseMoves op) y (with_stack_lease k) (stack lease) reply changed
-  grant_moved None lease l reply changed now is = (is.0, now ∙ ap granted_stack is.1)
-  grant_moved (Some x) lease l reply changed now is = (is.0, is.1, now ∙ ap granted_stack is.2)
+  grant_moved : (n : ℕ) (lease : LeasedStack) (s : StackState) (reply : Reply) (changed : Grant P PlainHeap) → changed ≡ stack (record lease { stack = s }) → MovesOnly (StackStateMoves op) n lease.stack reply s → MovesNamed (StackLeaseMoves op) (slice_get (lease ∷ []) n) (with_stack_lease k) (stack lease) reply changed
+  grant_moved zero lease s reply changed now is = (record lease { stack = is.0 }, (is.1, refl), now ∙ ap (λ (x : StackState). granted_stack (record lease { stack = x })) is.2)
+  grant_moved (suc n) lease s reply changed now is = (is.0, now ∙ ap (λ (x : StackState). granted_stack (record lease { stack = x })) is.1)
 
-  taken_bytes : (live empty new : List (Option (Grant P))) (reply : Reply) (grant : Grant P) → slice_index_or live of None ≡ Some grant → empty ≡ slice_set live of None → MovesTakenBytes op rule of k grant empty reply new → MovesLeasedBytes op rule (Some grant) of k live reply new
+  -- and what is done to a heap's memory
+  abbrev granted_heap : LeasedHeap PlainHeap → Lease → Grant P PlainHeap
+  granted_heap lease l = heap lease l
+
+  heap_moved : (j : ℕ) (lease : LeasedHeap PlainHeap) (memory l : Lease) (reply : Reply) (changed : Grant P PlainHeap) → changed ≡ heap lease l → MovesNamed (LeaseMoves op rule) (slice_get (memory ∷ []) j) (λ m old. m) memory reply l → MovesNamed (LeaseMoves op rule) (slice_get (memory ∷ []) j) (with_lease j) (heap lease memory) reply changed
+  heap_moved (suc j) lease memory l reply changed now is = (is.0, now ∙ ap (granted_heap lease) is.1)
+  heap_moved zero lease memory l reply changed now is = (is.0, is.1, now ∙ ap (granted_heap lease) is.2)
+
+  taken_bytes : (live empty new : List (Option (Grant P PlainHeap))) (reply : Reply) (grant : Grant P PlainHeap) → slice_index_or live of None ≡ Some grant → empty ≡ slice_set live of None → MovesTakenBytes op rule of k grant empty reply new → MovesLeasedBytes op rule (Some grant) of k live reply new
   taken_bytes live empty new reply (instance lease) has taken is = taken_moved memory_leases (LeaseMoves op rule) of k live empty new reply (instance lease) has taken is
   taken_bytes live empty new reply component has taken is = taken_moved memory_leases (LeaseMoves op rule) of k live empty new reply component has taken is
+  taken_bytes live empty new reply (heap lease memory) has taken is = taken_moved memory_leases (LeaseMoves op rule) of k live empty new reply (heap lease memory) has taken is
   taken_bytes live empty new reply (stack lease) has taken is = taken_moved stack_leases (StackLeaseMoves op) of k live empty new reply (stack lease) has taken is
 
-  pub bytes_taken : (live empty new : List (Option (Grant P))) (reply : Reply) (grant : Grant P) → slice_index_or live of None ≡ Some grant → empty ≡ slice_set live of None → MovesTakenBytes op rule of k grant empty reply new → MovesLeasedBytes op rule (slice_index_or live of None) of k live reply new
+  pub bytes_taken : (live empty new : List (Option (Grant P PlainHeap))) (reply : Reply) (grant : Grant P PlainHeap) → slice_index_or live of None ≡ Some grant → empty ≡ slice_set live of None → MovesTakenBytes op rule of k grant empty reply new → MovesLeasedBytes op rule (slice_index_or live of None) of k live reply new
   bytes_taken live empty new reply grant has taken is =
-      let M : Option (Grant P) → Type 0 = λ x. MovesLeasedBytes op rule x of k live reply new in
+      let M : Option (Grant P PlainHeap) → Type 0 = λ x. MovesLeasedBytes op rule x of k live reply new in
       subst M (sym has) (taken_bytes live empty new reply grant has taken is)
 
   -- no grant is there
-  pub bytes_none : (live empty : List (Option (Grant P))) → slice_index_or live of None ≡ None → empty ≡ slice_set live of None → MovesLeasedBytes op rule (slice_index_or live of None) of k live (Refused NoSuchGrant) empty
+  pub bytes_none : (live empty : List (Option (Grant P PlainHeap))) → slice_index_or live of None ≡ None → empty ≡ slice_set live of None → MovesLeasedBytes op rule (slice_index_or live of None) of k live (Refused NoSuchGrant) empty
   bytes_none live empty has taken =
-      let M : Option (Grant P) → Type 0 = λ x. MovesLeasedBytes op rule x of k live (Refused NoSuchGrant) empty in
+      let M : Option (Grant P PlainHeap) → Type 0 = λ x. MovesLeasedBytes op rule x of k live (Refused NoSuchGrant) empty in
       let N : Option Lease → Type 0 = λ y. MovesNamed (LeaseMoves op rule) y (with_object memory_leases of k) live (Refused NoSuchGrant) empty in
       let same : empty ≡ live = taken ∙ ap (slice_set live of) (sym has) ∙ set-get_or live of None in
-      let none : object_at memory_leases of k live ≡ None = ap (λ (x : Option (Grant P)). option_and_then (λ g. slice_get (memory_leases.in_grant g) k) x) has in
+      let none : object_at memory_leases of k live ≡ None = ap (λ (x : Option (Grant P PlainHeap)). option_and_then (λ g. slice_get (memory_leases.in_grant g) k) x) has in
       subst M (sym has) (subst N (sym none) (refl, same))
 
-  pub bytes_back : (live new : List (Option (Grant P))) (reply : Reply) (grant changed : Grant P) → new ≡ slice_set live of (Some changed) → MovesGrantBytes op rule k grant reply changed → MovesTakenBytes op rule of k grant live reply new
+  pub bytes_back : (live new : List (Option (Grant P PlainHeap))) (reply : Reply) (grant changed : Grant P PlainHeap) → new ≡ slice_set live of (Some changed) → MovesGrantBytes op rule k grant reply changed → MovesTakenBytes op rule of k grant live reply new
   bytes_back live new reply (instance lease) changed put is = put_back memory_leases (LeaseMoves op rule) of k live new reply (instance lease) changed put is
   bytes_back live new reply component changed put is = put_back memory_leases (LeaseMoves op rule) of k live new reply component changed put is
-  bytes_back live new reply (stack lease) changed put is = put_back stack_leases (StackLeaseMoves op) of k live new reply (stack lease) changed put (grant_moved (slice_get (lease ∷ []) k) lease is.0 reply changed is.1 is.2)
+  bytes_back live new reply (heap lease memory) changed put is = put_back memory_leases (LeaseMoves op rule) of k live new reply (heap lease memory) changed put (heap_moved k lease memory is.0 reply changed is.1 is.2)
+  bytes_back live new reply (stack lease) changed put is = put_back stack_leases (StackLeaseMoves op) of k live new reply (stack lease) changed put (grant_moved k lease is.0 reply changed is.1 is.2)
 
 -- A grant of a stack has one stack.
-pub past_stack : (op : MemoryOp) (k : ℕ) (lease : LeasedStack) → 1 ≤ k → MovesStackBytes op k lease (Refused NoSuchGrant) lease
-past_stack op zero lease past = absurd (omega (arith, past))
-past_stack op (suc k) lease past = (refl, refl)
+pub past_only : {X : Type 0} (Move : X → X → Reply → Type 0) (k : ℕ) (lease : X) → 1 ≤ k → MovesOnly Move k lease (Refused NoSuchGrant) lease
+past_only Move zero lease past = absurd (omega (arith, past))
+past_only Move (suc k) lease past = (refl, refl)
 
-pub first_stack : (op : MemoryOp) (k : ℕ) (lease new : LeasedStack) (reply : Reply) → k ≡ 0 → StackLeaseMoves op lease new reply → MovesStackBytes op k lease reply new
-first_stack op k lease new reply first is = let M : ℕ → Type 0 = λ n. MovesStackBytes op n lease reply new in subst M (sym first) (new, is, refl)
+pub first_only : {X : Type 0} (Move : X → X → Reply → Type 0) (k : ℕ) (lease new : X) (reply : Reply) → k ≡ 0 → Move lease new reply → MovesOnly Move k lease reply new
+first_only Move k lease new reply first is = let M : ℕ → Type 0 = λ n. MovesOnly Move n lease reply new in subst M (sym first) (new, is, refl)
 
 -- What is read of it is read of its region.
 range_of : (base size at len : ℕ) (xs : List ℕ) → at + len ≤ size → slice_range (slice_range xs base (base + size)) at (at + len) ≡ slice_range xs (base + at) (base + at + len)

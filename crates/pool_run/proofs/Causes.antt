@@ -5,7 +5,7 @@ use Rattle.std.specs.Option.{option_or}
 use Rattle.std.proofs.lemmas.Bool.{le-leb}
 use Rattle.std.proofs.lemmas.Option.{same_Some, slice_get_within}
 use Rattle.pool_pages.specs.MemoryTypes.{minimum_byte_size, allow_growth_to}
-use Rattle.pool_alloc.specs.Wants.{MemoryWant, Want, new_memory, new_table, new_stack}
+use Rattle.pool_alloc.specs.Wants.{MemoryWant, Want, new_memory, new_table, new_stack, new_heap}
 use Rattle.pool_pages.specs.declared.module_types.MemoryType.{MemoryType}
 use Rattle.pool_pages.specs.declared.unsupported.Unsupported.{Unsupported}
 use Rattle.pool_pages.specs.declared.unsupported.Unsupported.TheVariants.{InitialSize, AddressSpace, MemoryMinimum, TableSize}
@@ -96,6 +96,7 @@ want_for_room : (w : World) (request : Request) (told : Grants) (want : Want) (e
 want_for_room w request told (new_memory want) e own = own_for_room w request told (memory_answer (Some w.terms.host.rule) (Ok true) (minimum_asked want.decl.ty) (maximum_asked want.decl.ty)) want.decl.ty e own
 want_for_room w request told (new_table ty) e own = table_for_room w request told (table_answer (Some w.terms.host.rule) (Ok true) ty.limits.min (Some (type_maximum ty))) ty.limits.min (table_room w.terms.settings ty) e own
 want_for_room w request told new_stack e own = absurd cc
+want_for_room w request told new_heap e own = absurd cc
 
 -- Its first own refusal, which is that of this memory or table.
 pub own_cause : (w : World) (request : Request) (told : Grants) (want : Want) (e : AllocError) → request.broken ≡ None → own_refusal w.terms want ≡ Some e → first_refusal w.terms (wants_of request) ≡ Some e → HasCause w request told e

@@ -9,21 +9,22 @@ use Rattle.pool_slots.specs.SlotNames.{of_kind}
 use Rattle.pool_slots.specs.Plans.{cell_place}
 use Rattle.pool_slots.specs.declared.plan.Plan.{Plan}
 use Rattle.pool_slots.specs.declared.slot_name.SlotName.{SlotName}
-use Rattle.pool_alloc.specs.Leases.{Lease, memory_slot}
-use Rattle.pool_alloc.specs.Places.{instances_for, phase_stacks, right_to, instance_count, phase_count, phase_instances, phase_components, phase_memories, phase_tables}
+use Rattle.pool_slots.specs.declared.listed_heaps.PlainHeap.{PlainHeap}
+use Rattle.pool_alloc.specs.Leases.{Lease, memory_slot, slot_taken}
+use Rattle.pool_alloc.specs.Places.{instances_for, phase_stacks, phase_heaps, taken_count, right_to, instance_count, phase_count, phase_instances, phase_components, phase_memories, phase_tables}
 use Rattle.pool_alloc.specs.Sound.{IsPoolPlan, IsSlotName}
-use Rattle.pool_alloc.specs.Stepping.{grant_stacks, CanCount, grant_count, grant_instances, grant_components, grant_memories, grant_tables}
+use Rattle.pool_alloc.specs.Stepping.{grant_stacks, grant_heaps, CanCount, grant_count, grant_instances, grant_components, grant_memories, grant_tables}
 use Rattle.pool_alloc.specs.Steps.{memory_slots}
 use Rattle.pool_alloc.specs.StackLeases.{LeasedStack, stack_slot}
 use Rattle.pool_alloc.specs.declared.frame.Asked.{Asked}
-use Rattle.pool_alloc.specs.declared.frame.Asked.TheVariants.{Stack as stack_asked}
+use Rattle.pool_alloc.specs.declared.frame.Asked.TheVariants.{Stack as stack_asked, Heap as heap_asked}
 use Rattle.pool_alloc.specs.TableLeases.{LeasedTable, table_slot}
 use Rattle.pool_alloc.specs.declared.pool_core.PoolCore.{PoolCore}
 use Rattle.pool_alloc.specs.declared.frame.Grant.{Grant}
-use Rattle.pool_alloc.specs.declared.frame.Grant.TheVariants.{Instance as instance, Component as component, Stack as stack}
+use Rattle.pool_alloc.specs.declared.frame.Grant.TheVariants.{Instance as instance, Component as component, Stack as stack, Heap as heap}
 use Rattle.pool_alloc.specs.declared.frame.Object.TheVariants as object
 use Rattle.pool_alloc.specs.declared.frame.Phase.{Phase}
-use Rattle.pool_alloc.specs.declared.frame.Phase.TheVariants.{Idle, UncountObject, UncountComponent}
+use Rattle.pool_alloc.specs.declared.frame.Phase.TheVariants.{Idle, UncountObject, UncountComponent, UncountHeap, PutHeap, FreeHeap}
 use Rattle.pool_alloc.specs.declared.lease.InstanceLease.{InstanceLease}
 use Rattle.pool_alloc.proofs.Below.{below, below_sum, below_most}
 use Rattle.pool_alloc.proofs.PlanPlaces.{cell_inside}
@@ -45,27 +46,40 @@ few_slots plan places total named is names past =
 
 few_for : (asked : Asked) (n : ℕ) → instances_for asked n ≤ n
 few_for stack_asked n = omega arith
+few_for (heap_asked ty) n = omega arith
 few_for _ n = omega arith
 
 module _ {P : Type 0} where
+  -- a memory that its call has with other things has a slot
+  memory_with : (n : ℕ) (l : Lease) (phase : Phase P PlainHeap) → ((k : ℕ) → taken_count (right_to (memory_slot k)) (slot_taken l) ≤ phase_count (right_to (memory_slot k)) phase) → ((k : ℕ) → n ≤ k → phase_count (right_to (memory_slot k)) phase ≡ 0) → 1 ≤ below (λ k. phase_count (right_to (memory_slot k)) phase) n
+  memory_with n l phase has none =
+      omega (
+        arith,
+        one_below memory_slot memory_one (λ (l : Lease). l.index) (λ l. l.numbers) n l (λ k past. omega (arith, none k past, has k)),
+        below_le (λ k. taken_count (right_to (memory_slot k)) (slot_taken l)) (λ k. phase_count (right_to (memory_slot k)) phase) has n,
+      )
+
   -- what is uncounted has a slot
-  memory_below : (n : ℕ) (phase : Phase P) → ((k : ℕ) → n ≤ k → phase_count (right_to (memory_slot k)) phase ≡ 0) → phase_memories phase ≤ below (λ k. phase_count (right_to (memory_slot k)) phase) n
+  memory_below : (n : ℕ) (phase : Phase P PlainHeap) → ((k : ℕ) → n ≤ k → phase_count (right_to (memory_slot k)) phase ≡ 0) → phase_memories phase ≤ below (λ k. phase_count (right_to (memory_slot k)) phase) n
   memory_below n (UncountObject (object.Memory lease)) none = one_below memory_slot memory_one (λ (l : Lease). l.index) (λ l. l.numbers) n lease none
+  memory_below n (UncountHeap lease memory) none = memory_with n memory (UncountHeap lease memory) (λ k. omega arith) none
+  memory_below n (PutHeap lease memory) none = memory_with n memory (PutHeap lease memory) (λ k. omega arith) none
+  memory_below n (FreeHeap name memory) none = memory_with n memory (FreeHeap name memory) (λ k. omega arith) none
   memory_below n _ none = omega arith
 
-  table_below : (n : ℕ) (phase : Phase P) → ((k : ℕ) → n ≤ k → phase_count (right_to (table_slot k)) phase ≡ 0) → phase_tables phase ≤ below (λ k. phase_count (right_to (table_slot k)) phase) n
+  table_below : (n : ℕ) (phase : Phase P PlainHeap) → ((k : ℕ) → n ≤ k → phase_count (right_to (table_slot k)) phase ≡ 0) → phase_tables phase ≤ below (λ k. phase_count (right_to (table_slot k)) phase) n
   table_below n (UncountObject (object.Table lease)) none = one_below table_slot table_one (λ (l : LeasedTable). l.index) (λ l. l.numbers) n lease none
   table_below n _ none = omega arith
 
-  stack_below : (n : ℕ) (phase : Phase P) → ((k : ℕ) → n ≤ k → phase_count (right_to (stack_slot k)) phase ≡ 0) → phase_stacks phase ≤ below (λ k. phase_count (right_to (stack_slot k)) phase) n
+  stack_below : (n : ℕ) (phase : Phase P PlainHeap) → ((k : ℕ) → n ≤ k → phase_count (right_to (stack_slot k)) phase ≡ 0) → phase_stacks phase ≤ below (λ k. phase_count (right_to (stack_slot k)) phase) n
   stack_below n (UncountObject (object.Stack lease)) none = one_below stack_slot stack_one (λ (l : LeasedStack). l.stack.index) (λ l. l.numbers) n lease none
   stack_below n _ none = omega arith
 
   -- of a kind, a party has no more objects than slots
-  module _ (named : ℕ → SlotName) (objects : InstanceLease P → ℕ) (uncounted : Phase P → ℕ) (of : Grant P → ℕ) (total : ℕ)
+  module _ (named : ℕ → SlotName) (objects : InstanceLease P → ℕ) (uncounted : Phase P PlainHeap → ℕ) (of : Grant P PlainHeap → ℕ) (total : ℕ)
       (lease_below : (lease : InstanceLease P) → ((k : ℕ) → total ≤ k → instance_count (right_to (named k)) lease ≡ 0) → objects lease ≤ below (λ k. instance_count (right_to (named k)) lease) total)
-      (phase_below : (phase : Phase P) → ((k : ℕ) → total ≤ k → phase_count (right_to (named k)) phase ≡ 0) → uncounted phase ≤ below (λ k. phase_count (right_to (named k)) phase) total)
-      (live_below : (live : List (Option (Grant P))) → ((k : ℕ) → total ≤ k → sum_by (granted_to (grant_count (right_to (named k)))) live ≡ 0) → sum_by (granted_to of) live ≤ below (λ k. sum_by (granted_to (grant_count (right_to (named k)))) live) total) where
+      (phase_below : (phase : Phase P PlainHeap) → ((k : ℕ) → total ≤ k → phase_count (right_to (named k)) phase ≡ 0) → uncounted phase ≤ below (λ k. phase_count (right_to (named k)) phase) total)
+      (live_below : (live : List (Option (Grant P PlainHeap))) → ((k : ℕ) → total ≤ k → sum_by (granted_to (grant_count (right_to (named k)))) live ≡ 0) → sum_by (granted_to of) live ≤ below (λ k. sum_by (granted_to (grant_count (right_to (named k)))) live) total) where
     abbrev has : RunningParty P → ℕ
     has p = objects p.frame.objects + uncounted p.frame.phase + sum_by (granted_to of) p.live
 
@@ -84,7 +98,7 @@ module _ {P : Type 0} where
           below_le (λ k. leases k + phase k + live k) (λ k. (held_by_party p).places (right_to (named k))) (λ k. omega arith) total,
         )
 
-    few_held : (maker : MakerTold) (c : PoolCore P) (parties : List (RunningParty P)) → IsRunning maker c parties → ((k : ℕ) → made_slot (named k).slot (of_kind (named k).kind c.plan.totals) ≡ made_slot k total) → sum_by has parties ≤ total
+    few_held : (maker : MakerTold) (c : PoolCore P PlainHeap) (parties : List (RunningParty P)) → IsRunning maker c parties → ((k : ℕ) → made_slot (named k).slot (of_kind (named k).kind c.plan.totals) ≡ made_slot k total) → sum_by has parties ≤ total
     few_held maker c parties running made =
         let most : (k : ℕ) → sum_by (λ p. (held_by_party p).places (right_to (named k))) parties ≤ made_slot k total = λ k. omega (arith, running.whole.places (right_to (named k)), away_made maker (named k) c running.core, made k) in
         omega (
@@ -94,7 +108,7 @@ module _ {P : Type 0} where
         )
 
   -- There are no more memories than slots, and no more tables.
-  few_memories : (maker : MakerTold) (c : PoolCore P) (parties : List (RunningParty P)) → IsRunning maker c parties → c.counters.memories ≤ memory_slots c.plan
+  few_memories : (maker : MakerTold) (c : PoolCore P PlainHeap) (parties : List (RunningParty P)) → IsRunning maker c parties → c.counters.memories ≤ memory_slots c.plan
   few_memories maker c parties running =
       let n : ℕ = memory_slots c.plan in
       omega (
@@ -105,7 +119,7 @@ module _ {P : Type 0} where
             (λ live none. live_below memory_slot memory_one (λ (l : Lease). l.index) (λ l. l.numbers) leases_of memories_counted grant_memories memories_sized n live none) maker c parties running (λ k. refl),
       )
 
-  few_tables : (maker : MakerTold) (c : PoolCore P) (parties : List (RunningParty P)) → IsRunning maker c parties → c.counters.tables ≤ c.plan.totals.table
+  few_tables : (maker : MakerTold) (c : PoolCore P PlainHeap) (parties : List (RunningParty P)) → IsRunning maker c parties → c.counters.tables ≤ c.plan.totals.table
   few_tables maker c parties running =
       let n : ℕ = c.plan.totals.table in
       omega (
@@ -116,7 +130,7 @@ module _ {P : Type 0} where
             (λ live none. live_below table_slot table_one (λ (l : LeasedTable). l.index) (λ l. l.numbers) tables_of tables_counted grant_tables tables_sized n live none) maker c parties running (λ k. refl),
       )
 
-  few_stacks : (maker : MakerTold) (c : PoolCore P) (parties : List (RunningParty P)) → IsRunning maker c parties → c.counters.stacks ≤ c.plan.totals.stack
+  few_stacks : (maker : MakerTold) (c : PoolCore P PlainHeap) (parties : List (RunningParty P)) → IsRunning maker c parties → c.counters.stacks ≤ c.plan.totals.stack
   few_stacks maker c parties running =
       let n : ℕ = c.plan.totals.stack in
       let of : RunningParty P → ℕ = λ p. 0 + phase_stacks p.frame.phase + sum_by (granted_to grant_stacks) p.live in
@@ -128,28 +142,30 @@ module _ {P : Type 0} where
             (λ live none. live_below stack_slot stack_one (λ (l : LeasedStack). l.stack.index) (λ l. l.numbers) stack_of stacks_counted grant_stacks stacks_sized n live none) maker c parties running (λ k. refl),
       )
 
-  phase_counts_one : (phase : Phase P) → phase_instances phase ≤ 1
+  phase_counts_one : (phase : Phase P PlainHeap) → phase_instances phase ≤ 1
   phase_counts_one Idle = omega arith
   phase_counts_one _ = omega arith
 
-  phase_components_one : (phase : Phase P) → phase_components phase ≤ 1
+  phase_components_one : (phase : Phase P PlainHeap) → phase_components phase ≤ 1
   phase_components_one UncountComponent = omega arith
   phase_components_one _ = omega arith
 
-  one_instance : (o : Option (Grant P)) → granted_to grant_instances o ≤ 1
+  one_instance : (o : Option (Grant P PlainHeap)) → granted_to grant_instances o ≤ 1
   one_instance None = omega arith
   one_instance (Some (instance lease)) = omega arith
   one_instance (Some component) = omega arith
   one_instance (Some (stack lease)) = omega arith
+  one_instance (Some (heap lease memory)) = omega arith
 
-  one_component : (o : Option (Grant P)) → granted_to grant_components o ≤ 1
+  one_component : (o : Option (Grant P PlainHeap)) → granted_to grant_components o ≤ 1
   one_component None = omega arith
   one_component (Some (instance lease)) = omega arith
   one_component (Some component) = omega arith
   one_component (Some (stack lease)) = omega arith
+  one_component (Some (heap lease memory)) = omega arith
 
-  -- A party has no more instances than places, and one more, and so it is of components.
-  few_live : (of : Grant P → ℕ) (live : List (Option (Grant P))) → ((o : Option (Grant P)) → granted_to of o ≤ 1) → sum_by (granted_to of) live ≤ length live
+  -- A party has no more instances than places, and one more, and so it is of components and of heaps.
+  few_live : (of : Grant P PlainHeap → ℕ) (live : List (Option (Grant P PlainHeap))) → ((o : Option (Grant P PlainHeap)) → granted_to of o ≤ 1) → sum_by (granted_to of) live ≤ length live
   few_live of live one = omega (arith, sum_by-le-sum_by (granted_to of) (λ o. 1) live one, ones live)
 
   few_instances : (p : RunningParty P) → (held_by_party p).instances ≤ 1 + length p.live
@@ -158,12 +174,27 @@ module _ {P : Type 0} where
   few_components : (p : RunningParty P) → (held_by_party p).components ≤ 1 + length p.live
   few_components p = omega (arith, phase_components_one p.frame.phase, few_live grant_components p.live one_component)
 
+  phase_heaps_one : (phase : Phase P PlainHeap) → phase_heaps phase ≤ 1
+  phase_heaps_one (UncountHeap lease memory) = omega arith
+  phase_heaps_one _ = omega arith
+
+  one_heap : (o : Option (Grant P PlainHeap)) → granted_to grant_heaps o ≤ 1
+  one_heap None = omega arith
+  one_heap (Some (instance lease)) = omega arith
+  one_heap (Some component) = omega arith
+  one_heap (Some (stack lease)) = omega arith
+  one_heap (Some (heap lease memory)) = omega arith
+
+  few_heaps : (p : RunningParty P) → (held_by_party p).heaps ≤ 1 + length p.live
+  few_heaps p = omega (arith, phase_heaps_one p.frame.phase, few_live grant_heaps p.live one_heap)
+
   -- So all counters can count on.
-  pub can_count : (maker : MakerTold) (c : PoolCore P) (parties : List (RunningParty P)) → IsRunning maker c parties → sum_by (λ p. 1 + length p.live) parties + 1 < 2 ^ 64 → CanCount c
+  pub can_count : (maker : MakerTold) (c : PoolCore P PlainHeap) (parties : List (RunningParty P)) → IsRunning maker c parties → sum_by (λ p. 1 + length p.live) parties + 1 < 2 ^ 64 → CanCount c
   can_count maker c parties running few = record {
     instances = omega (arith, running.whole.instances, sum_by-le-sum_by (λ p. (held_by_party p).instances) (λ p. 1 + length p.live) parties few_instances);
     components = omega (arith, running.whole.components, sum_by-le-sum_by (λ p. (held_by_party p).components) (λ p. 1 + length p.live) parties few_components);
-    memories = omega (arith, few_memories maker c parties running, few_slots c.plan (length c.parts) (memory_slots c.plan) memory_slot running.core.plan (λ k inside. record { pooled = tt; inside = inside }) (λ k. omega arith));
-    stacks = omega (arith, few_stacks maker c parties running, few_slots c.plan (length c.parts) c.plan.totals.stack stack_slot running.core.plan (λ k inside. record { pooled = tt; inside = inside }) (λ k. omega arith));
-    tables = omega (arith, few_tables maker c parties running, few_slots c.plan (length c.parts) c.plan.totals.table table_slot running.core.plan (λ k inside. record { pooled = tt; inside = inside }) (λ k. omega arith));
+    memories = omega (arith, few_memories maker c parties running, few_slots c.plan (length c.parts) (memory_slots c.plan) memory_slot running.core.plan (λ k inside. record { cells = tt; inside = inside }) (λ k. omega arith));
+    stacks = omega (arith, few_stacks maker c parties running, few_slots c.plan (length c.parts) c.plan.totals.stack stack_slot running.core.plan (λ k inside. record { cells = tt; inside = inside }) (λ k. omega arith));
+    heaps = omega (arith, running.whole.heaps, sum_by-le-sum_by (λ p. (held_by_party p).heaps) (λ p. 1 + length p.live) parties few_heaps);
+    tables = omega (arith, few_tables maker c parties running, few_slots c.plan (length c.parts) c.plan.totals.table table_slot running.core.plan (λ k inside. record { cells = tt; inside = inside }) (λ k. omega arith));
   }

@@ -14,11 +14,11 @@ use Rattle.pool_alloc.specs.declared.frame.Grant.{Grant}
 use Rattle.pool_alloc.specs.declared.frame.Outcome.{Outcome}
 use Rattle.pool_alloc.specs.declared.frame.Outcome.TheVariants as answer
 use Rattle.pool_alloc.specs.declared.pool_core.PoolCore.{PoolCore}
-use Rattle.pool_run.specs.Acts.{Act, requests, on_memory, on_table, drops, purges, releases, act_of, Wanted, an_instance, a_component, a_stack}
+use Rattle.pool_run.specs.Acts.{Act, requests, on_memory, on_table, drops, purges, releases, act_of, Wanted, an_instance, a_component, a_stack, a_heap}
 use Rattle.pool_run.specs.Private.{Grants}
 use Rattle.pool_run.specs.Rooms.{World, PooledStep}
 use Rattle.pool_run.specs.RunsMade.{is_drawing}
-use Rattle.pool_run.specs.Ties.{TiedAs, IsPrivate, CanTurn}
+use Rattle.pool_run.specs.Ties.{TiedAs, IsPrivate, CanTurn, seen_by_party}
 use Rattle.pool_run.specs.Turns.{Turned, with_reply, grants_of, answered, Steps, Opening, rests, replies, makes_step, drop_opening, OpensRequest, OpensPurge, OpensAct, OpensNext, OpensAt, Leaves, Turns, OpensWanted}
 use Rattle.pool_run.specs.Worlds.{AreCallsFor}
 use Rattle.pool_run.specs.declared.command.Command.{Command}
@@ -31,6 +31,7 @@ use Rattle.pool_run.proofs.StageSteps.{is_key}
 use Rattle.pool_run.proofs.Stepped.{IsStepped, stepped}
 use Rattle.pool_run.proofs.Stripes.{step_stripe}
 use Rattle.pool_run.proofs.Turning.{SeesTurn}
+use Rattle.pool_slots.specs.declared.listed_heaps.PlainHeap.{PlainHeap}
 
 module _ {P : Type 0} where
   -- the turn drew the party's stripe, and replied to nothing
@@ -46,7 +47,7 @@ module _ {P : Type 0} where
     pub fresh : t.party.keyed ≡ false → (t.party.done ≡ 0) × IsIdle t.party.frame
     pub drawn : is_drawing (stage_of t.party.frame) ≡ false
 
-  answered_keyed : (o : Option (Outcome P)) (c : PoolCore P) (q : RunningParty P) → q.keyed ≡ true → (answered o c q).party.keyed ≡ true
+  answered_keyed : (o : Option (Outcome P PlainHeap)) (c : PoolCore P PlainHeap) (q : RunningParty P) → q.keyed ≡ true → (answered o c q).party.keyed ≡ true
   answered_keyed None c q keyed = keyed
   answered_keyed (Some answer.Key) c q keyed = refl
   answered_keyed (Some (answer.Granted grant)) c q keyed = keyed
@@ -55,22 +56,22 @@ module _ {P : Type 0} where
   answered_keyed (Some (answer.Released n)) c q keyed = keyed
   answered_keyed (Some (answer.Refused e)) c q keyed = keyed
 
-  key_some : (o : Option (Outcome P)) → is_key o ≡ true → is_some o ≡ true
+  key_some : (o : Option (Outcome P PlainHeap)) → is_key o ≡ true → is_some o ≡ true
   key_some None key = absurd cc
   key_some (Some x) key = refl
 
-  key_answered : (o : Option (Outcome P)) (c : PoolCore P) (q : RunningParty P) → is_key o ≡ true → ((answered o c q).reply ≡ None) × ((answered o c q).party.keyed ≡ true)
+  key_answered : (o : Option (Outcome P PlainHeap)) (c : PoolCore P PlainHeap) (q : RunningParty P) → is_key o ≡ true → ((answered o c q).reply ≡ None) × ((answered o c q).party.keyed ≡ true)
   key_answered (Some answer.Key) c q key = (refl, refl)
   key_answered _ c q key = absurd cc
 
-module _ {P : Type 0} (maker : MakerTold) (c : PoolCore P) (p : RunningParty P) (drawn : is_drawing (stage_of p.frame) ≡ false) (fresh : p.keyed ≡ false → (p.done ≡ 0) × IsIdle p.frame) where
+module _ {P : Type 0} (maker : MakerTold) (c : PoolCore P PlainHeap) (p : RunningParty P) (drawn : is_drawing (stage_of p.frame) ≡ false) (fresh : p.keyed ≡ false → (p.done ≡ 0) × IsIdle p.frame) where
   -- A turn opens with a key exactly where there is none yet, and nothing is replied before.
   abbrev IsKeyed : Opening P → Type 0
   IsKeyed rests = Unit {0}
   IsKeyed (replies reply live store) = p.keyed ≡ true
   IsKeyed (makes_step frame live) = is_drawing (stage_of frame) ≡ not p.keyed
 
-  drops_keyed : (of : ℕ) (x : Option (Grant P)) → p.keyed ≡ true → IsKeyed (drop_opening x of p)
+  drops_keyed : (of : ℕ) (x : Option (Grant P PlainHeap)) → p.keyed ≡ true → IsKeyed (drop_opening x of p)
   drops_keyed of None keyed = keyed
   drops_keyed of (Some grant) keyed = ap is_drawing (returned_stage grant p.frame) ∙ sym (ap not keyed)
 
@@ -90,6 +91,7 @@ module _ {P : Type 0} (maker : MakerTold) (c : PoolCore P) (p : RunningParty P) 
   wanted_keyed modules (an_instance number) o keyed opens = requests_keyed (slice_get modules number) o keyed opens
   wanted_keyed modules (a_component info) o keyed opens = subst IsKeyed (sym opens) (sym (ap not keyed))
   wanted_keyed modules a_stack o keyed opens = subst IsKeyed (sym opens) (sym (ap not keyed))
+  wanted_keyed modules (a_heap limits) o keyed opens = subst IsKeyed (sym opens) (sym (ap not keyed))
 
   act_keyed : (modules : List ModuleAsked) (act : Act) (o : Opening P) → p.keyed ≡ true → OpensAct modules act p o → IsKeyed o
   act_keyed modules (requests wanted) o keyed opens = wanted_keyed modules wanted o keyed opens
@@ -116,14 +118,14 @@ module _ {P : Type 0} (maker : MakerTold) (c : PoolCore P) (p : RunningParty P) 
   opens_keyed false modules commands o busy opens = subst IsKeyed (sym opens) (drawn ∙ sym (ap not (busy_keyed busy)))
 
   -- What a step leaves.
-  step_leaves : (frame : Frame P) (live : List (Option (Grant P))) (t : Turned P) → IsStep maker c p frame live → IsKeyed (makes_step frame live) → Leaves (makes_step frame live) c p t → TurnStripe p t
+  step_leaves : (frame : Frame P PlainHeap) (live : List (Option (Grant P PlainHeap))) (t : Turned P) → IsStep maker c p frame live → IsKeyed (makes_step frame live) → Leaves (makes_step frame live) c p t → TurnStripe p t
   step_leaves frame live t step keyed steps =
       let q : RunningParty P = record p { frame = frame; live = live } in
-      let a : After P = steps.0 in
+      let a : After P PlainHeap = steps.0 in
       let on : IsStepped maker steps.1.0 steps.1.1 c frame a = stepped maker steps.1.0 steps.1.1 c frame a (can_step maker c q step.can) steps.1.3 in
-      let left : RunningParty P = record q { frame = a.frame } in
+      let left : RunningParty P = record q { frame = a.frame; heaps = t.party.heaps } in
       let is : (answered a.outcome a.core left).party.frame ≡ a.frame = answered_frame a.outcome a.core left in
-      let ready : is_drawing (stage_of (answered a.outcome a.core left).party.frame) ≡ false = ap (λ (f : Frame P). is_drawing (stage_of f)) is ∙ on.staged.drawn in
+      let ready : is_drawing (stage_of (answered a.outcome a.core left).party.frame) ≡ false = ap (λ (f : Frame P PlainHeap). is_drawing (stage_of f)) is ∙ on.staged.drawn in
       subst (TurnStripe p) (sym steps.2)
       (elim (cases_Bool (is_drawing (stage_of frame))) [
         | inl draws ↦
@@ -137,7 +139,7 @@ module _ {P : Type 0} (maker : MakerTold) (c : PoolCore P) (p : RunningParty P) 
         | inr settled ↦
             let has : p.keyed ≡ true = was_keyed p.keyed (sym keyed ∙ settled) in
             record {
-              stripe = inl (ap (λ (f : Frame P). f.stripe) is ∙ step_stripe steps.1.0 steps.1.1 c frame a settled steps.1.3 ∙ step.stripe);
+              stripe = inl (ap (λ (f : Frame P PlainHeap). f.stripe) is ∙ step_stripe steps.1.0 steps.1.1 c frame a settled steps.1.3 ∙ step.stripe);
               fresh = λ none. not_both (answered a.outcome a.core left).party.keyed (answered_keyed a.outcome a.core left has) none;
               drawn = ready;
             }
@@ -158,7 +160,7 @@ module _ {P : Type 0} (maker : MakerTold) (c : PoolCore P) (p : RunningParty P) 
 
 module _ {P : Type 0} where
   -- What each turn leaves of the party's stripe.
-  pub turn_stripe : (w : World) (modules : List ModuleAsked) (commands : List Command) (c : PoolCore P) (p : RunningParty P) (t : Turned P) → AreCallsFor w.terms c.settings modules → CanTurn w.maker c p → length commands ≤ length p.live → is_drawing (stage_of p.frame) ≡ false → (p.keyed ≡ false → (p.done ≡ 0) × IsIdle p.frame) → Turns modules commands c p t → TurnStripe p t
+  pub turn_stripe : (w : World) (modules : List ModuleAsked) (commands : List Command) (c : PoolCore P PlainHeap) (p : RunningParty P) (t : Turned P) → AreCallsFor w.terms c.settings modules → CanTurn w.maker c p → length commands ≤ length p.live → is_drawing (stage_of p.frame) ≡ false → (p.keyed ≡ false → (p.done ≡ 0) × IsIdle p.frame) → Turns modules commands c p t → TurnStripe p t
   turn_stripe w modules commands c p t calls can room drawn fresh turns =
       leaves_stripe w.maker c p drawn fresh turns.0 t (opened w.maker c p w.terms modules commands turns.0 calls can room turns.1) (opens_keyed w.maker c p drawn fresh (is_idle p.frame.phase) modules commands turns.0 refl turns.1) turns.2
 
@@ -170,5 +172,5 @@ module _ {P : Type 0} where
       let W : List Reply → Type 0 = λ rs. IsPrivate w start commands rs t.party in
       let nothing : with_reply t.reply [] ≡ [] = ap (λ (o : Option Reply). with_reply o []) silent in
       let seen : W [] = subst W nothing sees in
-      let Tied : World → Stage → Type 0 = λ y s. TiedAs y s commands t.party.done t.party.frame.asked (grants_of t.party.live) seen.grants in
-      subst R (sym nothing) (record { grants = seen.grants; run = seen.run; count = seen.count; tied = subst (Tied x) (sym settled) (subst (Tied w) settled seen.tied) })
+      let Tied : World → Stage → Type 0 = λ y s. TiedAs y s commands t.party.done t.party.frame.asked (seen_by_party t.party) seen.told in
+      subst R (sym nothing) (record { told = seen.told; run = seen.run; count = seen.count; tied = subst (Tied x) (sym settled) (subst (Tied w) settled seen.tied) })

@@ -10,7 +10,6 @@ use Rattle.pool_run.specs.Folds.{RunState, commands_of, replies_to, party_by_par
 use Rattle.pool_run.specs.declared.command.Command.{Command}
 use Rattle.pool_run.specs.declared.reply.Reply.{Reply}
 use Rattle.pool_run.specs.declared.running_party.RunningParty.{RunningParty}
-use Rattle.pool_run.proofs.Grants.{state_of}
 
 -- there are no more replies than commands
 pub no_more_replies : (Step : ℕ → PrivateState → Command → Reply → PrivateState → Type 0) (n : ℕ) (commands : List Command) (replies : List Reply) (start end : PrivateState) → StepsBy Step n commands replies start end → length replies ≤ length commands
@@ -21,7 +20,7 @@ no_more_replies Step n (c ∷ commands) (r ∷ replies) start end run = omega (a
 module _ {P : Type 0} where
   -- so that they have places
   pub few_told : (w : World) (commands : List Command) (replies : List Reply) (p : RunningParty P) → IsRunTo w commands replies p → length replies ≤ length p.live
-  few_told w commands replies p to = omega (arith, no_more_replies (PooledStep (seen_by p w)) 0 commands replies (with_grants (no_grants commands)) (state_of to.private.grants p.store.made) to.private.run, to.room)
+  few_told w commands replies p to = omega (arith, no_more_replies (PooledStep (seen_by p w)) 0 commands replies (with_grants (no_grants commands)) to.private.told to.private.run, to.room)
 
   turned_count : (modules : List ModuleAsked) (commands : List Command) (i : ℕ) (o : Option (RunningParty P)) (s new : RunState P) → TurnsIf modules commands i o s new → length new.parties ≡ length s.parties
   turned_count modules commands i None s new turns = ap (λ (x : RunState P). length x.parties) turns

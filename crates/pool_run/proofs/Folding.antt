@@ -11,15 +11,16 @@ use Rattle.pool_alloc.specs.Asked.{ModuleAsked}
 use Rattle.pool_alloc.proofs.Telling.{told_weaker}
 use Rattle.pool_run.specs.PrivateStacks.{StackTerms}
 use Rattle.pool_run.specs.PrivateTables.{Host}
-use Rattle.pool_hall.specs.declared.unit_name.SlotKind.TheVariants.{Stack as stack_kind}
+use Rattle.pool_hall.specs.declared.unit_name.SlotKind.TheVariants.{Table as table_kind, Stack as stack_kind, Heap as heap_kind}
 use Rattle.pool_alloc.specs.Steps.{allocator_of}
 use Rattle.pool_slots.specs.Plans.{has_number}
 use Rattle.pool_slots.specs.declared.plan.Plan.{Plan}
+use Rattle.pool_slots.specs.declared.listed_heaps.PlainHeap.{PlainHeap}
 use Rattle.pool_run.specs.Private.{IsPrivateRun, no_grants}
 use Rattle.pool_run.specs.Rooms.{World, open_host, under, in_stripe, world_at, IsPooledRun}
 use Rattle.pool_run.specs.Turns.{Turned, Turns, with_reply, host_of_party}
 use Rattle.pool_run.specs.Ties.{IsAlone, IsPrivate, CanTurn}
-use Rattle.pool_run.specs.Worlds.{HasStacks, IsWorldOf, IsCallFor, AreCallsFor, HasStripes, HasTables}
+use Rattle.pool_run.specs.Worlds.{HasStacks, IsWorldOf, IsCallFor, AreCallsFor, HasStripes, HasSlots}
 use Rattle.pool_run.specs.Folds.{RunState, commands_of, replies_to, party_by_party, with_turn, TurnsIf, TurnsOf, Folds, Runs, seen_by, IsRunTo, IsUnderWay}
 use Rattle.pool_run.specs.declared.command.Command.{Command}
 use Rattle.pool_run.specs.declared.reply.Reply.{Reply}
@@ -27,14 +28,14 @@ use Rattle.pool_run.specs.declared.running_party.RunningParty.{RunningParty}
 use Rattle.pool_run.proofs.Beginning.{turn_private}
 use Rattle.pool_run.proofs.Drawn.{turn_stripe, still_private}
 use Rattle.pool_run.proofs.Turning.{SeesTurn}
-use Rattle.pool_run.proofs.Grants.{state_of, pooled_private}
+use Rattle.pool_run.proofs.Grants.{pooled_private}
 use Rattle.pool_run.proofs.Running.{can_turn, turned_running}
 use Rattle.pool_run.proofs.Turned.{HasTurned, has_turned, turn_sound}
 use Rattle.pool_run.proofs.LimitsOfRuns.{turn_within, live_within}
 use Rattle.pool_run.specs.Limits.{IsWithinCounts}
 
 module _ {P : Type 0} where
-  stacks_over : (t : StackTerms) (c d : PoolCore P) → IsSameSize c d → HasStacks t c → HasStacks t d
+  stacks_over : (t : StackTerms) (c d : PoolCore P PlainHeap) → IsSameSize c d → HasStacks t c → HasStacks t d
   stacks_over t c d size has =
       let Room : Plan → Type 0 = λ plan. (allocator_of plan stack_kind 0).capacity ≡ t.slots in
       let Each : Plan → Type 0 = λ plan. (slot : ℕ) → slot < t.slots → has_number (allocator_of plan stack_kind 0) slot ≡ true in
@@ -47,12 +48,12 @@ module _ {P : Type 0} where
       }
 
   -- The world stays that of the pool.
-  world_over : (w : World) (c d : PoolCore P) → IsSameSize c d → IsWorldOf w c → IsWorldOf w d
-  world_over w c d size world = record { tells = world.tells; settings = world.settings ∙ sym size.settings; plan = subst (HasStripes w.terms.slots w.terms.settings.num_stripes) (sym size.plan) world.plan; tables = subst (HasTables w.terms.table_slots) (sym size.plan) world.tables; stacks = stacks_over w.terms.stacks c d size world.stacks }
+  world_over : (w : World) (c d : PoolCore P PlainHeap) → IsSameSize c d → IsWorldOf w c → IsWorldOf w d
+  world_over w c d size world = record { tells = world.tells; settings = world.settings ∙ sym size.settings; plan = subst (HasStripes w.terms.slots w.terms.settings.num_stripes) (sym size.plan) world.plan; tables = subst (HasSlots table_kind w.terms.table_slots) (sym size.plan) world.tables; heaps = subst (HasSlots heap_kind w.terms.heap_slots) (sym size.plan) world.heaps; stacks = stacks_over w.terms.stacks c d size world.stacks }
 
   -- The world is the pool's as each party sees it.
-  world_seen : (p : RunningParty P) (w : World) (c : PoolCore P) → IsWorldOf w c → IsWorldOf (seen_by p w) c
-  world_seen p w c world = record { tells = world.tells; settings = world.settings; plan = world.plan; tables = world.tables; stacks = world.stacks }
+  world_seen : (p : RunningParty P) (w : World) (c : PoolCore P PlainHeap) → IsWorldOf w c → IsWorldOf (seen_by p w) c
+  world_seen p w c world = record { tells = world.tells; settings = world.settings; plan = world.plan; tables = world.tables; heaps = world.heaps; stacks = world.stacks }
 
   calls_seen : (p : RunningParty P) (w : World) (s : Settings) (modules : List ModuleAsked) → AreCallsFor w.terms s modules → AreCallsFor (seen_by p w).terms s modules
   calls_seen p w s modules calls number =
@@ -60,13 +61,13 @@ module _ {P : Type 0} where
       (λ m for. record { asked = record { of_module = for.asked.of_module; info = for.asked.info; memories = for.asked.memories }; fit = for.fit }) (calls number)
 
 module _ {P : Type 0} where
-  calls_over : (w : World) (modules : List ModuleAsked) (c d : PoolCore P) → IsSameSize c d → AreCallsFor w.terms c.settings modules → AreCallsFor w.terms d.settings modules
+  calls_over : (w : World) (modules : List ModuleAsked) (c d : PoolCore P PlainHeap) → IsSameSize c d → AreCallsFor w.terms c.settings modules → AreCallsFor w.terms d.settings modules
   calls_over w modules c d size calls =
       let Calls : Settings → Type 0 = λ s. AreCallsFor w.terms s modules in
       subst Calls (sym size.settings) calls
 
   -- One party's turn.
-  run_to : (w : World) (modules : List ModuleAsked) (commands : List Command) (replies : List Reply) (c : PoolCore P) (p : RunningParty P) (t : Turned P) → IsWorldOf w c → AreCallsFor w.terms c.settings modules → CanTurn w.maker c p → (w.alone ≡ true → IsAlone c p.frame p.live) → IsRunTo w commands replies p → Turns modules commands c p t → HasTurned c p t → IsRunTo w commands (with_reply t.reply replies) t.party
+  run_to : (w : World) (modules : List ModuleAsked) (commands : List Command) (replies : List Reply) (c : PoolCore P PlainHeap) (p : RunningParty P) (t : Turned P) → IsWorldOf w c → AreCallsFor w.terms c.settings modules → CanTurn w.maker c p → (w.alone ≡ true → IsAlone c p.frame p.live) → IsRunTo w commands replies p → Turns modules commands c p t → HasTurned c p t → IsRunTo w commands (with_reply t.reply replies) t.party
   run_to w modules commands replies c p t world calls can alone to turns turned = record {
     room = turned.room ∙ to.room;
     private =
@@ -86,7 +87,7 @@ module _ {P : Type 0} where
   }
 
   -- A party that is alone stays so.
-  alone_turned : (c : PoolCore P) (p : RunningParty P) (t : Turned P) → HasTurned c p t → IsAlone c p.frame p.live → IsAlone t.core t.party.frame t.party.live
+  alone_turned : (c : PoolCore P PlainHeap) (p : RunningParty P) (t : Turned P) → HasTurned c p t → IsAlone c p.frame p.live → IsAlone t.core t.party.frame t.party.live
   alone_turned c p t turned alone = record {
     places = λ x. omega (arith, turned.places x, alone.places x);
     instances = omega (arith, turned.instances, alone.instances);
@@ -183,7 +184,7 @@ module _ {P : Type 0} where
       let p : RunningParty P = slice_index_or s.parties i d in
       let same : host_of_party p ≡ slice_index_or w.hosts i open_host = sym (get_or-map host_of_party s.parties i d open_host below) ∙ ap (λ (hosts : List Host). slice_index_or hosts i open_host) way.hosts in
       let By : Host → Type 0 = λ host. IsPooledRun (in_stripe p.frame.stripe (under host w)) (commands_of inputs i) (replies_to i s.replies) in
-      subst By same (state_of to.private.grants p.store.made, to.private.run)
+      subst By same (to.private.told, to.private.run)
 
   pub replies_private : (w : World) (modules : List ModuleAsked) (inputs : List (List Command)) (s : RunState P) (i : ℕ) (d : RunningParty P) → IsUnderWay w modules inputs s → i < length s.parties → IsPrivateRun (world_at w i (slice_index_or s.parties i d).frame.stripe).terms (commands_of inputs i) (replies_to i s.replies)
   replies_private w modules inputs s i d way below = pooled_private (world_at w i (slice_index_or s.parties i d).frame.stripe) (commands_of inputs i) (replies_to i s.replies) (replies_pooled w modules inputs s i d way below)

@@ -7,6 +7,7 @@ use Rattle.std.proofs.lemmas.List.Elements.{All-map}
 use Rattle.std.proofs.lemmas.List.Sums.{sum_by-cons, get_or-le-sum_by}
 use Rattle.pool_slots.specs.declared.slot_name.RegionNumbers.{RegionNumbers}
 use Rattle.pool_slots.specs.declared.slot_name.SlotName.{SlotName}
+use Rattle.pool_slots.specs.declared.listed_heaps.PlainHeap.{PlainHeap}
 use Rattle.pool_alloc.specs.Places.{right_to, both_count, slot_count}
 use Rattle.pool_alloc.specs.Stepping.{grant_count}
 use Rattle.pool_alloc.specs.declared.frame.Grant.{Grant}
@@ -61,9 +62,9 @@ module _ {L : Type 0} (named : ℕ → SlotName) (index : L → ℕ) (numbers : 
       omega (arith, some, there, none))
 
   -- the leases of a kind that a grant has, and how its party sees them
-  module _ {P X : Type 0} (items : Grant P → List L) (seen : L → X) (slot_in : X → ℕ) (objects : PrivateGrant → List X) (its : (l : L) → slot_in (seen l) ≡ index l) (sees : (g : Grant P) → objects (private_grant g) ≡ map seen (items g)) (counted : (k : ℕ) (g : Grant P) → grant_count (right_to (named k)) g ≡ times k (items g)) where
+  module _ {P X : Type 0} (items : Grant P PlainHeap → List L) (seen : L → X) (slot_in : X → ℕ) (objects : PrivateGrant → List X) (its : (l : L) → slot_in (seen l) ≡ index l) (sees : (g : Grant P PlainHeap) → objects (private_grant g) ≡ map seen (items g)) (counted : (k : ℕ) (g : Grant P PlainHeap) → grant_count (right_to (named k)) g ≡ times k (items g)) where
     -- what a live grant has is counted
-    grant_counted : (of : Grant P → ℕ) (live : List (Option (Grant P))) (j : ℕ) (grant : Grant P) → slice_index_or live j None ≡ Some grant → of grant ≤ sum_by (granted_to of) live
+    grant_counted : (of : Grant P PlainHeap → ℕ) (live : List (Option (Grant P PlainHeap))) (j : ℕ) (grant : Grant P PlainHeap) → slice_index_or live j None ≡ Some grant → of grant ≤ sum_by (granted_to of) live
     grant_counted of [] j grant is = absurd cc
     grant_counted of (x ∷ xs) zero grant is =
         let here : granted_to of x ≡ of grant = ap (granted_to of) is in
@@ -71,10 +72,10 @@ module _ {L : Type 0} (named : ℕ → SlotName) (index : L → ℕ) (numbers : 
     grant_counted of (x ∷ xs) (suc j) grant is = omega (arith, sum_by-cons (granted_to of) x xs, grant_counted of xs j grant is)
 
     -- the leases and the live grants have no slot together, and no slot that isn't one of the pool
-    abbrev AreApart : List L → List (Option (Grant P)) → ℕ → Type 0
+    abbrev AreApart : List L → List (Option (Grant P PlainHeap)) → ℕ → Type 0
     AreApart leases live total = (k : ℕ) → times k leases + sum_by (granted_to (grant_count (right_to (named k)))) live ≤ made_slot k total
 
-    slots_inside : (leases : List L) (live : List (Option (Grant P))) (total : ℕ) → AreApart leases live total → All (λ slot. slot < total) (map index leases)
+    slots_inside : (leases : List L) (live : List (Option (Grant P PlainHeap))) (total : ℕ) → AreApart leases live total → All (λ slot. slot < total) (map index leases)
     slots_inside leases live total apart =
         All-map (λ slot. slot < total) index leases
         (λ i d below. made_inside (index (get_or leases i d)) total (omega (arith, lease_counted leases i d below, apart (index (get_or leases i d)))))
@@ -83,13 +84,13 @@ module _ {L : Type 0} (named : ℕ → SlotName) (index : L → ℕ) (numbers : 
     abbrev HasNoneIn : ℕ → Grants → Type 0
     HasNoneIn slot grants = (i : ℕ) → IfSome (grant_at grants i) (λ g. All (λ m. slot_in m ≢ slot) (objects g))
 
-    grant_free : (slot : ℕ) (live : List (Option (Grant P))) (j : ℕ) (x : Option (Grant P)) → slice_index_or live j None ≡ x → sum_by (granted_to (grant_count (right_to (named slot)))) live ≡ 0 → IfSome (option_map private_grant x) (λ g. All (λ m. slot_in m ≢ slot) (objects g))
+    grant_free : (slot : ℕ) (live : List (Option (Grant P PlainHeap))) (j : ℕ) (x : Option (Grant P PlainHeap)) → slice_index_or live j None ≡ x → sum_by (granted_to (grant_count (right_to (named slot)))) live ≡ 0 → IfSome (option_map private_grant x) (λ g. All (λ m. slot_in m ≢ slot) (objects g))
     grant_free slot live j None is none = tt
     grant_free slot live j (Some g) is none =
         let None_in : List X → Type 0 = λ ms. All (λ m. slot_in m ≢ slot) ms in
         subst None_in (sym (sees g)) (others_free seen slot_in its slot (items g) (omega (arith, counted slot g, grant_counted (grant_count (right_to (named slot))) live j g is, none)))
 
-    slots_free : (leases : List L) (live : List (Option (Grant P))) (told : Grants) (total : ℕ) → grants_of live ≡ told → AreApart leases live total → All (λ slot. HasNoneIn slot told) (map index leases)
+    slots_free : (leases : List L) (live : List (Option (Grant P PlainHeap))) (told : Grants) (total : ℕ) → grants_of live ≡ told → AreApart leases live total → All (λ slot. HasNoneIn slot told) (map index leases)
     slots_free leases live told total is apart =
         All-map (λ slot. HasNoneIn slot told) index leases
         (λ i d below j.
@@ -99,7 +100,7 @@ module _ {L : Type 0} (named : ℕ → SlotName) (index : L → ℕ) (numbers : 
         (grant_free slot live j (slice_index_or live j None) refl (omega (arith, lease_counted leases i d below, apart slot, made_once slot total))))
 
     -- So it is of leases that are granted beside these.
-    pub are_free : (leases : List L) (live : List (Option (Grant P))) (told : Grants) (total count : ℕ) → grants_of live ≡ told → AreApart leases live total → count + length leases ≤ total → AreFreeSlots total count (λ slot. HasNoneIn slot told) (map index leases)
+    pub are_free : (leases : List L) (live : List (Option (Grant P PlainHeap))) (told : Grants) (total count : ℕ) → grants_of live ≡ told → AreApart leases live total → count + length leases ≤ total → AreFreeSlots total count (λ slot. HasNoneIn slot told) (map index leases)
     are_free leases live told total count seen apart few = record {
       inside = slots_inside leases live total apart;
       free = slots_free leases live told total seen apart;

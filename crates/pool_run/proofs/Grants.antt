@@ -8,10 +8,11 @@ use Rattle.pool_run.specs.Rooms.{World, PooledStep, IsPooledRun}
 use Rattle.pool_run.specs.Turns.{private_grant, grants_of}
 use Rattle.pool_run.specs.declared.command.Command.{Command}
 use Rattle.pool_run.specs.declared.reply.Reply.{Reply}
+use Rattle.pool_slots.specs.declared.listed_heaps.PlainHeap.{PlainHeap}
 
--- a party with these grants, which called its store so often
-abbrev pub state_of : Grants → ℕ → PrivateState
-state_of grants stores = record (with_grants grants) { stores = stores }
+-- a party with these grants, which called its store and its maker of heaps so often
+abbrev pub state_of : Grants → ℕ → ℕ → PrivateState
+state_of grants stores heaps = record { grants = grants; stores = stores; heaps = heaps }
 
 -- a place that is there, among the maps of those that are
 pub mapped_at : {A B : Type 0} (f : A → B) (xs : List (Option A)) (i : ℕ) → slice_index_or (map (option_map f) xs) i None ≡ option_map f (slice_index_or xs i None)
@@ -21,14 +22,14 @@ mapped_at f (x ∷ xs) (suc i) = mapped_at f xs i
 
 module _ {P : Type 0} where
   -- a change of one place changes that grant alone
-  pub grants_set : (live : List (Option (Grant P))) (i : ℕ) (x : Option (Grant P)) → grants_of (slice_set live i x) ≡ slice_set (grants_of live) i (option_map private_grant x)
+  pub grants_set : (live : List (Option (Grant P PlainHeap))) (i : ℕ) (x : Option (Grant P PlainHeap)) → grants_of (slice_set live i x) ≡ slice_set (grants_of live) i (option_map private_grant x)
   grants_set live i x = map-set (option_map private_grant) live i x
 
-  pub grants_at : (live : List (Option (Grant P))) (i : ℕ) → grant_at (grants_of live) i ≡ option_map private_grant (slice_index_or live i None)
+  pub grants_at : (live : List (Option (Grant P PlainHeap))) (i : ℕ) → grant_at (grants_of live) i ≡ option_map private_grant (slice_index_or live i None)
   grants_at live i = mapped_at private_grant live i
 
   -- what the party sees in a place, where it has a grant there or none
-  pub told_at : (live : List (Option (Grant P))) (told : Grants) (i : ℕ) (x : Option (Grant P)) → grants_of live ≡ told → slice_index_or live i None ≡ x → grant_at told i ≡ option_map private_grant x
+  pub told_at : (live : List (Option (Grant P PlainHeap))) (told : Grants) (i : ℕ) (x : Option (Grant P PlainHeap)) → grants_of live ≡ told → slice_index_or live i None ≡ x → grant_at told i ≡ option_map private_grant x
   told_at live told i x is has = ap (λ (g : Grants). grant_at g i) (sym is) ∙ grants_at live i ∙ ap (option_map private_grant) has
 
 -- one reply more

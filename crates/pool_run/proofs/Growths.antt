@@ -26,7 +26,7 @@ fault_in_place e size (stored len bytes) left is = absurd is
 fault_in_place e size (in_slot s) (stored len bytes) is = absurd is
 fault_in_place e size (in_slot s) (in_slot t) is = is.0
 
-reported_seen : (r : Result (Unit {0}) LimiterError) → growth_reply (report_result false r) ≡ reported r
+pub reported_seen : (r : Result (Unit {0}) LimiterError) → growth_reply (report_result false r) ≡ reported r
 reported_seen (Ok u) = refl
 reported_seen (Err e) = refl
 

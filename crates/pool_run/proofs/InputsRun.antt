@@ -49,6 +49,7 @@ use Rattle.pool_run.proofs.BuiltInputs.{built_modules}
 use Rattle.pool_alloc.proofs.MadePools.{made_untouched}
 use Rattle.pool_run.proofs.MadeRuns.{core_sound}
 use Rattle.pool_run.proofs.WorldsMade.{is_world, are_calls_for}
+use Rattle.pool_slots.specs.declared.listed_heaps.PlainHeap.{PlainHeap}
 
 -- Each command names a module that there is.
 names : (modules : List ModuleInfo) (earlier : List Command) (act : Act) → is_valid_act modules earlier act ≡ true → NamesModule (length modules) act
@@ -91,7 +92,7 @@ homes_below input parties same valid k d below =
     subst Below (sym same) (omega (arith, valid_home input k (get_or input.parties k d) valid (slice_get-get_or input.parties k d inside)))
 
 places_of : (P : Type 0) (s : Settings) (party : Party) → length (party_made_for {P = P} s party).live ≡ length party.commands
-places_of P s party = length-replicate {A = Option (Grant P)} (length party.commands) None
+places_of P s party = length-replicate {A = Option (Grant P PlainHeap)} (length party.commands) None
 
 -- There are not too many places.
 places_below : (P : Type 0) (s : Settings) (parties : List Party) → ((k : ℕ) (d : Party) → k < length parties → length (get_or parties k d).commands ≤ most_commands) → places_in (parties_made {P = P} s parties) ≤ length parties * 100001
@@ -107,14 +108,14 @@ calls_count tunables page n [] = refl
 calls_count tunables page n (m ∷ ms) = omega (arith, calls_count tunables page (n + 1) ms)
 
 module _ {P : Type 0} where
-  pub few_places : (input : Input) (c : PoolCore P) (parties : List Party) → parties ≡ input.parties → is_valid input ≡ true → places_in (parties_made {P = P} c.settings parties) + 1 < 2 ^ 64
+  pub few_places : (input : Input) (c : PoolCore P PlainHeap) (parties : List Party) → parties ≡ input.parties → is_valid input ≡ true → places_in (parties_made {P = P} c.settings parties) + 1 < 2 ^ 64
   few_places input c parties same valid =
       let Few : List Party → Type 0 = λ ps. places_in (parties_made {P = P} c.settings ps) + 1 < 2 ^ 64 in
       subst Few (sym same)
       (omega (arith, valid_parties input valid, places_below P c.settings input.parties (λ k d below. few_commands input k (get_or input.parties k d) valid (slice_get-get_or input.parties k d below))))
 
   -- The run as it is made is under way.
-  under_way : (input : Input) (maker : MakerTold) (c : PoolCore P) (modules : List ModuleAsked) → IsCore maker c → IsUntouched c → IsWorldOf (world_of input maker) c → AreCallsFor (world_of input maker).terms c.settings modules → IsUnderWay (world_of input maker) modules (commands_in input.parties) (record { core = c; modules = modules; parties = parties_made c.settings input.parties; replies = nothing_told input.parties })
+  under_way : (input : Input) (maker : MakerTold) (c : PoolCore P PlainHeap) (modules : List ModuleAsked) → IsCore maker c → IsUntouched c → IsWorldOf (world_of input maker) c → AreCallsFor (world_of input maker).terms c.settings modules → IsUnderWay (world_of input maker) modules (commands_in input.parties) (record { core = c; modules = modules; parties = parties_made c.settings input.parties; replies = nothing_told input.parties })
   under_way input maker c modules core untouched world calls =
       let w : World = world_of input maker in
       let parties : List (RunningParty P) = map (party_made_for {P = P} c.settings) input.parties in
@@ -122,7 +123,7 @@ module _ {P : Type 0} where
       let Way : ℕ → Type 0 = λ n. IsUnderWay w modules (commands_in input.parties) (record { core = c; modules = modules; parties = parties; replies = replicate n [] }) in
       subst Way count (run_started w modules (commands_in input.parties) c parties core untouched world calls (are_made c.settings input.parties) (hosts_made P c.settings input.parties) (λ alone. count ∙ eqb-true (length input.parties) 1 alone))
 
-  calls_there : (input : Input) (maker : MakerTold) (c : PoolCore P) (modules : List ModuleAsked) → is_built input ≡ true → IsCore maker c → modules ≡ calls_made input.tunables maker.page 0 input.modules → AreCallsFor (world_of input maker).terms c.settings modules
+  calls_there : (input : Input) (maker : MakerTold) (c : PoolCore P PlainHeap) (modules : List ModuleAsked) → is_built input ≡ true → IsCore maker c → modules ≡ calls_made input.tunables maker.page 0 input.modules → AreCallsFor (world_of input maker).terms c.settings modules
   calls_there input maker c modules built core calls = are_calls_for (world_of input maker).terms c.settings modules (built_modules input built) core.page (omega (arith, core.settings.page.at_least)) calls
 
   pub made_under_way : (input : Input) (maker : MakerTold) (run : RunParts P) → IsRunnable input maker → IsMadeRun input maker run → IsUnderWay (world_of input maker) run.modules (commands_in input.parties) (told_state run (nothing_told input.parties))
@@ -189,14 +190,14 @@ module _ {P : Type 0} where
         replies = replies;
         told = λ i below.
             let Told : List (List Reply) → Type 0 = λ rs. IsToldBy input.finish (world_seen input maker end.parties i).terms (commands_of (commands_in input.parties) i) (replies_to i rs) in
-            subst Told (sym replies) (told_by input.finish w run.modules (commands_in input.parties) (turns_of input.schedule) (told_state run (nothing_told input.parties)) end i (party_made 0 None [] run.core.settings 0) (made_under_way input maker run runnable made) performed (omega (arith, below, made_count input maker run made)));
+            subst Told (sym replies) (told_by input.finish w run.modules (commands_in input.parties) (turns_of input.schedule) (told_state run (nothing_told input.parties)) end i (party_made 0 None [] [] run.core.settings 0) (made_under_way input maker run runnable made) performed (omega (arith, below, made_count input maker run made)));
         room = λ i below.
             let ended = performed_under_way input.finish w run.modules (commands_in input.parties) (turns_of input.schedule) (told_state run (nothing_told input.parties)) end (made_under_way input maker run runnable made) performed in
             let Told : List (List Reply) → Type 0 = λ rs. IsPooledRun (world_seen input maker end.parties i) (commands_of (commands_in input.parties) i) (replies_to i rs) in
             let inside : i < length end.parties = omega (arith, below, made_count input maker run made, ended.1) in
             subst Told (sym replies)
-            (at_stripe (λ n. IsPooledRun (world_at w i n) (commands_of (commands_in input.parties) i) (replies_to i end.replies)) end.parties i (party_made 0 None [] run.core.settings 0) inside
-            (replies_pooled w run.modules (commands_in input.parties) end i (party_made 0 None [] run.core.settings 0) ended.0 inside));
+            (at_stripe (λ n. IsPooledRun (world_at w i n) (commands_of (commands_in input.parties) i) (replies_to i end.replies)) end.parties i (party_made 0 None [] [] run.core.settings 0) inside
+            (replies_pooled w run.modules (commands_in input.parties) end i (party_made 0 None [] [] run.core.settings 0) ended.0 inside));
         metrics = metrics;
         calls_made = numbers;
       }

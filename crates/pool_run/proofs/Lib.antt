@@ -1,4 +1,6 @@
 pub mod Advanced
+pub mod AlikeBytes
+pub mod AlikeTables
 pub mod Beginning
 pub mod Between
 pub mod BuiltInputs
@@ -17,6 +19,9 @@ pub mod Following
 pub mod FreeSlots
 pub mod Grants
 pub mod Growths
+pub mod HeapCalls
+pub mod HeapFaults
+pub mod HeapRequests
 pub mod HeldSlots
 pub mod InputsRun
 pub mod LeaseChanges
@@ -26,6 +31,17 @@ pub mod MadeRuns
 pub mod Makings
 pub mod Moves
 pub mod Named
+pub mod OnDemandAlike
+pub mod OnDemandFolding
+pub mod OnDemandGrants
+pub mod OnDemandHeaps
+pub mod OnDemandMade
+pub mod OnDemandMoves
+pub mod OnDemandParties
+pub mod OnDemandRefused
+pub mod OnDemandRequests
+pub mod OnDemandStarted
+pub mod OnDemandTables
 pub mod Opened
 pub mod Operations
 pub mod Parties
@@ -38,6 +54,7 @@ pub mod RunMade
 pub mod Running
 pub mod SameFlushes
 pub mod SameFolds
+pub mod SameHeaps
 pub mod SameMoves
 pub mod SameRuns
 pub mod SameSlots

@@ -17,29 +17,30 @@ use Rattle.pool_run.specs.declared.running_party.RunningParty.{RunningParty}
 use Rattle.pool_run.proofs.Limits.{admitted_held, party_within, MayHave, no_more, one_more, party_components}
 use Rattle.pool_run.proofs.Running.{can_turn}
 use Rattle.pool_run.proofs.Turned.{has_turned}
+use Rattle.pool_slots.specs.declared.listed_heaps.PlainHeap.{PlainHeap}
 
 module _ {P : Type 0} where
   -- All that is admitted is counted, and all components that are live are.
-  admitted_is_counted : (c : PoolCore P) (parties : List (RunningParty P)) → IsPartitioned held_by_party c parties → sum_by admitted_to parties ≤ c.counters.core_instances
+  admitted_is_counted : (c : PoolCore P PlainHeap) (parties : List (RunningParty P)) → IsPartitioned held_by_party c parties → sum_by admitted_to parties ≤ c.counters.core_instances
   admitted_is_counted c parties whole = omega (arith, whole.instances, sum_by-le-sum_by admitted_to (λ p. (held_by_party p).instances) parties admitted_held)
 
-  components_are_counted : (c : PoolCore P) (parties : List (RunningParty P)) → IsPartitioned held_by_party c parties → sum_by live_components parties ≤ c.counters.component_instances
+  components_are_counted : (c : PoolCore P PlainHeap) (parties : List (RunningParty P)) → IsPartitioned held_by_party c parties → sum_by live_components parties ≤ c.counters.component_instances
   components_are_counted c parties whole = omega (arith, whole.components, sum_by-le-sum_by live_components (λ p. (held_by_party p).components) parties (λ p. omega arith))
 
   -- Over a pool that nobody has used yet nothing is admitted.
-  pub made_within : (c : PoolCore P) (parties : List (RunningParty P)) → IsUntouched c → IsPartitioned held_by_party c parties → IsWithinCounts c parties
+  pub made_within : (c : PoolCore P PlainHeap) (parties : List (RunningParty P)) → IsUntouched c → IsPartitioned held_by_party c parties → IsWithinCounts c parties
   made_within c parties untouched whole = record {
     instances = omega (arith, untouched.instances, admitted_is_counted c parties whole);
     components = omega (arith, untouched.components, components_are_counted c parties whole);
   }
 
   -- what all have, once a party has no more, or one more where there may be more
-  had_by : (c : PoolCore P) (parties : List (RunningParty P)) (i : ℕ) (d : RunningParty P) (t : Turned P) → i < length parties → sum_by live_components parties ≤ c.settings.max_component_instances → sum_by live_components parties ≤ c.counters.component_instances → MayHave c (slice_index_or parties i d) t → sum_by live_components (slice_set parties i t.party) ≤ c.settings.max_component_instances
+  had_by : (c : PoolCore P PlainHeap) (parties : List (RunningParty P)) (i : ℕ) (d : RunningParty P) (t : Turned P) → i < length parties → sum_by live_components parties ≤ c.settings.max_component_instances → sum_by live_components parties ≤ c.counters.component_instances → MayHave c (slice_index_or parties i d) t → sum_by live_components (slice_set parties i t.party) ≤ c.settings.max_component_instances
   had_by c parties i d t below within counted (no_more fewer) = omega (arith, within, fewer, sum_by-set live_components parties i t.party d below)
   had_by c parties i d t below within counted (one_more few room) = omega (arith, counted, few, room, sum_by-set live_components parties i t.party d below)
 
   -- A turn of one of the parties.
-  pub turn_within : (w : World) (modules : List ModuleAsked) (commands : List Command) (c : PoolCore P) (parties : List (RunningParty P)) (i : ℕ) (d : RunningParty P) (t : Turned P) → AreCallsFor w.terms c.settings modules → IsRunning w.maker c parties → i < length parties → length commands ≤ length (slice_index_or parties i d).live → Turns modules commands c (slice_index_or parties i d) t → IsWithinCounts c parties → IsWithinCounts t.core (slice_set parties i t.party)
+  pub turn_within : (w : World) (modules : List ModuleAsked) (commands : List Command) (c : PoolCore P PlainHeap) (parties : List (RunningParty P)) (i : ℕ) (d : RunningParty P) (t : Turned P) → AreCallsFor w.terms c.settings modules → IsRunning w.maker c parties → i < length parties → length commands ≤ length (slice_index_or parties i d).live → Turns modules commands c (slice_index_or parties i d) t → IsWithinCounts c parties → IsWithinCounts t.core (slice_set parties i t.party)
   turn_within w modules commands c parties i d t calls running below room turns within =
       let p : RunningParty P = slice_index_or parties i d in
       let can : CanTurn w.maker c p = can_turn w.maker c parties i d running below in
@@ -57,5 +58,5 @@ module _ {P : Type 0} where
       }
 
   -- What is admitted has all that is live.
-  pub live_within : (c : PoolCore P) (parties : List (RunningParty P)) → IsWithinCounts c parties → sum_by live_instances parties ≤ c.settings.max_core_instances
+  pub live_within : (c : PoolCore P PlainHeap) (parties : List (RunningParty P)) → IsWithinCounts c parties → sum_by live_instances parties ≤ c.settings.max_core_instances
   live_within c parties within = omega (arith, within.instances, sum_by-le-sum_by live_instances admitted_to parties (λ p. omega arith))

@@ -11,9 +11,10 @@ use Rattle.pool_alloc.proofs.MadePools.{made_core}
 use Rattle.pool_run.specs.Agreeing.{IsRunnable}
 use Rattle.pool_run.specs.declared.input.Input.{Input}
 use Rattle.pool_run.proofs.RulesNamed.{page_sized}
+use Rattle.pool_slots.specs.declared.listed_heaps.PlainHeap.{PlainHeap}
 
 module _ {P : Type 0} where
-  pub core_sound : (input : Input) (maker : MakerTold) (c : PoolCore P) → IsRunnable input maker → IsMadeCore maker input.config input.tunables input.offered input.shards c → IsCore maker c
+  pub core_sound : (input : Input) (maker : MakerTold) (c : PoolCore P PlainHeap) → IsRunnable input maker → IsMadeCore maker input.config input.tunables input.offered input.shards c → IsCore maker c
   core_sound input maker c runnable made =
       let page : IsPageSize input.page = page_sized input runnable.rules in
       let rules : IsWithinRules input.config input.tunables input.page input.shards input.offered = within_rules input.config input.tunables input.page input.shards input.offered page runnable.rules in

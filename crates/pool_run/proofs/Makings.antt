@@ -7,7 +7,7 @@ use Rattle.std.proofs.lemmas.List.{length-append, get_or_append_left, get_or-app
 use Rattle.std.proofs.lemmas.List.FromFn.{length-map-range_with_len, get_or-map-range_with_len}
 use Rattle.std.proofs.lemmas.List.Folds.{list_any-append}
 use Rattle.pool_pages.specs.MakerTold.{MakerTold, Planned}
-use Rattle.pool_pages.specs.Told.{Rose}
+use Rattle.pool_pages.specs.Told.{Told, Rose}
 use Rattle.pool_pages.specs.declared.module_types.ModuleInfo.{ModuleInfo}
 use Rattle.pool_pages.specs.declared.module_types.Tunables.{Tunables}
 use Rattle.pool_pages.specs.MakerTold.{fails_making}
@@ -22,8 +22,8 @@ use Rattle.pool_images.proofs.Begun.{rounded_up_above}
 use Rattle.pool_pages.specs.Count.{rounded_up}
 use Rattle.pool_pages.specs.MakerTold.{calls_of, plan_for}
 use Rattle.pool_pages.specs.SettingsRules.{first_broken_rule, slab_stripes, may_stripe}
-use Rattle.pool_slots.specs.Colourings.{stripe_colour, fails_first_call, fails_colouring, fails_region, IsUncoloured}
-use Rattle.pool_slots.specs.PartsMade.{nth_region, region_count, region_name, fails_slot, IsUnguarded, IsGivenUp as IsSlotGivenUp}
+use Rattle.pool_slots.specs.Colourings.{stripe_colour, fails_first_call, fails_colouring, fails_region, FaultedColouring}
+use Rattle.pool_slots.specs.PartsMade.{nth_region, region_count, region_name, fails_slot, IsGivenUp as IsSlotGivenUp}
 use Rattle.pool_slots.specs.Slabs.{stripe_of}
 use Rattle.pool_slots.specs.declared.part_maker.PartSettings.{PartSettings}
 use Rattle.pool_slots.specs.declared.queued_range.QueueKind.{QueueKind}
@@ -82,8 +82,8 @@ images_list : (input : Input) (plan : Option (List Planned)) → IfSome plan (λ
 images_list input None listed = tt
 images_list input (Some p) listed = or_right (list_any (region_listed p) (makings_for input)) (images_listed input.tunables input.page 0 p input.modules) listed
 
-pub images_fault : (input : Input) (modules : List ModuleInfo) (page : ℕ) (old new : MakerTold) → modules ≡ input.modules → page ≡ input.page → ModulesFault input.tunables page modules old new → FaultsInMaking input old new
-images_fault input modules page old new same is fault =
+pub images_fault : {P : Type 0} (told : P → Told) (input : Input) (modules : List ModuleInfo) (page : ℕ) (old new : MakerTold) → modules ≡ input.modules → page ≡ input.page → ModulesFault input.tunables page modules old new → FaultsInMaking told input old new
+images_fault told input modules page old new same is fault =
     let Fault : List ModuleInfo → ℕ → Type 0 = λ ms n. ModulesFault input.tunables n ms old new in
     let here : Fault input.modules input.page = subst (Fault input.modules) is (subst (λ (ms : List ModuleInfo). Fault ms page) same fault) in
     record {
@@ -304,10 +304,6 @@ module _ (input : Input) where
   regions_list (Some p) listed = or_left (list_any (region_listed p) (makings_for input)) (images_listed input.tunables input.page 0 p input.modules) listed
 
   -- a region that is given up is one of those that are made
-  colour_some : (b : Bool) (colour : ℕ) → IsSome (if b then Some colour else None) → b ≡ true
-  colour_some true colour some = refl
-  colour_some false colour some = absurd cc
-
   uncoloured_by : (b : Bool) (colour len : ℕ) (calls : List ℕ) → 0 < len → b ≡ true → fails_colouring (if b then Some colour else None) len calls ≡ true → list_any (λ n. n == 1) calls ≡ true
   uncoloured_by true colour len calls some is fails = sym (first_call len calls some) ∙ fails
   uncoloured_by false colour len calls some is fails = absurd cc
@@ -316,21 +312,30 @@ module _ (input : Input) where
   told_calls None Q R all is = tt
   told_calls (Some calls) Q R all is = all calls is
 
-  pub gives_up : (maker : MakerTold) → maker.page ≡ input.page → GivesUpRegion input.config input.tunables input.offered input.shards maker → GivesUp input maker
-  gives_up maker page some =
+  -- what is so of a region that a failed call left which was to give it its colour
+  coloured_by : (b : Bool) (colour len : ℕ) (made left : Told) → FaultedColouring (if b then Some colour else None) len made left → (b ≡ true) × (0 < len) × Rose made.faults left.faults × (left.name ≡ made.name)
+  coloured_by true colour len made left faulted = (refl, faulted.nonempty, faulted.rose, ap (λ (t : Told). t.name) faulted.same)
+  coloured_by false colour len made left faulted = absurd faulted
+
+  pub gives_up : {P : Type 0} (told : P → Told) (maker : MakerTold) → maker.page ≡ input.page → GivesUpRegion told input.config input.tunables input.offered input.shards maker → GivesUp told input maker
+  gives_up told maker page some =
       let n : ℕ = some.0 in
       let m : ℕ = slots.memory in
-      let At : ℕ → Type 0 = λ p. IsSlotGivenUp (slab_stripes input.config input.tunables p input.offered) (part_settings p input.config input.offered) (nth_region slots n).0 (nth_region slots n).1 maker in
+      let At : ℕ → Type 0 = λ p. IsSlotGivenUp told (slab_stripes input.config input.tunables p input.offered) (part_settings p input.config input.offered) (nth_region slots n).0 (nth_region slots n).1 maker in
       let given : At input.page = subst At page some.2 in
-      let G : QueueKind × ℕ → Type 0 = λ q. IsSlotGivenUp (stripes_of input) (part_settings input.page input.config input.offered) q.0 q.1 maker in
+      let G : QueueKind × ℕ → Type 0 = λ q. IsSlotGivenUp told (stripes_of input) (part_settings input.page input.config input.offered) q.0 q.1 maker in
       elim (cases_lt n m) [
         | inl memory ↦
-            let up : IsUncoloured (stripe_colour (stripes_of input) n) (rounded_up input.page input.config.limits.max_memory_size) n maker = subst G (nth_memory slots n memory) given in
-            let many : nat_lt 1 (stripes_of input) ≡ true = colour_some (nat_lt 1 (stripes_of input)) (stripe_of n (stripes_of input) + 1) up.some in
-            let is : IsGivenUp maker (a_memory n) = record {
+            let up = subst G (nth_memory slots n memory) given in
+            let shows = coloured_by (nat_lt 1 (stripes_of input)) (stripe_of n (stripes_of input) + 1) (rounded_up input.page input.config.limits.max_memory_size) _ (told up.region) up.faulted in
+            let many : nat_lt 1 (stripes_of input) ≡ true = shows.0 in
+            let is : IsGivenUp told maker (a_memory n) = record {
+              region = up.region;
+              named = shows.3;
+              counted = shows.2;
               makes = ap (λ (b : Bool). list_any (λ k. k == 1) (if b then 0 ∷ 1 ∷ [] else 0 ∷ [])) many;
               listed = told_calls (plan_for (Memory n) maker) (λ calls. fails_colouring (stripe_colour (stripes_of input) n) (rounded_up input.page input.config.limits.max_memory_size) calls ≡ true) (λ calls. list_any (λ k. k == 1) calls ≡ true)
-                  (λ calls fails. uncoloured_by (nat_lt 1 (stripes_of input)) (stripe_of n (stripes_of input) + 1) (rounded_up input.page input.config.limits.max_memory_size) calls up.pages many fails) up.listed;
+                  (λ calls fails. uncoloured_by (nat_lt 1 (stripes_of input)) (stripe_of n (stripes_of input) + 1) (rounded_up input.page input.config.limits.max_memory_size) calls shows.1 many fails) up.listed;
             } in
             let row : length (map a_memory memories) ≡ m = length-map-range_with_len a_memory 0 m in
             let first : length (map a_memory memories ++ map a_table tables) ≡ length (map a_memory memories) + length (map a_table tables) = length-append (map a_memory memories) (map a_table tables) in
@@ -343,17 +348,20 @@ module _ (input : Input) where
               | inl table ↦
                   let at' : n ≡ m + (n - m) = omega (arith, later) in
                   let below : n - m < slots.table = omega (arith, table, later) in
-                  let none : IsSlotGivenUp (stripes_of input) (part_settings input.page input.config input.offered) of_queue.Table (n - m) maker = subst G (ap (nth_region slots) at' ∙ nth_table slots (n - m) below) given in
+                  let none : IsSlotGivenUp told (stripes_of input) (part_settings input.page input.config input.offered) of_queue.Table (n - m) maker = subst G (ap (nth_region slots) at' ∙ nth_table slots (n - m) below) given in
                   absurd none
               | inr past ↦
                   let j : ℕ = n - (m + slots.table) in
                   let at' : n ≡ m + slots.table + j = omega (arith, past) in
                   let below : j < slots.stack = omega (arith, some.1, past) in
-                  let up : IsUnguarded input.page j maker = subst G (ap (nth_region slots) at' ∙ nth_stack slots j) given in
-                  let is : IsGivenUp maker (a_stack j) = record {
+                  let up = subst G (ap (nth_region slots) at' ∙ nth_stack slots j) given in
+                  let is : IsGivenUp told maker (a_stack j) = record {
+                    region = up.region;
+                    named = ap (λ (t : Told). t.name) up.faulted.same;
+                    counted = up.faulted.rose;
                     makes = refl;
                     listed = told_calls (plan_for (Stack j) maker) (λ calls. fails_first_call input.page calls ≡ true) (λ calls. list_any (λ k. k == 1) calls ≡ true)
-                        (λ calls fails. fails_if (input.page == 0) (list_any (λ k. k == 1) calls) fails) up;
+                        (λ calls fails. fails_if (input.page == 0) (list_any (λ k. k == 1) calls) fails) up.listed;
                   } in
                   let memory_row : length (map a_memory memories) ≡ m = length-map-range_with_len a_memory 0 m in
                   let table_row : length (map a_table tables) ≡ slots.table = length-map-range_with_len a_table 0 slots.table in
@@ -366,15 +374,15 @@ module _ (input : Input) where
             ]
       ]
 
-  pub regions_fault : (page : ℕ) (old new : MakerTold) → IsTestedOn page → old.page ≡ input.page → Rose old.faults new.faults ⊎ (GivesUpRegion input.config input.tunables input.offered input.shards old × (new.faults ≡ old.faults))
-      → ((lists_making input.config old.listed ≡ true) ⊎ Rose old.behind new.behind) ⊎ (GivesUpRegion input.config input.tunables input.offered input.shards old × (new.behind ≡ old.behind))
-      → IfSome old.plan (λ p. fails_slots page input.config input.tunables input.offered input.shards p ≡ true) → FaultsInMaking input old new
-  regions_fault page old new on same rose cause listed = record {
-    rose = elim rose [ inl up ↦ inl up | inr given ↦ inr (gives_up old same given.0) ];
+  pub regions_fault : {P : Type 0} (told : P → Told) (page : ℕ) (old new : MakerTold) → IsTestedOn page → old.page ≡ input.page → Rose old.faults new.faults ⊎ (GivesUpRegion told input.config input.tunables input.offered input.shards old × (new.faults ≡ old.faults))
+      → ((lists_making input.config old.listed ≡ true) ⊎ Rose old.behind new.behind) ⊎ (GivesUpRegion told input.config input.tunables input.offered input.shards old × (new.behind ≡ old.behind))
+      → IfSome old.plan (λ p. fails_slots page input.config input.tunables input.offered input.shards p ≡ true) → FaultsInMaking told input old new
+  regions_fault told page old new on same rose cause listed = record {
+    rose = elim rose [ inl up ↦ inl up | inr given ↦ inr (gives_up told old same given.0) ];
     cause = elim cause [
       | inl (inl own) ↦ inl (inl (or_left (list_any (region_unmade old.listed) (makings_for input)) (images_listed input.tunables input.page 0 old.listed input.modules) (pool_unmade old.listed ∙ own)))
       | inl (inr behind) ↦ inl (inr behind)
-      | inr given ↦ inr (gives_up old same given.0)
+      | inr given ↦ inr (gives_up told old same given.0)
     ];
     planned = regions_list old.plan (regions_told page old.plan true on listed);
   }
@@ -433,10 +441,10 @@ nothing_listed test input modules page (Some p) same is regions images =
     neither (list_any (test p) (makings_for input)) (images_listed input.tunables input.page 0 p input.modules) regions (subst At is (subst Listed same images))
 
 -- A fault over the maker with the input's faults is one that the input lists, or one of the maker behind them.
-pub fault_of_run : (input : Input) (maker left before after : MakerTold) → before ≡ with_faults input maker → FaultsInMaking input before after → after.behind ≡ left.faults → HasFaultedMaking input maker left
-fault_of_run input maker left before after is fault same =
+pub fault_of_run : {P : Type 0} (told : P → Told) (input : Input) (maker left before after : MakerTold) → before ≡ with_faults input maker → FaultsInMaking told input before after → after.behind ≡ left.faults → HasFaultedMaking told input maker left
+fault_of_run told input maker left before after is fault same =
     let Listed : MakerTold → Type 0 = λ m. IfSome m.plan (λ plan. start_listed input plan ≡ true) in
-    let Caused : MakerTold → ℕ → Type 0 = λ m n. ((making_listed input m.listed ≡ true) ⊎ Rose m.behind n) ⊎ GivesUp input m in
+    let Caused : MakerTold → ℕ → Type 0 = λ m n. ((making_listed input m.listed ≡ true) ⊎ Rose m.behind n) ⊎ GivesUp told input m in
     record {
       cause = subst (Caused (with_faults input maker)) same (subst (λ m. Caused m after.behind) is fault.cause);
       planned = subst Listed is fault.planned;

@@ -17,6 +17,11 @@ named_none {X = X} Move o put old new reply none is = let M : Option X → Type 
 named_some : {X S : Type 0} (Move : X → X → Reply → Type 0) (o : Option X) (x : X) (put : X → S → S) (old new : S) (reply : Reply) → o ≡ Some x → (moved : X) × Move x moved reply × (new ≡ put moved old) → MovesNamed Move o put old reply new
 named_some {X = X} Move o x put old new reply some is = let M : Option X → Type 0 = λ y. MovesNamed Move y put old reply new in subst M (sym some) is
 
+-- so of what has that as a part
+pub named_under : {X S T : Type 0} (Move : X → X → Reply → Type 0) (o : Option X) (f : S → T) (put : X → S → S) (put_there : X → T → T) → ((x : X) (s : S) → f (put x s) ≡ put_there x (f s)) → (old new : S) (reply : Reply) → MovesNamed Move o put old reply new → MovesNamed Move o put_there (f old) reply (f new)
+named_under Move None f put put_there same old new reply is = (is.0, ap f is.1)
+named_under Move (Some x) f put put_there same old new reply is = (is.0, is.1, ap f is.2 ∙ same is.0 old)
+
 -- a command on object k of the live grant of command `of`
 module _ {G L : Type 0} (leases : Objects G L) (Move : L → L → Reply → Type 0) (of k : ℕ) where
   -- the object in a grant

@@ -1,6 +1,6 @@
 -- What a turn opens with: the party has as much of the pool, and where a call is to make its next step, that can be made.
 use Rattle.pool_alloc.specs.declared.frame.TakenSlot.{TakenSlot}
-use Rattle.std.proofs.Common.{zero, suc, ◌≡◌, ◌≢◌, ℕ, ◌<◌, ◌≤◌, All, Bool, true, false, List, length, get_or, Option, Some, None, refl, sym, ap, ◌∙◌, subst, inl, inr, arith}
+use Rattle.std.proofs.Common.{zero, suc, ◌≡◌, ◌≢◌, ℕ, ◌<◌, ◌≤◌, All, Bool, true, false, List, length, get_or, Option, Some, None, refl, sym, ap, ◌∙◌, subst, inl, inr, arith, ◌∷◌, []}
 use Rattle.std.specs.Prelude.{IfSome, slice_get, slice_set, slice_index_or, sum_by}
 use Rattle.std.proofs.lemmas.Option.{slice_get_within, get_or_from_slice_get}
 use Rattle.std.proofs.lemmas.List.Elements.{All-set, All-get_or}
@@ -16,18 +16,18 @@ use Rattle.pool_table.specs.declared.gc_store.ListedStore.{ListedStore}
 use Rattle.pool_alloc.specs.Leases.{Lease, slot_taken}
 use Rattle.pool_alloc.specs.Sound.{IsLeaseOf}
 use Rattle.pool_alloc.specs.Places.{Thing, taken_count}
-use Rattle.pool_alloc.specs.Stepping.{grant_stacks, is_idle, grant_count, grant_instances, grant_components, grant_memories, grant_tables}
+use Rattle.pool_alloc.specs.Stepping.{grant_stacks, is_idle, grant_count, grant_instances, grant_components, grant_memories, grant_tables, grant_heaps}
 use Rattle.pool_alloc.specs.declared.pool_core.PoolCore.{PoolCore}
 use Rattle.pool_alloc.specs.declared.frame.Call.{Call}
 use Rattle.pool_alloc.specs.declared.frame.Call.TheVariants as call
-use Rattle.pool_alloc.specs.Stages.{Stage, asks, stage_of}
+use Rattle.pool_alloc.specs.Stages.{Stage, asks, stage_of, admitted}
 use Rattle.pool_alloc.specs.declared.frame.Frame.{Frame}
 use Rattle.pool_alloc.specs.declared.frame.Grant.{Grant}
-use Rattle.pool_alloc.specs.declared.frame.Grant.TheVariants.{Instance as instance, Component as component, Stack as stack}
+use Rattle.pool_alloc.specs.declared.frame.Grant.TheVariants.{Instance as instance, Component as component, Stack as stack, Heap as heap}
 use Rattle.pool_alloc.specs.Asked.{ModuleAsked}
 use Rattle.pool_alloc.specs.declared.frame.Phase.{Phase}
 use Rattle.pool_alloc.specs.declared.frame.Phase.TheVariants.{Idle}
-use Rattle.pool_run.specs.Acts.{MemoryOp, TableOp, Act, requests, on_memory, on_table, drops, purges, releases, act_of, Wanted, an_instance, a_component, a_stack}
+use Rattle.pool_run.specs.Acts.{MemoryOp, TableOp, Act, requests, on_memory, on_table, drops, purges, releases, act_of, Wanted, an_instance, a_component, a_stack, a_heap, heap_type}
 use Rattle.pool_run.specs.Limits.{admitted_at, admitted_to, live_components}
 use Rattle.pool_run.specs.Objects.{MovesObject, object_at}
 use Rattle.pool_run.specs.PartyRules.{rule_of}
@@ -35,43 +35,46 @@ use Rattle.pool_run.specs.Private.{Terms}
 use Rattle.pool_alloc.specs.Searches.{IsSearched}
 use Rattle.pool_run.proofs.Stripes.{begun_stripe}
 use Rattle.pool_run.proofs.StageSteps.{is_none, none_idle}
-use Rattle.pool_run.specs.Turns.{LeaseMoves, MovesTable, leases_of, tables_of, memory_leases, table_leases, with_lease, with_table_lease, Opening, rests, replies, makes_step, drop_opening, IsPlain, OpensRequest, OpensPurge, OpensAct, OpensNext, OpensAt, MovesLeasedBytes, StackLeaseMoves, stack_leases, stack_of, with_stack_lease, OpensWanted}
-use Rattle.pool_run.specs.Ties.{is_asking, granted_to, CanTurn, IsSoundParty, IsAlone}
+use Rattle.pool_run.specs.Turns.{LeaseMoves, MovesTable, leases_of, tables_of, memory_leases, table_leases, with_lease, with_table_lease, Opening, rests, replies, makes_step, drop_opening, IsPlain, asks_grant, OpensRequest, OpensPurge, OpensAct, OpensNext, OpensAt, MovesLeasedBytes, StackLeaseMoves, stack_leases, stack_of, with_stack_lease, OpensWanted}
+use Rattle.pool_run.specs.Ties.{is_asking, is_for_objects, granted_to, CanTurn, IsSoundParty, IsAlone}
 use Rattle.pool_run.specs.Worlds.{IsFit, IsCallFor, AreCallsFor}
 use Rattle.pool_run.specs.declared.command.Command.{Command}
 use Rattle.pool_run.specs.declared.reply.Reply.{Reply}
 use Rattle.pool_run.specs.declared.running_party.RunningParty.{RunningParty}
 use Rattle.pool_run.proofs.Named.{moved}
 use Rattle.pool_run.proofs.Operations.{op_slot, op_keeps}
-use Rattle.pool_run.proofs.Parties.{HaveSame, grant_inside, live_grant, has_call, called_plain, called_module, called_back, returned_searched, returned_stage, plain_asks, begins_plain, brings_nothing, brings_module, brings_grant, called_component, called_stack, brings_component, brings_stack}
+use Rattle.pool_run.proofs.Parties.{HaveSame, grant_inside, live_grant, has_call, called_plain, called_module, called_back, returned_searched, returned_stage, plain_lists, begins_plain, brings_nothing, brings_module, brings_grant}
 use Rattle.pool_run.proofs.StackMoves.{stack_op_slot, stack_op_keeps}
 use Rattle.pool_run.proofs.TableKept.{table_kept}
 use Rattle.pool_alloc.specs.PoolStacks.{IsStackLease}
+use Rattle.pool_alloc.specs.HeapLeases.{LeasedHeap}
 use Rattle.pool_alloc.specs.StackLeases.{LeasedStack, stack_taken}
+use Rattle.pool_slots.specs.declared.listed_heaps.PlainHeap.{PlainHeap}
 
 module _ {P : Type 0} where
-  pub idle_is : (phase : Phase P) → is_idle phase ≡ true → phase ≡ Idle
+  pub idle_is : (phase : Phase P PlainHeap) → is_idle phase ≡ true → phase ≡ Idle
   idle_is Idle e = refl
   idle_is _ e = absurd cc
 
-  pub returned_busy : (grant : Grant P) (f : Frame P) → is_idle (begun_call (call.GiveBack grant) f).phase ≡ false
+  pub returned_busy : (grant : Grant P PlainHeap) (f : Frame P PlainHeap) → is_idle (begun_call (call.GiveBack grant) f).phase ≡ false
   returned_busy grant f =
-      let g : Frame P = begun_call (call.GiveBack grant) f in
+      let g : Frame P PlainHeap = begun_call (call.GiveBack grant) f in
       sym (none_idle g.phase g.asked g.ending (objects_in g.objects)) ∙ ap is_none (returned_stage grant f)
 
--- nothing is admitted where nothing is asked for
-unasked : (s : Stage) → is_asking s ≡ false → admitted_at s ≡ 0
-unasked (asks p) none = absurd cc
+-- nothing is admitted where no instance is asked for
+unasked : (s : Stage) → is_for_objects s ≡ false → admitted_at s ≡ 0
+unasked (asks (admitted n)) none = absurd cc
 unasked _ none = refl
 
 -- a grant is in the place of another of the pool, and counts for as much
-record StaysGrant {P : Type 0} (maker : MakerTold) (c : PoolCore P) (old new : Grant P) : Type 0 where
+record StaysGrant {P : Type 0} (maker : MakerTold) (c : PoolCore P PlainHeap) (old new : Grant P PlainHeap) : Type 0 where
   places : (x : Thing) → grant_count x new ≡ grant_count x old
   instances : grant_instances new ≡ grant_instances old
   components : grant_components new ≡ grant_components old
   memories : grant_memories new ≡ grant_memories old
   tables : grant_tables new ≡ grant_tables old
   stacks : grant_stacks new ≡ grant_stacks old
+  heaps : grant_heaps new ≡ grant_heaps old
   sound : IsGrant maker c.settings c.plan old → IsGrant maker c.settings c.plan new
 
 -- what things in slots weigh, once another is in one of these slots
@@ -86,9 +89,26 @@ slots_same {X = X} taken x k items l new there same =
 all_still : {X : Type 0} (A : X → Type 0) (items : List X) (k : ℕ) (l new : X) → slice_get items k ≡ Some l → (A l → A new) → All A items → All A (slice_set items k new)
 all_still A items k l new there keeps all = All-set A items k new (keeps (subst A (get_or_from_slice_get items k l l there) (All-get_or A items k l (slice_get_within items k l there) all))) all
 
--- A lease is in the place of another in its slot.
-module _ {P : Type 0} (maker : MakerTold) (c : PoolCore P) (k : ℕ) where
-  memory_stays : (grant : Grant P) (old changed : Lease) → slice_get (leases_of grant) k ≡ Some old → slot_taken changed ≡ slot_taken old → (IsLeaseOf maker c.settings c.plan old → IsLeaseOf maker c.settings c.plan changed) → StaysGrant maker c grant (with_lease k changed grant)
+-- A lease is in the place of another in its slot: of a heap's memory,
+heap_stays : {P : Type 0} (maker : MakerTold) (c : PoolCore P PlainHeap) (k : ℕ) (lease : LeasedHeap PlainHeap) (memory old changed : Lease) → slice_get (memory ∷ []) k ≡ Some old → slot_taken changed ≡ slot_taken old → (IsLeaseOf maker c.settings c.plan old → IsLeaseOf maker c.settings c.plan changed) → StaysGrant {P = P} maker c (heap lease memory) (with_lease k changed (heap lease memory))
+heap_stays maker c (suc k) lease memory old changed there same keeps = absurd cc
+heap_stays maker c zero lease memory old changed there same keeps =
+    let its : old ≡ memory = cc in
+    let weighs : (x : Thing) → taken_count x (slot_taken changed) ≡ taken_count x (slot_taken memory) = λ x. ap (taken_count x) (same ∙ ap slot_taken its) in
+    record {
+      places = λ x. omega (arith, weighs x);
+      instances = refl;
+      components = refl;
+      memories = refl;
+      tables = refl;
+      stacks = refl;
+      heaps = refl;
+      sound = λ is. (is.0, keeps (subst (IsLeaseOf maker c.settings c.plan) (sym its) is.1));
+    }
+
+-- or of an instance.
+module _ {P : Type 0} (maker : MakerTold) (c : PoolCore P PlainHeap) (k : ℕ) where
+  memory_stays : (grant : Grant P PlainHeap) (old changed : Lease) → slice_get (leases_of grant) k ≡ Some old → slot_taken changed ≡ slot_taken old → (IsLeaseOf maker c.settings c.plan old → IsLeaseOf maker c.settings c.plan changed) → StaysGrant maker c grant (with_lease k changed grant)
   memory_stays (instance lease) old changed there same keeps = record {
     places = λ x. omega (arith, slots_same slot_taken x k lease.memories.items old changed there same);
     instances = refl;
@@ -96,12 +116,14 @@ module _ {P : Type 0} (maker : MakerTold) (c : PoolCore P) (k : ℕ) where
     memories = length-set lease.memories.items k changed;
     tables = refl;
     stacks = refl;
+    heaps = refl;
     sound = λ is. (all_still (IsLeaseOf maker c.settings c.plan) lease.memories.items k old changed there keeps is.0, is.1);
   }
   memory_stays component old changed there same keeps = absurd cc
   memory_stays (stack lease) old changed there same keeps = absurd cc
+  memory_stays (heap lease memory) old changed there same keeps = heap_stays maker c k lease memory old changed there same keeps
 
-  table_stays : (grant : Grant P) (old changed : LeasedTable) → slice_get (tables_of grant) k ≡ Some old → changed ≡ record old { table = changed.table } → (IsTableLease maker c.settings c.plan old → IsTableLease maker c.settings c.plan changed) → StaysGrant maker c grant (with_table_lease k changed grant)
+  table_stays : (grant : Grant P PlainHeap) (old changed : LeasedTable) → slice_get (tables_of grant) k ≡ Some old → changed ≡ record old { table = changed.table } → (IsTableLease maker c.settings c.plan old → IsTableLease maker c.settings c.plan changed) → StaysGrant maker c grant (with_table_lease k changed grant)
   table_stays (instance lease) old changed there same keeps = record {
     places = λ x. omega (arith, slots_same table_taken x k lease.tables.items old changed there (ap table_taken same));
     instances = refl;
@@ -109,15 +131,18 @@ module _ {P : Type 0} (maker : MakerTold) (c : PoolCore P) (k : ℕ) where
     memories = refl;
     tables = length-set lease.tables.items k changed;
     stacks = refl;
+    heaps = refl;
     sound = λ is. (is.0, all_still (IsTableLease maker c.settings c.plan) lease.tables.items k old changed there keeps is.1);
   }
   table_stays component old changed there same keeps = absurd cc
   table_stays (stack lease) old changed there same keeps = absurd cc
+  table_stays (heap lease memory) old changed there same keeps = absurd cc
 
-module _ {P : Type 0} (maker : MakerTold) (c : PoolCore P) where
-  stack_stays : (k : ℕ) (grant : Grant P) (old changed : LeasedStack) → slice_get (stack_of grant) k ≡ Some old → stack_taken changed ≡ stack_taken old → (IsStackLease maker c.settings c.plan old → IsStackLease maker c.settings c.plan changed) → StaysGrant maker c grant (with_stack_lease k changed grant)
+module _ {P : Type 0} (maker : MakerTold) (c : PoolCore P PlainHeap) where
+  stack_stays : (k : ℕ) (grant : Grant P PlainHeap) (old changed : LeasedStack) → slice_get (stack_of grant) k ≡ Some old → stack_taken changed ≡ stack_taken old → (IsStackLease maker c.settings c.plan old → IsStackLease maker c.settings c.plan changed) → StaysGrant maker c grant (with_stack_lease k changed grant)
   stack_stays k (instance lease) old changed there same keeps = absurd cc
   stack_stays k component old changed there same keeps = absurd cc
+  stack_stays k (heap lease memory) old changed there same keeps = absurd cc
   stack_stays (suc k) (stack lease) old changed there same keeps = absurd cc
   stack_stays zero (stack lease) old changed there same keeps =
       let its : old ≡ lease = cc in
@@ -128,13 +153,14 @@ module _ {P : Type 0} (maker : MakerTold) (c : PoolCore P) where
         memories = refl;
         tables = refl;
         stacks = refl;
+        heaps = refl;
         sound = λ is. keeps (subst (IsStackLease maker c.settings c.plan) (sym its) is);
       }
 
 -- a party that may turn
-module _ {P : Type 0} (maker : MakerTold) (c : PoolCore P) (p : RunningParty P) where
+module _ {P : Type 0} (maker : MakerTold) (c : PoolCore P PlainHeap) (p : RunningParty P) where
   -- A command ended with these live grants and this store: the party has as much of the pool, and its places to come are empty.
-  pub record IsReply (live : List (Option (Grant P))) (store : ListedStore) : Type 0 where
+  pub record IsReply (live : List (Option (Grant P PlainHeap))) (store : ListedStore) : Type 0 where
     pub idle : IsIdle p.frame
     pub same : HaveSame p (record p { live = live })
     pub room : length live ≡ length p.live
@@ -143,7 +169,7 @@ module _ {P : Type 0} (maker : MakerTold) (c : PoolCore P) (p : RunningParty P) 
     pub listed : store.failing ≡ p.store.failing
 
   -- A call is to make its next step, from this frame and beside these live grants.
-  pub record IsStep (frame : Frame P) (live : List (Option (Grant P))) : Type 0 where
+  pub record IsStep (frame : Frame P PlainHeap) (live : List (Option (Grant P PlainHeap))) : Type 0 where
     pub can : CanTurn maker c (record p { frame = frame; live = live })
     pub same : HaveSame p (record p { frame = frame; live = live })
     pub room : length live ≡ length p.live
@@ -159,10 +185,10 @@ module _ {P : Type 0} (maker : MakerTold) (c : PoolCore P) (p : RunningParty P) 
   IsOpened (makes_step frame live) = IsStep frame live
 
   same_now : HaveSame p p
-  same_now = record { places = λ x. refl; instances = refl; components = refl; memories = refl; tables = refl; stacks = refl }
+  same_now = record { places = λ x. refl; instances = refl; components = refl; memories = refl; tables = refl; stacks = refl; heaps = refl }
 
   -- A party that is alone stays so.
-  pub still_alone : (frame : Frame P) (live : List (Option (Grant P))) → IsStep frame live → IsAlone c p.frame p.live → IsAlone c frame live
+  pub still_alone : (frame : Frame P PlainHeap) (live : List (Option (Grant P PlainHeap))) → IsStep frame live → IsAlone c p.frame p.live → IsAlone c frame live
   still_alone frame live is alone = record {
     places = λ t. omega (arith, alone.places t, is.same.places t);
     instances = omega (arith, alone.instances, is.same.instances);
@@ -174,18 +200,18 @@ module _ {P : Type 0} (maker : MakerTold) (c : PoolCore P) (p : RunningParty P) 
     pub unchanged : IsReply p.live p.store
     unchanged = record { idle = idle; same = same_now; room = refl; to_come = can.party.to_come; sound = can.party.sound; listed = refl }
 
-    swapped : (of : Grant P → ℕ) (j : ℕ) (old new : Grant P) → slice_index_or p.live j None ≡ Some old → of new ≡ of old → sum_by (granted_to of) (slice_set p.live j (Some new)) ≡ sum_by (granted_to of) p.live
+    swapped : (of : Grant P PlainHeap → ℕ) (j : ℕ) (old new : Grant P PlainHeap) → slice_index_or p.live j None ≡ Some old → of new ≡ of old → sum_by (granted_to of) (slice_set p.live j (Some new)) ≡ sum_by (granted_to of) p.live
     swapped of j old new is same =
         let here : granted_to of (slice_index_or p.live j None) ≡ of old = ap (granted_to of) is in
         omega (arith, sum_by-set (granted_to of) p.live j (Some new) None (grant_inside p.live j old is))
 
-    other_place : (j k : ℕ) (old new : Grant P) → slice_index_or p.live j None ≡ Some old → slice_index_or p.live k None ≡ None → slice_index_or (slice_set p.live j (Some new)) k None ≡ None
+    other_place : (j k : ℕ) (old new : Grant P PlainHeap) → slice_index_or p.live j None ≡ Some old → slice_index_or p.live k None ≡ None → slice_index_or (slice_set p.live j (Some new)) k None ≡ None
     other_place j k old new is none =
         let apart : k ≢ j = λ e. let both : slice_index_or p.live j None ≡ None = subst (λ (n : ℕ). slice_index_or p.live n None ≡ None) e none in cc in
         get_or-set_other p.live j k (Some new) None apart ∙ none
 
     -- A grant that counts for as much is in the place of another.
-    put_opened : (of : ℕ) (old new : Grant P) (store : ListedStore) → slice_index_or p.live of None ≡ Some old → StaysGrant maker c old new → store.failing ≡ p.store.failing → IsReply (slice_set p.live of (Some new)) store
+    put_opened : (of : ℕ) (old new : Grant P PlainHeap) (store : ListedStore) → slice_index_or p.live of None ≡ Some old → StaysGrant maker c old new → store.failing ≡ p.store.failing → IsReply (slice_set p.live of (Some new)) store
     put_opened of old new store granted stays listed = record {
       idle = idle;
       same = record {
@@ -195,6 +221,7 @@ module _ {P : Type 0} (maker : MakerTold) (c : PoolCore P) (p : RunningParty P) 
         memories = omega (arith, swapped grant_memories of old new granted stays.memories);
         tables = omega (arith, swapped grant_tables of old new granted stays.tables);
         stacks = omega (arith, swapped grant_stacks of old new granted stays.stacks);
+        heaps = omega (arith, swapped grant_heaps of old new granted stays.heaps);
       };
       room = length-set p.live of (Some new);
       to_come = λ n behind. other_place of n old new granted (can.party.to_come n behind);
@@ -206,9 +233,9 @@ module _ {P : Type 0} (maker : MakerTold) (c : PoolCore P) (p : RunningParty P) 
     }
 
     -- A command on a memory,
-    pub moves_opened : (op : MemoryOp) (of k : ℕ) (live : List (Option (Grant P))) (reply : Reply) → MovesObject memory_leases (LeaseMoves op (rule_of p.limits)) of k p.live reply live → IsReply live p.store
+    pub moves_opened : (op : MemoryOp) (of k : ℕ) (live : List (Option (Grant P PlainHeap))) (reply : Reply) → MovesObject memory_leases (LeaseMoves op (rule_of p.limits)) of k p.live reply live → IsReply live p.store
     moves_opened op of k live reply is =
-        let Now : List (Option (Grant P)) → Type 0 = λ ls. IsReply ls p.store in
+        let Now : List (Option (Grant P PlainHeap)) → Type 0 = λ ls. IsReply ls p.store in
         elim (moved memory_leases (LeaseMoves op (rule_of p.limits)) of k p.live live reply is) [
           | inl none ↦ subst Now (sym none.same) unchanged
           | inr m ↦
@@ -218,9 +245,9 @@ module _ {P : Type 0} (maker : MakerTold) (c : PoolCore P) (p : RunningParty P) 
         ]
 
     -- one on a stack,
-    stack_opened : (op : MemoryOp) (of k : ℕ) (live : List (Option (Grant P))) (reply : Reply) → MovesObject stack_leases (StackLeaseMoves op) of k p.live reply live → IsReply live p.store
+    stack_opened : (op : MemoryOp) (of k : ℕ) (live : List (Option (Grant P PlainHeap))) (reply : Reply) → MovesObject stack_leases (StackLeaseMoves op) of k p.live reply live → IsReply live p.store
     stack_opened op of k live reply is =
-        let Now : List (Option (Grant P)) → Type 0 = λ ls. IsReply ls p.store in
+        let Now : List (Option (Grant P PlainHeap)) → Type 0 = λ ls. IsReply ls p.store in
         elim (moved stack_leases (StackLeaseMoves op) of k p.live live reply is) [
           | inl none ↦ subst Now (sym none.same) unchanged
           | inr m ↦
@@ -229,16 +256,17 @@ module _ {P : Type 0} (maker : MakerTold) (c : PoolCore P) (p : RunningParty P) 
               (stack_stays maker c k m.grant m.old m.changed m.there (stack_op_slot op m.old m.changed reply m.move) (λ l. stack_op_keeps maker c.settings c.plan op m.old m.changed reply l m.move)) refl)
         ]
 
-    bytes_opened : (x : Option (Grant P)) (op : MemoryOp) (of k : ℕ) (live : List (Option (Grant P))) (reply : Reply) → MovesLeasedBytes op (rule_of p.limits) x of k p.live reply live → IsReply live p.store
+    bytes_opened : (x : Option (Grant P PlainHeap)) (op : MemoryOp) (of k : ℕ) (live : List (Option (Grant P PlainHeap))) (reply : Reply) → MovesLeasedBytes op (rule_of p.limits) x of k p.live reply live → IsReply live p.store
     bytes_opened None op of k live reply is = moves_opened op of k live reply is
     bytes_opened (Some (instance lease)) op of k live reply is = moves_opened op of k live reply is
     bytes_opened (Some component) op of k live reply is = moves_opened op of k live reply is
     bytes_opened (Some (stack lease)) op of k live reply is = stack_opened op of k live reply is
+    bytes_opened (Some (heap lease memory)) op of k live reply is = moves_opened op of k live reply is
 
     -- and one on a table.
-    pub tables_opened : (op : TableOp) (of k : ℕ) (live : List (Option (Grant P))) (store : ListedStore) (reply : Reply) → MovesObject table_leases (MovesTable op (rule_of p.limits) p.store store) of k p.live reply live → (object_at table_leases of k p.live ≡ None → store ≡ p.store) → IsReply live store
+    pub tables_opened : (op : TableOp) (of k : ℕ) (live : List (Option (Grant P PlainHeap))) (store : ListedStore) (reply : Reply) → MovesObject table_leases (MovesTable op (rule_of p.limits) p.store store) of k p.live reply live → (object_at table_leases of k p.live ≡ None → store ≡ p.store) → IsReply live store
     tables_opened op of k live store reply is unasked =
-        let Now : List (Option (Grant P)) → Type 0 = λ ls. IsReply ls store in
+        let Now : List (Option (Grant P PlainHeap)) → Type 0 = λ ls. IsReply ls store in
         elim (moved table_leases (MovesTable op (rule_of p.limits) p.store store) of k p.live live reply is) [
           | inl none ↦ subst Now (sym none.same) (subst (IsReply p.live) (sym (unasked none.none)) unchanged)
           | inr m ↦
@@ -248,10 +276,10 @@ module _ {P : Type 0} (maker : MakerTold) (c : PoolCore P) (p : RunningParty P) 
         ]
 
     -- A call begins: the party has what it had, with what the call brings along.
-    fewer_live : (counted : Grant P → ℕ) (of : ℕ) (grant : Grant P) → slice_index_or p.live of None ≡ Some grant → sum_by (granted_to counted) (slice_set p.live of None) ≤ sum_by (granted_to counted) p.live
+    fewer_live : (counted : Grant P PlainHeap → ℕ) (of : ℕ) (grant : Grant P PlainHeap) → slice_index_or p.live of None ≡ Some grant → sum_by (granted_to counted) (slice_set p.live of None) ≤ sum_by (granted_to counted) p.live
     fewer_live counted of grant is = omega (arith, sum_by-set (granted_to counted) p.live of None None (grant_inside p.live of grant is))
 
-    pub drops_opened : (of : ℕ) (x : Option (Grant P)) → slice_index_or p.live of None ≡ x → IsOpened (drop_opening x of p)
+    pub drops_opened : (of : ℕ) (x : Option (Grant P PlainHeap)) → slice_index_or p.live of None ≡ x → IsOpened (drop_opening x of p)
     drops_opened of None has = unchanged
     drops_opened of (Some grant) has = record {
       can = called_back maker of grant c p can idle has;
@@ -276,23 +304,23 @@ module _ {P : Type 0} (maker : MakerTold) (c : PoolCore P) (p : RunningParty P) 
       stripe = refl;
     }
 
-    pub plain_opened : (asked : Call P) → IsPlain asked → IsStep (begun_call asked p.frame) p.live
-    plain_opened asked plain =
+    pub plain_opened : (asked : Call P PlainHeap) → IsPlain asked → (asks_grant asked ≡ true → p.done < length p.live) → IsStep (begun_call asked p.frame) p.live
+    plain_opened asked plain place =
         let begins = begins_plain maker asked c p.frame plain in
         record {
-          can = called_plain maker asked c p plain can idle;
+          can = called_plain maker asked c p plain can idle place;
           same = has_call maker asked p.live c p can.party.sound.frame (begins.may idle) (brings_nothing asked plain p.live);
           room = refl;
           busy = begins.busy;
           searched = λ s. begins.searched;
-          admitted = omega (arith, unasked (stage_of (begun_call asked p.frame)) (plain_asks asked p.frame plain));
+          admitted = omega (arith, unasked (stage_of (begun_call asked p.frame)) (plain_lists asked p.frame plain));
           components = omega arith;
           stripe = begins.stripe;
         }
 
     purges_opened : (kept : Option ModuleAsked) (o : Opening P) → OpensPurge kept p o → IsOpened o
     purges_opened None o opens = absurd opens
-    purges_opened (Some kept) o opens = subst IsOpened (sym opens) (plain_opened (call.Purge kept.id) tt)
+    purges_opened (Some kept) o opens = subst IsOpened (sym opens) (plain_opened (call.Purge kept.id) tt (λ is. absurd cc))
 
     pub requests_opened : (t : Terms) (number : ℕ) (kept : Option ModuleAsked) (o : Opening P) → IfSome kept (IsCallFor t c.settings number) → p.done < length p.live → OpensRequest kept p o → IsOpened o
     requests_opened t number None o for room opens = absurd opens
@@ -302,34 +330,11 @@ module _ {P : Type 0} (maker : MakerTold) (c : PoolCore P) (p : RunningParty P) 
           | inr is ↦ subst IsOpened (sym is) (module_opened kept for.fit room)
         ]
 
-    pub component_opened : (info : ComponentInfo) → p.done < length p.live → IsStep (begun_call (call.Component info) p.frame) p.live
-    component_opened info room = record {
-      can = called_component maker info c p can idle room;
-      same = has_call maker (call.Component info) p.live c p can.party.sound.frame idle (brings_component info p.live);
-      room = refl;
-      busy = refl;
-      searched = λ s. tt;
-      admitted = omega arith;
-      components = omega arith;
-      stripe = refl;
-    }
-
-    pub stack_asked_opened : p.done < length p.live → IsStep (begun_call call.Stack p.frame) p.live
-    stack_asked_opened room = record {
-      can = called_stack maker c p can idle room;
-      same = has_call maker call.Stack p.live c p can.party.sound.frame idle (brings_stack p.live);
-      room = refl;
-      busy = refl;
-      searched = λ s. tt;
-      admitted = omega arith;
-      components = omega arith;
-      stripe = refl;
-    }
-
     wanted_opened : (t : Terms) (modules : List ModuleAsked) (wanted : Wanted) (o : Opening P) → AreCallsFor t c.settings modules → p.done < length p.live → OpensWanted modules wanted p o → IsOpened o
     wanted_opened t modules (an_instance number) o calls room opens = requests_opened t number (slice_get modules number) o (calls number) room opens
-    wanted_opened t modules (a_component info) o calls room opens = subst IsOpened (sym opens) (component_opened info room)
-    wanted_opened t modules a_stack o calls room opens = subst IsOpened (sym opens) (stack_asked_opened room)
+    wanted_opened t modules (a_component info) o calls room opens = subst IsOpened (sym opens) (plain_opened (call.Component info) tt (λ is. room))
+    wanted_opened t modules a_stack o calls room opens = subst IsOpened (sym opens) (plain_opened call.Stack tt (λ is. room))
+    wanted_opened t modules (a_heap limits) o calls room opens = subst IsOpened (sym opens) (plain_opened (call.Heap (heap_type limits)) (omega arith) (λ is. room))
 
     act_opened : (t : Terms) (modules : List ModuleAsked) (act : Act) (o : Opening P) → AreCallsFor t c.settings modules → p.done < length p.live → OpensAct modules act p o → IsOpened o
     act_opened t modules (requests wanted) o calls room opens = wanted_opened t modules wanted o calls room opens
@@ -337,11 +342,11 @@ module _ {P : Type 0} (maker : MakerTold) (c : PoolCore P) (p : RunningParty P) 
     act_opened t modules (on_table of k op) o calls room opens = subst IsOpened (sym opens.5) (tables_opened op of k opens.1 opens.2 opens.0 opens.3 opens.4)
     act_opened t modules (drops of) o calls room opens = subst IsOpened (sym opens) (drops_opened of (slice_index_or p.live of None) refl)
     act_opened t modules (purges number) o calls room opens = purges_opened (slice_get modules number) o opens
-    act_opened t modules releases o calls room opens = subst IsOpened (sym opens) (plain_opened call.Release tt)
+    act_opened t modules releases o calls room opens = subst IsOpened (sym opens) (plain_opened call.Release tt (λ is. absurd cc))
 
     next_opened : (t : Terms) (modules : List ModuleAsked) (commands : List Command) (next : Option Command) (keyed : Bool) (o : Opening P) → slice_get commands p.done ≡ next → AreCallsFor t c.settings modules → length commands ≤ length p.live → OpensNext modules next keyed p o → IsOpened o
     next_opened t modules commands None keyed o next calls room opens = subst IsOpened (sym opens) tt
-    next_opened t modules commands (Some command) false o next calls room opens = subst IsOpened (sym opens) (plain_opened call.Key tt)
+    next_opened t modules commands (Some command) false o next calls room opens = subst IsOpened (sym opens) (plain_opened call.Key tt (λ is. absurd cc))
     next_opened t modules commands (Some command) true o next calls room opens = act_opened t modules (act_of command) o calls (omega (arith, room, slice_get_within commands p.done command next)) opens
 
   pub step_opened : CanTurn maker c p → is_idle p.frame.phase ≡ false → IsStep p.frame p.live

@@ -1,7 +1,7 @@
 -- What an operation makes of a memory of a live grant: the lease stays in its slot, and the party sees the operation on
 -- its own memory.
 use Rattle.std.proofs.Common.{◌≡◌, ℕ, Bool, true, false, List, Option, Some, None, refl, sym, ap, subst, inl, inr}
-use Rattle.std.specs.Prelude.{IfSome, map, replicate}
+use Rattle.std.specs.Prelude.{◌==◌, if◌then◌else◌, IfSome, map, replicate}
 use Rattle.std.proofs.lemmas.List.{map-set}
 use Rattle.pool_pages.specs.MakerTold.{MakerTold}
 use Rattle.pool_limits.specs.Growth.{GrowthRule}
@@ -9,12 +9,13 @@ use Rattle.pool_memory.specs.Memories.{MemoryState}
 use Rattle.pool_alloc.specs.Leases.{Lease, slot_taken}
 use Rattle.pool_alloc.specs.Sound.{IsLeaseOf}
 use Rattle.pool_alloc.specs.declared.frame.Grant.{Grant}
-use Rattle.pool_alloc.specs.declared.frame.Grant.TheVariants.{Instance as instance, Component as component, Stack as stack}
+use Rattle.pool_alloc.specs.declared.frame.Grant.TheVariants.{Instance as instance, Component as component, Stack as stack, Heap as heap}
 use Rattle.pool_slots.specs.declared.plan.Plan.{Plan}
+use Rattle.pool_slots.specs.declared.listed_heaps.PlainHeap.{PlainHeap}
 use Rattle.pool_alloc.specs.declared.pool_core.Settings.{Settings}
 use Rattle.pool_run.specs.Acts.{MemoryOp, reads, writes, fills, grows, asks_size}
 use Rattle.pool_run.specs.Objects.{MovesNamed}
-use Rattle.pool_run.specs.Private.{PrivateMemory, instance_grant, Writes, MemoryMoves, private_memories, growth}
+use Rattle.pool_run.specs.Private.{heap_grant, PrivateMemory, instance_grant, Writes, MemoryMoves, private_memories, growth}
 use Rattle.pool_run.specs.Rooms.{World, MayFault, TellsGrowth, TellsMove}
 use Rattle.pool_run.specs.Turns.{seen_as, private_memory, private_table, private_grant, MemoryWrites, MemoryGrows, MovesLease, LeaseMoves, memory_leases}
 use Rattle.pool_run.specs.declared.reply.Reply.{Reply}
@@ -70,11 +71,16 @@ pub named_tells : {S : Type 0} (w : World) (op : MemoryOp) (o : Option PrivateMe
 named_tells w op None put old new reply is = tt
 named_tells w op (Some m) put old new reply is = is.1.1
 
+either_seen : (b : Bool) (x y : Lease) → private_memory (if b then x else y) ≡ (if b then private_memory x else private_memory y)
+either_seen true x y = refl
+either_seen false x y = refl
+
 -- The party sees its memories by their leases.
-changed_memory : {P : Type 0} (k : ℕ) (l : Lease) (g : Grant P) → private_grant (memory_leases.put_in k l g) ≡ private_memories.put_in k (private_memory l) (private_grant g)
+changed_memory : {P : Type 0} (k : ℕ) (l : Lease) (g : Grant P PlainHeap) → private_grant (memory_leases.put_in k l g) ≡ private_memories.put_in k (private_memory l) (private_grant g)
 changed_memory k l (instance lease) = ap (λ (ms : List PrivateMemory). instance_grant (record { memories = ms; tables = map private_table lease.tables.items })) (map-set private_memory lease.memories.items k l)
 changed_memory k l component = refl
 changed_memory k l (stack lease) = refl
+changed_memory k l (heap lease memory) = ap (heap_grant lease.index) (either_seen (k == 0) l memory)
 
 pub memories_seen : (P : Type 0) → AreSeen (memory_leases {P = P}) private_memories private_grant private_memory
 memories_seen P = record { same = memories_seen_of; changed = changed_memory }

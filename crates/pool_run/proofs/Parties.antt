@@ -1,5 +1,5 @@
 -- A party whose turn it is: its call can make its next step, and so it can once another call began.
-use Rattle.std.proofs.Common.{◌≡◌, ℕ, zero, suc, ◌+◌, ◌<◌, ◌≤◌, true, false, Bool, List, [], ◌∷◌, length, Option, Some, None, refl, ap, subst, arith, All}
+use Rattle.std.proofs.Common.{◌≡◌, ℕ, zero, suc, ◌+◌, ◌<◌, ◌≤◌, true, false, Bool, List, [], ◌∷◌, length, Option, Some, None, refl, ap, subst, arith, All, sym, ◌∙◌}
 use Rattle.std.specs.Prelude.{IfSome, sum_by, slice_set, slice_index_or}
 use Rattle.std.proofs.lemmas.List.Elements.{All-set, All-get_or}
 use Rattle.std.proofs.lemmas.List.Sums.{sum_by-set}
@@ -10,32 +10,34 @@ use Rattle.pool_alloc.specs.Sound.{IsFrame, AreImagesOf}
 use Rattle.pool_alloc.specs.Modules.{HasImages}
 use Rattle.pool_alloc.specs.Calls.{IsIdle, IsGrant, MayBegin, begun_call}
 use Rattle.pool_alloc.proofs.BegunCalls.{call_has}
-use Rattle.pool_alloc.specs.Stepping.{CanStep, is_idle, grant_count, grant_instances, grant_memories, grant_tables, grant_stacks, grant_components}
+use Rattle.pool_alloc.specs.Stepping.{CanStep, is_idle, grant_count, grant_instances, grant_memories, grant_tables, grant_stacks, grant_heaps, grant_components}
 use Rattle.pool_alloc.specs.declared.pool_core.PoolCore.{PoolCore}
 use Rattle.pool_alloc.specs.declared.pool_core.Settings.{Settings}
 use Rattle.pool_alloc.specs.Steps.{memories_wanted, images_wanted}
 use Rattle.pool_alloc.specs.Asked.{ModuleAsked}
 use Rattle.pool_alloc.specs.StackLeases.{stack_slot}
+use Rattle.pool_slots.specs.HeapUnits.{heap_slot}
 use Rattle.pool_alloc.specs.declared.frame.Asked.TheVariants.{Nothing as nothing_asked, Module as module_asked}
 use Rattle.pool_alloc.specs.declared.frame.Ending.TheVariants as ending
-use Rattle.pool_alloc.specs.Leases.{Lease}
+use Rattle.pool_alloc.specs.Leases.{Lease, memory_slot}
 use Rattle.pool_alloc.specs.TableLeases.{LeasedTable}
 use Rattle.pool_alloc.specs.Searches.{IsSearched}
 use Rattle.pool_alloc.specs.Stages.{returning, stage_of}
 use Rattle.pool_alloc.specs.Turns.{returned_next}
-use Rattle.pool_run.specs.Turns.{IsPlain}
+use Rattle.pool_run.specs.Turns.{IsPlain, asks_grant}
 use Rattle.pool_alloc.specs.declared.frame.Call.{Call}
 use Rattle.pool_alloc.specs.declared.frame.Call.TheVariants as call
 use Rattle.pool_alloc.specs.declared.frame.Frame.{Frame}
 use Rattle.pool_alloc.specs.declared.frame.Grant.{Grant}
-use Rattle.pool_alloc.specs.declared.frame.Grant.TheVariants.{Instance as instance, Component as component, Stack as stack}
-use Rattle.pool_alloc.proofs.BegunCalls.{begun_stacks, begun_frame, begun_count, begun_instances, begun_components, begun_memories, begun_tables}
+use Rattle.pool_alloc.specs.declared.frame.Grant.TheVariants.{Instance as instance, Component as component, Stack as stack, Heap as heap}
+use Rattle.pool_alloc.proofs.BegunCalls.{begun_stacks, begun_heaps, begun_frame, begun_count, begun_instances, begun_components, begun_memories, begun_tables}
 use Rattle.pool_alloc.proofs.SlotCounts.{both_regions}
 use Rattle.pool_alloc.proofs.QueueCounts.{sum_by_agree, leased_regions, tables_regions}
-use Rattle.pool_run.specs.Ties.{is_asking, granted_to, held_by_party, FitsParty, CanTurn}
+use Rattle.pool_run.specs.Ties.{is_asking, is_for_objects, granted_to, held_by_party, FitsParty, CanTurn}
 use Rattle.pool_run.specs.declared.running_party.RunningParty.{RunningParty}
 use Rattle.pool_slots.specs.declared.plan.Plan.{Plan}
 use Rattle.pool_slots.specs.declared.slot_name.SlotName.{SlotName}
+use Rattle.pool_slots.specs.declared.listed_heaps.PlainHeap.{PlainHeap}
 
 -- nothing is true and false
 pub not_both : {X : Type 0} (b : Bool) → b ≡ true → b ≡ false → X
@@ -43,18 +45,19 @@ not_both true is other = absurd cc
 not_both false is other = absurd cc
 
 module _ {P : Type 0} where
-  grant_regions : (k : SlotName) (o : Option (Grant P)) → granted_to (grant_count (region_of k)) o ≡ granted_to (grant_count (right_to k)) o
+  grant_regions : (k : SlotName) (o : Option (Grant P PlainHeap)) → granted_to (grant_count (region_of k)) o ≡ granted_to (grant_count (right_to k)) o
   grant_regions k None = refl
   grant_regions k (Some (instance lease)) = omega (arith, leased_regions k lease.memories.items, tables_regions k lease.tables.items)
   grant_regions k (Some component) = refl
   grant_regions k (Some (stack lease)) = both_regions k (stack_slot lease.stack.index) lease.numbers
+  grant_regions k (Some (heap lease memory)) = omega (arith, both_regions k (heap_slot lease.index) lease.numbers, both_regions k (memory_slot memory.index) memory.numbers)
 
   -- The live grants have the region of each of their slots.
-  pub live_regions : (k : SlotName) (live : List (Option (Grant P))) → sum_by (granted_to (grant_count (region_of k))) live ≡ sum_by (granted_to (grant_count (right_to k))) live
+  pub live_regions : (k : SlotName) (live : List (Option (Grant P PlainHeap))) → sum_by (granted_to (grant_count (region_of k))) live ≡ sum_by (granted_to (grant_count (right_to k))) live
   live_regions k live = sum_by_agree (granted_to (grant_count (region_of k))) (granted_to (grant_count (right_to k))) (grant_regions k) live
 
   -- The party's call can make its next step.
-  pub can_step : (maker : MakerTold) (c : PoolCore P) (p : RunningParty P) → CanTurn maker c p → CanStep maker c p.frame
+  pub can_step : (maker : MakerTold) (c : PoolCore P PlainHeap) (p : RunningParty P) → CanTurn maker c p → CanStep maker c p.frame
   can_step maker c p can = record {
     core = can.core;
     frame = can.party.sound.frame;
@@ -66,6 +69,7 @@ module _ {P : Type 0} where
       memories = omega (arith, can.fits.memories);
       tables = omega (arith, can.fits.tables);
       stacks = omega (arith, can.fits.stacks);
+      heaps = omega (arith, can.fits.heaps);
     };
   }
 
@@ -77,8 +81,9 @@ module _ {P : Type 0} where
     pub memories : (held_by_party q).memories ≡ (held_by_party p).memories
     pub tables : (held_by_party q).tables ≡ (held_by_party p).tables
     pub stacks : (held_by_party q).stacks ≡ (held_by_party p).stacks
+    pub heaps : (held_by_party q).heaps ≡ (held_by_party p).heaps
 
-  pub fits_same : (c : PoolCore P) (p q : RunningParty P) → HaveSame p q → FitsParty c p → FitsParty c q
+  pub fits_same : (c : PoolCore P PlainHeap) (p q : RunningParty P) → HaveSame p q → FitsParty c p → FitsParty c q
   fits_same c p q same fits = record {
     once = λ t. omega (arith, fits.once t, same.places t);
     others = λ k. omega (arith, fits.others k, same.places (right_to k), same.places (region_of k));
@@ -87,33 +92,35 @@ module _ {P : Type 0} where
     memories = omega (arith, fits.memories, same.memories);
     tables = omega (arith, fits.tables, same.tables);
     stacks = omega (arith, fits.stacks, same.stacks);
+    heaps = omega (arith, fits.heaps, same.heaps);
   }
 
   -- a place with a grant is there
-  pub grant_inside : (live : List (Option (Grant P))) (i : ℕ) (grant : Grant P) → slice_index_or live i None ≡ Some grant → i < length live
+  pub grant_inside : (live : List (Option (Grant P PlainHeap))) (i : ℕ) (grant : Grant P PlainHeap) → slice_index_or live i None ≡ Some grant → i < length live
   grant_inside [] i grant is = absurd cc
   grant_inside (x ∷ xs) zero grant is = omega arith
   grant_inside (x ∷ xs) (suc i) grant is = omega (arith, grant_inside xs i grant is)
 
-  pub live_grant : (maker : MakerTold) (s : Settings) (plan : Plan) (live : List (Option (Grant P))) (i : ℕ) (grant : Grant P) → All (λ g. IfSome g (IsGrant maker s plan)) live → slice_index_or live i None ≡ Some grant → IsGrant maker s plan grant
+  pub live_grant : (maker : MakerTold) (s : Settings) (plan : Plan) (live : List (Option (Grant P PlainHeap))) (i : ℕ) (grant : Grant P PlainHeap) → All (λ g. IfSome g (IsGrant maker s plan)) live → slice_index_or live i None ≡ Some grant → IsGrant maker s plan grant
   live_grant maker s plan live i grant each is =
-      let G : Option (Grant P) → Type 0 = λ g. IfSome g (IsGrant maker s plan) in
+      let G : Option (Grant P PlainHeap) → Type 0 = λ g. IfSome g (IsGrant maker s plan) in
       subst G is (All-get_or G live i None (grant_inside live i grant is) each)
 
   -- a party with another call begun, whose grants are these
-  abbrev pub with_call : Call P → List (Option (Grant P)) → RunningParty P → RunningParty P
+  abbrev pub with_call : Call P PlainHeap → List (Option (Grant P PlainHeap)) → RunningParty P → RunningParty P
   with_call asked live p = record p { frame = begun_call asked p.frame; live = live }
 
   -- The grant that a call brings along was one of the party's, and the others stay.
-  pub record Brings (asked : Call P) (old new : List (Option (Grant P))) : Type 0 where
+  pub record Brings (asked : Call P PlainHeap) (old new : List (Option (Grant P PlainHeap))) : Type 0 where
     pub places : (t : Thing) → sum_by (granted_to (grant_count t)) new + call_has (grant_count t) asked ≡ sum_by (granted_to (grant_count t)) old
     pub instances : sum_by (granted_to grant_instances) new + call_has grant_instances asked ≡ sum_by (granted_to grant_instances) old
     pub components : sum_by (granted_to grant_components) new + call_has grant_components asked ≡ sum_by (granted_to grant_components) old
     pub memories : sum_by (granted_to grant_memories) new + call_has grant_memories asked ≡ sum_by (granted_to grant_memories) old
     pub tables : sum_by (granted_to grant_tables) new + call_has grant_tables asked ≡ sum_by (granted_to grant_tables) old
     pub stacks : sum_by (granted_to grant_stacks) new + call_has grant_stacks asked ≡ sum_by (granted_to grant_stacks) old
+    pub heaps : sum_by (granted_to grant_heaps) new + call_has grant_heaps asked ≡ sum_by (granted_to grant_heaps) old
 
-  pub has_call : (maker : MakerTold) (asked : Call P) (new : List (Option (Grant P))) (c : PoolCore P) (p : RunningParty P) → IsFrame maker c.settings c.plan p.frame → MayBegin maker c.settings c.plan asked p.frame → Brings asked p.live new → HaveSame p (with_call asked new p)
+  pub has_call : (maker : MakerTold) (asked : Call P PlainHeap) (new : List (Option (Grant P PlainHeap))) (c : PoolCore P PlainHeap) (p : RunningParty P) → IsFrame maker c.settings c.plan p.frame → MayBegin maker c.settings c.plan asked p.frame → Brings asked p.live new → HaveSame p (with_call asked new p)
   has_call maker asked new c p frame may brings = record {
     places = λ t. omega (arith, begun_count maker t asked c.settings c.plan p.frame frame may, brings.places t);
     instances = omega (arith, begun_instances maker asked c.settings c.plan p.frame may, brings.instances);
@@ -121,10 +128,11 @@ module _ {P : Type 0} where
     memories = omega (arith, begun_memories maker asked c.settings c.plan p.frame frame may, brings.memories);
     tables = omega (arith, begun_tables maker asked c.settings c.plan p.frame frame may, brings.tables);
     stacks = omega (arith, begun_stacks maker asked c.settings c.plan p.frame may, brings.stacks);
+    heaps = omega (arith, begun_heaps maker asked c.settings c.plan p.frame may, brings.heaps);
   }
 
   -- a call that brings nothing along
-  brings_none : (asked : Call P) (live : List (Option (Grant P))) → ((of : Grant P → ℕ) → call_has of asked ≡ 0) → Brings asked live live
+  brings_none : (asked : Call P PlainHeap) (live : List (Option (Grant P PlainHeap))) → ((of : Grant P PlainHeap → ℕ) → call_has of asked ≡ 0) → Brings asked live live
   brings_none asked live none = record {
     places = λ t. omega (arith, none (grant_count t));
     instances = omega (arith, none grant_instances);
@@ -132,33 +140,31 @@ module _ {P : Type 0} where
     memories = omega (arith, none grant_memories);
     tables = omega (arith, none grant_tables);
     stacks = omega (arith, none grant_stacks);
+    heaps = omega (arith, none grant_heaps);
   }
 
-  pub brings_nothing : (asked : Call P) → IsPlain asked → (live : List (Option (Grant P))) → Brings asked live live
+  pub brings_nothing : (asked : Call P PlainHeap) → IsPlain asked → (live : List (Option (Grant P PlainHeap))) → Brings asked live live
   brings_nothing call.Key plain live = brings_none call.Key live (λ of. refl)
+  brings_nothing (call.Component info) plain live = brings_none (call.Component info) live (λ of. refl)
+  brings_nothing call.Stack plain live = brings_none call.Stack live (λ of. refl)
+  brings_nothing (call.Heap ty) plain live = brings_none (call.Heap ty) live (λ of. refl)
   brings_nothing (call.Purge id) plain live = brings_none (call.Purge id) live (λ of. refl)
   brings_nothing call.Release plain live = brings_none call.Release live (λ of. refl)
   brings_nothing _ plain live = absurd plain
 
-  pub brings_module : (m : ModuleAsked) (live : List (Option (Grant P))) → Brings (call.Module m) live live
+  pub brings_module : (m : ModuleAsked) (live : List (Option (Grant P PlainHeap))) → Brings (call.Module m) live live
   brings_module m live = brings_none (call.Module m) live (λ of. refl)
 
-  pub brings_component : (info : ComponentInfo) (live : List (Option (Grant P))) → Brings (call.Component info) live live
-  brings_component info live = brings_none (call.Component info) live (λ of. refl)
-
-  pub brings_stack : (live : List (Option (Grant P))) → Brings call.Stack live live
-  brings_stack live = brings_none call.Stack live (λ of. refl)
-
-  fewer : (of : Grant P → ℕ) (live : List (Option (Grant P))) (i : ℕ) (grant : Grant P) → slice_index_or live i None ≡ Some grant → sum_by (granted_to of) (slice_set live i None) + of grant ≡ sum_by (granted_to of) live
+  fewer : (of : Grant P PlainHeap → ℕ) (live : List (Option (Grant P PlainHeap))) (i : ℕ) (grant : Grant P PlainHeap) → slice_index_or live i None ≡ Some grant → sum_by (granted_to of) (slice_set live i None) + of grant ≡ sum_by (granted_to of) live
   fewer of live i grant is =
       let here : granted_to of (slice_index_or live i None) ≡ of grant = ap (granted_to of) is in
       omega (arith, sum_by-set (granted_to of) live i None None (grant_inside live i grant is))
 
-  pub brings_grant : (live : List (Option (Grant P))) (i : ℕ) (grant : Grant P) → slice_index_or live i None ≡ Some grant → Brings (call.GiveBack grant) live (slice_set live i None)
-  brings_grant live i grant is = record { places = λ t. fewer (grant_count t) live i grant is; instances = fewer grant_instances live i grant is; components = fewer grant_components live i grant is; memories = fewer grant_memories live i grant is; tables = fewer grant_tables live i grant is; stacks = fewer grant_stacks live i grant is }
+  pub brings_grant : (live : List (Option (Grant P PlainHeap))) (i : ℕ) (grant : Grant P PlainHeap) → slice_index_or live i None ≡ Some grant → Brings (call.GiveBack grant) live (slice_set live i None)
+  brings_grant live i grant is = record { places = λ t. fewer (grant_count t) live i grant is; instances = fewer grant_instances live i grant is; components = fewer grant_components live i grant is; memories = fewer grant_memories live i grant is; tables = fewer grant_tables live i grant is; stacks = fewer grant_stacks live i grant is; heaps = fewer grant_heaps live i grant is }
 
   -- nothing comes into a place that is emptied
-  pub still_none : (live : List (Option (Grant P))) (i k : ℕ) → slice_index_or live k None ≡ None → slice_index_or (slice_set live i None) k None ≡ None
+  pub still_none : (live : List (Option (Grant P PlainHeap))) (i k : ℕ) → slice_index_or live k None ≡ None → slice_index_or (slice_set live i None) k None ≡ None
   still_none [] i k none = none
   still_none (x ∷ xs) zero zero none = refl
   still_none (x ∷ xs) zero (suc k) none = none
@@ -166,7 +172,7 @@ module _ {P : Type 0} where
   still_none (x ∷ xs) (suc i) (suc k) none = still_none xs i k none
 
   -- The party can make its turn once a call began that may.
-  pub called : (maker : MakerTold) (asked : Call P) (new : List (Option (Grant P))) (c : PoolCore P) (p : RunningParty P) → CanTurn maker c p → MayBegin maker c.settings c.plan asked p.frame → Brings asked p.live new → All (λ g. IfSome g (IsGrant maker c.settings c.plan)) new → ((k : ℕ) → p.done ≤ k → slice_index_or new k None ≡ None) → (is_asking (stage_of (begun_call asked p.frame)) ≡ true → p.done < length new) → CanTurn maker c (with_call asked new p)
+  pub called : (maker : MakerTold) (asked : Call P PlainHeap) (new : List (Option (Grant P PlainHeap))) (c : PoolCore P PlainHeap) (p : RunningParty P) → CanTurn maker c p → MayBegin maker c.settings c.plan asked p.frame → Brings asked p.live new → All (λ g. IfSome g (IsGrant maker c.settings c.plan)) new → ((k : ℕ) → p.done ≤ k → slice_index_or new k None ≡ None) → (is_asking (stage_of (begun_call asked p.frame)) ≡ true → p.done < length new) → CanTurn maker c (with_call asked new p)
   called maker asked new c p can may brings grants to_come place = record {
     core = can.core;
     party = record {
@@ -177,66 +183,78 @@ module _ {P : Type 0} where
     fits = fits_same c p (with_call asked new p) (has_call maker asked new c p can.party.sound.frame may brings) can.fits;
   }
 
-  pub plain_asks : (asked : Call P) (f : Frame P) → IsPlain asked → is_asking (stage_of (begun_call asked f)) ≡ false
+  pub plain_asks : (asked : Call P PlainHeap) (f : Frame P PlainHeap) → IsPlain asked → is_asking (stage_of (begun_call asked f)) ≡ asks_grant asked
   plain_asks call.Key f plain = refl
+  plain_asks (call.Component info) f plain = refl
+  plain_asks call.Stack f plain = refl
+  plain_asks (call.Heap ty) f plain = refl
   plain_asks (call.Purge id) f plain = refl
   plain_asks call.Release f plain = refl
   plain_asks _ f plain = absurd plain
 
+  -- its reply lists no slots, and it is not admitted to be an instance
+  pub plain_lists : (asked : Call P PlainHeap) (f : Frame P PlainHeap) → IsPlain asked → is_for_objects (stage_of (begun_call asked f)) ≡ false
+  plain_lists call.Key f plain = refl
+  plain_lists (call.Component info) f plain = refl
+  plain_lists call.Stack f plain = refl
+  plain_lists (call.Heap ty) f plain = refl
+  plain_lists (call.Purge id) f plain = refl
+  plain_lists call.Release f plain = refl
+  plain_lists _ f plain = absurd plain
+
   -- a call that needs nothing of the party, as it begins
-  pub record BeginsPlain (maker : MakerTold) (asked : Call P) (c : PoolCore P) (f : Frame P) : Type 0 where
+  pub record BeginsPlain (maker : MakerTold) (asked : Call P PlainHeap) (c : PoolCore P PlainHeap) (f : Frame P PlainHeap) : Type 0 where
     pub may : IsIdle f → MayBegin maker c.settings c.plan asked f
     pub busy : is_idle (begun_call asked f).phase ≡ false
     pub searched : IsSearched c (begun_call asked f)
     pub stripe : (begun_call asked f).stripe ≡ f.stripe
 
-  pub begins_plain : (maker : MakerTold) (asked : Call P) (c : PoolCore P) (f : Frame P) → IsPlain asked → BeginsPlain maker asked c f
+  pub begins_plain : (maker : MakerTold) (asked : Call P PlainHeap) (c : PoolCore P PlainHeap) (f : Frame P PlainHeap) → IsPlain asked → BeginsPlain maker asked c f
   begins_plain maker call.Key c f plain = record { may = λ idle. idle; busy = refl; searched = tt; stripe = refl }
+  begins_plain maker (call.Component info) c f plain = record { may = λ idle. idle; busy = refl; searched = tt; stripe = refl }
+  begins_plain maker call.Stack c f plain = record { may = λ idle. idle; busy = refl; searched = tt; stripe = refl }
+  begins_plain maker (call.Heap ty) c f plain = record { may = λ idle. (idle, plain); busy = refl; searched = tt; stripe = refl }
   begins_plain maker (call.Purge id) c f plain = record { may = λ idle. idle; busy = refl; searched = tt; stripe = refl }
   begins_plain maker call.Release c f plain = record { may = λ idle. idle; busy = refl; searched = tt; stripe = refl }
   begins_plain maker _ c f plain = absurd plain
 
-  pub called_plain : (maker : MakerTold) (asked : Call P) (c : PoolCore P) (p : RunningParty P) → IsPlain asked → CanTurn maker c p → IsIdle p.frame → CanTurn maker c (record p { frame = begun_call asked p.frame })
-  called_plain maker asked c p plain can idle =
+  pub called_plain : (maker : MakerTold) (asked : Call P PlainHeap) (c : PoolCore P PlainHeap) (p : RunningParty P) → IsPlain asked → CanTurn maker c p → IsIdle p.frame → (asks_grant asked ≡ true → p.done < length p.live) → CanTurn maker c (record p { frame = begun_call asked p.frame })
+  called_plain maker asked c p plain can idle place =
       let begins = begins_plain maker asked c p.frame plain in
-      called maker asked p.live c p can (begins.may idle) (brings_nothing asked plain p.live) can.party.sound.grants can.party.to_come (λ asking. not_both (is_asking (stage_of (begun_call asked p.frame))) asking (plain_asks asked p.frame plain))
+      called maker asked p.live c p can (begins.may idle) (brings_nothing asked plain p.live) can.party.sound.grants can.party.to_come (λ asking. place (sym (plain_asks asked p.frame plain) ∙ asking))
 
-  pub called_module : (maker : MakerTold) (m : ModuleAsked) (c : PoolCore P) (p : RunningParty P) → CanTurn maker c p → IsIdle p.frame → AreImagesOf c.settings (memories_wanted (module_asked m)) (images_wanted (module_asked m)) → HasImages (module_asked m) → p.done < length p.live → CanTurn maker c (record p { frame = begun_call (call.Module m) p.frame })
+  pub called_module : (maker : MakerTold) (m : ModuleAsked) (c : PoolCore P PlainHeap) (p : RunningParty P) → CanTurn maker c p → IsIdle p.frame → AreImagesOf c.settings (memories_wanted (module_asked m)) (images_wanted (module_asked m)) → HasImages (module_asked m) → p.done < length p.live → CanTurn maker c (record p { frame = begun_call (call.Module m) p.frame })
   called_module maker m c p can idle images each room = called maker (call.Module m) p.live c p can (idle, images, each) (brings_module m p.live) can.party.sound.grants can.party.to_come (λ is. room)
 
-  pub called_component : (maker : MakerTold) (info : ComponentInfo) (c : PoolCore P) (p : RunningParty P) → CanTurn maker c p → IsIdle p.frame → p.done < length p.live → CanTurn maker c (record p { frame = begun_call (call.Component info) p.frame })
-  called_component maker info c p can idle room = called maker (call.Component info) p.live c p can idle (brings_component info p.live) can.party.sound.grants can.party.to_come (λ is. room)
-
-  pub called_stack : (maker : MakerTold) (c : PoolCore P) (p : RunningParty P) → CanTurn maker c p → IsIdle p.frame → p.done < length p.live → CanTurn maker c (record p { frame = begun_call call.Stack p.frame })
-  called_stack maker c p can idle room = called maker call.Stack p.live c p can idle (brings_stack p.live) can.party.sound.grants can.party.to_come (λ is. room)
-
   -- a give-back is under way then
-  next_stage : (leases : List Lease) (tables : List LeasedTable) (f : Frame P) → stage_of (returned_next leases tables (record f { asked = nothing_asked; ending = ending.Returned })).frame ≡ returning
+  next_stage : (leases : List Lease) (tables : List LeasedTable) (f : Frame P PlainHeap) → stage_of (returned_next leases tables (record f { asked = nothing_asked; ending = ending.Returned })).frame ≡ returning
   next_stage [] [] f = refl
   next_stage [] (t ∷ ts) f = refl
   next_stage (l ∷ ls) ts f = refl
 
-  pub returned_stage : (grant : Grant P) (f : Frame P) → stage_of (begun_call (call.GiveBack grant) f) ≡ returning
+  pub returned_stage : (grant : Grant P PlainHeap) (f : Frame P PlainHeap) → stage_of (begun_call (call.GiveBack grant) f) ≡ returning
   returned_stage (instance lease) f = next_stage lease.memories.items lease.tables.items (record f { objects = lease })
   returned_stage component f = refl
   returned_stage (stack lease) f = refl
+  returned_stage (heap lease memory) f = refl
 
-  pub returned_asks : (grant : Grant P) (f : Frame P) → is_asking (stage_of (begun_call (call.GiveBack grant) f)) ≡ true → ⊥
+  pub returned_asks : (grant : Grant P PlainHeap) (f : Frame P PlainHeap) → is_asking (stage_of (begun_call (call.GiveBack grant) f)) ≡ true → ⊥
   returned_asks grant f asking = let no : is_asking (stage_of (begun_call (call.GiveBack grant) f)) ≡ false = ap is_asking (returned_stage grant f) in absurd cc
 
-  pub called_back : (maker : MakerTold) (i : ℕ) (grant : Grant P) (c : PoolCore P) (p : RunningParty P) → CanTurn maker c p → IsIdle p.frame → slice_index_or p.live i None ≡ Some grant → CanTurn maker c (record p { live = slice_set p.live i None; frame = begun_call (call.GiveBack grant) p.frame })
+  pub called_back : (maker : MakerTold) (i : ℕ) (grant : Grant P PlainHeap) (c : PoolCore P PlainHeap) (p : RunningParty P) → CanTurn maker c p → IsIdle p.frame → slice_index_or p.live i None ≡ Some grant → CanTurn maker c (record p { live = slice_set p.live i None; frame = begun_call (call.GiveBack grant) p.frame })
   called_back maker i grant c p can idle is =
       called maker (call.GiveBack grant) (slice_set p.live i None) c p can (idle, live_grant maker c.settings c.plan p.live i grant can.party.sound.grants is) (brings_grant p.live i grant is)
       (All-set (λ g. IfSome g (IsGrant maker c.settings c.plan)) p.live i None tt can.party.sound.grants)
       (λ k behind. still_none p.live i k (can.party.to_come k behind))
       (λ asking. absurd (returned_asks grant p.frame asking))
 
-  next_searched : (leases : List Lease) (tables : List LeasedTable) (c : PoolCore P) (f : Frame P) → IsSearched c (record (returned_next leases tables (record f { asked = nothing_asked })).frame { step_count = 0 })
+  next_searched : (leases : List Lease) (tables : List LeasedTable) (c : PoolCore P PlainHeap) (f : Frame P PlainHeap) → IsSearched c (record (returned_next leases tables (record f { asked = nothing_asked })).frame { step_count = 0 })
   next_searched [] [] c f = tt
   next_searched [] (t ∷ ts) c f = tt
   next_searched (l ∷ ls) ts c f = tt
 
-  pub returned_searched : (grant : Grant P) (c : PoolCore P) (f : Frame P) → IsSearched c (begun_call (call.GiveBack grant) f)
+  pub returned_searched : (grant : Grant P PlainHeap) (c : PoolCore P PlainHeap) (f : Frame P PlainHeap) → IsSearched c (begun_call (call.GiveBack grant) f)
   returned_searched (instance lease) c f = next_searched lease.memories.items lease.tables.items c (record f { objects = lease; ending = ending.Returned })
   returned_searched component c f = tt
   returned_searched (stack lease) c f = tt
+  returned_searched (heap lease memory) c f = tt

@@ -1,13 +1,12 @@
 -- A request that passed its test is never refused for want of memory.
 use Rattle.std.proofs.Common.{◌≡◌, ◌≢◌, ℕ, ◌^◌, Bool, true, false, length, Option, Some, None, Result, Ok, Err, refl, sym, ap, ◌∙◌, subst, inl, inr, arith}
-use Rattle.std.specs.Prelude.{nat_le, nat_lt, if◌then◌else◌, slice_get}
+use Rattle.std.specs.Prelude.{IsSome, nat_le, nat_lt, if◌then◌else◌, slice_get}
 use Rattle.pool_pages.specs.MakerTold.{MakerTold}
 use Rattle.pool_pages.specs.MemoryTypes.{minimum_byte_size, allow_growth_to}
 use Rattle.pool_pages.specs.declared.module_types.MemoryType.{MemoryType}
 use Rattle.pool_pages.specs.declared.unsupported.Unsupported.{Unsupported}
 use Rattle.pool_pages.specs.declared.unsupported.Unsupported.TheVariants.{InitialSize, AddressSpace, MemoryMinimum, TableSize}
 use Rattle.pool_images.specs.Slots.{Slot}
-use Rattle.pool_limits.specs.LimiterTold.{LimiterTold}
 use Rattle.pool_limits.specs.declared.errors.LimiterError.{LimiterError}
 use Rattle.pool_memory.specs.Making.{maximum_asked, limits_answer}
 use Rattle.pool_memory.specs.Memories.{MemoryState}
@@ -16,16 +15,20 @@ use Rattle.pool_memory.specs.declared.memory_error.MemoryError.{MemoryError}
 use Rattle.pool_memory.specs.declared.memory_error.MemoryError.TheVariants as unmade
 use Rattle.pool_slots.specs.declared.errors.AllocError.{AllocError}
 use Rattle.pool_slots.specs.declared.errors.AllocError.TheVariants as refusal
+use Rattle.pool_slots.specs.declared.listed_heaps.PlainHeap.{PlainHeap}
+use Rattle.pool_alloc.specs.PartyTold.{PartyTold, MakesHeap}
 use Rattle.pool_alloc.specs.Refusals.{component_refused}
-use Rattle.pool_alloc.specs.Own.{made_of, made_of_limits, made_for}
-use Rattle.pool_alloc.specs.Stages.{Progress, untested, uncounted, admitted, Stage, no_call, keys, asks, returning, refusing, purging, reserving, releasing, stage_of, Raises, Goes, seeks_stack, tests_component, counts_component, IsBroken}
+use Rattle.pool_alloc.specs.Own.{made_of, made_of_limits, made_for, heap_refusal}
+use Rattle.pool_slots.specs.HeapsTold.{HeapsTold}
+use Rattle.pool_slots.specs.declared.heap_maker.HeapMakeFault.{HeapMakeFault}
+use Rattle.pool_alloc.specs.Stages.{Progress, untested, uncounted, admitted, Stage, no_call, keys, asks, returning, refusing, purging, reserving, releasing, stage_of, Raises, Makes, Goes, seeks_stack, tests_heap, seeks_heap, counts_heap, tests_component, counts_component, IsBroken}
 use Rattle.pool_alloc.specs.Steps.{memories_wanted, tables_wanted}
 use Rattle.pool_alloc.specs.TableLeases.{LeasedTable}
 use Rattle.pool_alloc.specs.TableSteps.{table_refused, table_in, made_table, made_unless}
 use Rattle.pool_run.specs.Private.{table_room}
 use Rattle.pool_alloc.specs.declared.frame.Frame.{Frame}
 use Rattle.pool_alloc.specs.declared.frame.Grant.{Grant}
-use Rattle.pool_alloc.specs.declared.frame.Grant.TheVariants.{Instance as instance, Component as component, Stack as stack}
+use Rattle.pool_alloc.specs.declared.frame.Grant.TheVariants.{Instance as instance, Component as component, Stack as stack, Heap as heap}
 use Rattle.pool_alloc.specs.declared.frame.Outcome.{Outcome}
 use Rattle.pool_alloc.specs.declared.frame.Outcome.TheVariants as answer
 use Rattle.pool_alloc.specs.declared.pool_core.PoolCore.{PoolCore}
@@ -89,6 +92,9 @@ IsPast (asks untested) = ⊥
 IsPast (asks uncounted) = Unit {0}
 IsPast (asks (admitted n)) = Unit {0}
 IsPast (asks seeks_stack) = Unit {0}
+IsPast (asks tests_heap) = ⊥
+IsPast (asks (seeks_heap n)) = Unit {0}
+IsPast (asks counts_heap) = Unit {0}
 IsPast (tests_component info) = Unit {0}
 IsPast counts_component = Unit {0}
 IsPast (refusing e) = e ≢ refusal.Memory
@@ -100,7 +106,7 @@ IsPast reserving = ⊥
 IsPast releasing = Unit {0}
 
 -- it stays so, or ends otherwise
-abbrev pub StaysPast : {P : Type 0} → Stage → Option (Outcome P) → Type 0
+abbrev pub StaysPast : {P : Type 0} → Stage → Option (Outcome P PlainHeap) → Type 0
 StaysPast t None = IsPast t
 StaysPast t (Some answer.Key) = ⊥
 StaysPast t (Some (answer.Granted grant)) = Unit {0}
@@ -109,7 +115,19 @@ StaysPast t (Some (answer.Purged n)) = Unit {0}
 StaysPast t (Some (answer.Released n)) = Unit {0}
 StaysPast t (Some (answer.Refused e)) = e ≢ refusal.Memory
 
-module _ {P : Type 0} (maker : MakerTold) (old new : LimiterTold) (c : PoolCore P) (f : Frame P) where
+-- a making that fails wants no memory, where the maker tells its plan
+heap_past : (old new : HeapsTold) (fault : HeapMakeFault) (e : AllocError) → IsSome old.plan → MakesHeap {H = PlainHeap} (Err fault) old new → e ≡ heap_refusal fault → e ≢ refusal.Memory
+heap_past old new fault e told makes is = λ memory. let wrong : refusal.HeapFault ≡ refusal.Memory = sym (ap heap_refusal (makes.wants told).0) ∙ sym is ∙ memory in absurd cc
+
+module _ {P : Type 0} (maker : MakerTold) (old new : PartyTold) (c : PoolCore P PlainHeap) (f : Frame P PlainHeap) (listed : IsSome old.heaps.plan) where
+  -- no memory's own refusal is want of memory
+  made_past : (n : ℕ) (e : AllocError) → Makes old new c f n (Err e) → e ≢ refusal.Memory
+  made_past n e makes =
+      at_place (slice_get (memories_wanted f.asked) (length f.objects.memories.items)) (get_there (memories_wanted f.asked) (length f.objects.memories.items) (omega (arith, makes.next)))
+      (λ decl there.
+      let made : made_for c.settings.max_memory_size makes.given makes.held (Some decl) ≡ Err e = ap (made_for c.settings.max_memory_size makes.given makes.held) (sym there) ∙ makes.is in
+      not_memory (made_for c.settings.max_memory_size makes.given makes.held (Some decl)) e (answer_finds makes.given decl.ty c.settings.max_memory_size makes.held) made)
+
   raised_past : (p : Progress) (e : AllocError) → IsPast (asks p) → Raises maker old new c f p e → e ≢ refusal.Memory
   raised_past untested e past raises = absurd past
   raised_past uncounted e past raises = λ is. let wrong = sym raises.0 ∙ is in absurd cc
@@ -125,23 +143,28 @@ module _ {P : Type 0} (maker : MakerTold) (old new : LimiterTold) (c : PoolCore 
             elim rest [
               | inl fault ↦ λ is. let wrong = sym fault.is ∙ is in absurd cc
               | inr (inr makes) ↦
-                  at_place (slice_get (tables_wanted f.asked) (length f.objects.tables.items)) (get_there (tables_wanted f.asked) (length f.objects.tables.items) (omega (arith, makes.allocating.more, makes.next.0, makes.next.1, makes.allocating.to_grant.few)))
+                  at_place (slice_get (tables_wanted f.asked) (length f.objects.tables.items)) (get_there (tables_wanted f.asked) (length f.objects.tables.items) (omega (arith, makes.allocating.more, makes.next.0, makes.next.1.no_stack, makes.next.1.no_heap, makes.allocating.to_grant.few)))
                   (λ ty there.
                   let made : made_table c.settings makes.given makes.at makes.region (Some ty) ≡ Err e = ap (made_table c.settings makes.given makes.at makes.region) (sym there) ∙ makes.is in
                   refused_other makes.given ty.limits.min (table_room c.settings ty) e (unless_is (table_refused makes.given ty.limits.min (table_room c.settings ty)) (table_in c.settings ty makes.at makes.region) e made))
-              | inr (inl makes) ↦
-                  at_place (slice_get (memories_wanted f.asked) (length f.objects.memories.items)) (get_there (memories_wanted f.asked) (length f.objects.memories.items) (omega (arith, makes.next)))
-                  (λ decl there.
-                  let made : made_for c.settings.max_memory_size makes.given makes.held (Some decl) ≡ Err e = ap (made_for c.settings.max_memory_size makes.given makes.held) (sym there) ∙ makes.is in
-                  not_memory (made_for c.settings.max_memory_size makes.given makes.held (Some decl)) e (answer_finds makes.given decl.ty c.settings.max_memory_size makes.held) made)
+              | inr (inl makes) ↦ made_past n e makes
             ]
+      ]
+  raised_past tests_heap e past raises = absurd past
+  raised_past counts_heap e past raises = absurd raises
+  raised_past (seeks_heap n) e past raises =
+      elim raises [
+        | inl found ↦ λ is. let wrong = sym found.is ∙ is in absurd cc
+        | inr (inl fault) ↦ λ is. let wrong = sym fault.is ∙ is in absurd cc
+        | inr (inr (inl makes)) ↦ made_past n e makes
+        | inr (inr (inr failed)) ↦ heap_past old.heaps new.heaps failed.0 e listed failed.1.1.0 failed.1.1.1
       ]
 
   broken_past : (o : Option Unsupported) (e : AllocError) → IsBroken o e → e ≢ refusal.Memory
   broken_past None e broken = absurd broken
   broken_past (Some rule) e broken = λ is. let wrong = sym broken ∙ is in absurd cc
 
-  past_goes : (s t : Stage) (o : Option (Outcome P)) → Goes maker old new c f s t o → IsPast s → StaysPast t o
+  past_goes : (s t : Stage) (o : Option (Outcome P PlainHeap)) → Goes maker old new c f s t o → IsPast s → StaysPast t o
   past_goes no_call t o goes past = absurd past
   past_goes keys t o goes past = absurd past
   past_goes returning t o goes past = absurd past
@@ -154,14 +177,33 @@ module _ {P : Type 0} (maker : MakerTold) (old new : LimiterTold) (c : PoolCore 
   past_goes (asks uncounted) (asks uncounted) None goes past = absurd goes
   past_goes (asks uncounted) (asks (admitted m)) None goes past = tt
   past_goes (asks uncounted) (asks seeks_stack) None goes past = absurd goes
+  past_goes (asks uncounted) (asks tests_heap) None goes past = absurd goes
+  past_goes (asks uncounted) (asks (seeks_heap m)) None goes past = absurd goes
+  past_goes (asks uncounted) (asks counts_heap) None goes past = absurd goes
   past_goes (asks uncounted) (refusing e) None goes past = raised_past uncounted e past goes
   past_goes (asks uncounted) no_call (Some (answer.Granted (instance lease))) goes past = tt
   past_goes (asks (admitted n)) (asks untested) None goes past = absurd goes
   past_goes (asks (admitted n)) (asks uncounted) None goes past = absurd goes
   past_goes (asks (admitted n)) (asks (admitted m)) None goes past = tt
   past_goes (asks (admitted n)) (asks seeks_stack) None goes past = absurd goes
+  past_goes (asks (admitted n)) (asks tests_heap) None goes past = absurd goes
+  past_goes (asks (admitted n)) (asks (seeks_heap m)) None goes past = absurd goes
+  past_goes (asks (admitted n)) (asks counts_heap) None goes past = absurd goes
   past_goes (asks (admitted n)) (refusing e) None goes past = raised_past (admitted n) e past goes
   past_goes (asks (admitted n)) no_call (Some (answer.Granted (instance lease))) goes past = tt
+  past_goes (asks tests_heap) t o goes past = absurd past
+  past_goes (asks (seeks_heap n)) (asks (seeks_heap m)) None goes past = tt
+  past_goes (asks (seeks_heap n)) (asks counts_heap) None goes past = tt
+  past_goes (asks (seeks_heap n)) (asks _) None goes past = absurd goes
+  past_goes (asks (seeks_heap n)) no_call (Some (answer.Granted (instance lease))) goes past = tt
+  past_goes (asks (seeks_heap n)) no_call (Some (answer.Granted (stack lease))) goes past = tt
+  past_goes (asks counts_heap) (asks _) None goes past = absurd goes
+  past_goes (asks counts_heap) (refusing e) None goes past = absurd goes
+  past_goes (asks counts_heap) no_call (Some (answer.Granted (instance lease))) goes past = tt
+  past_goes (asks counts_heap) no_call (Some (answer.Granted (stack lease))) goes past = tt
+  past_goes (asks (seeks_heap n)) (refusing e) None goes past = raised_past (seeks_heap n) e past goes
+  past_goes (asks (seeks_heap n)) no_call (Some (answer.Refused e)) goes past = raised_past (seeks_heap n) e past goes.0
+  past_goes (asks counts_heap) no_call (Some (answer.Granted (heap lease memory))) goes past = tt
   past_goes (asks seeks_stack) (asks seeks_stack) None goes past = tt
   past_goes (asks seeks_stack) (asks _) None goes past = absurd goes
   past_goes (asks seeks_stack) (refusing e) None goes past = raised_past seeks_stack e past goes
@@ -184,12 +226,13 @@ PastReply None s = IsPast s
 PastReply (Some r) s = r ≢ want_of_memory
 
 module _ {P : Type 0} where
-  granted_past : (grant : Grant P) → granted_reply grant ≢ want_of_memory
+  granted_past : (grant : Grant P PlainHeap) → granted_reply grant ≢ want_of_memory
   granted_past (instance lease) = λ is. absurd cc
   granted_past component = λ is. absurd cc
   granted_past (stack lease) = λ is. absurd cc
+  granted_past (heap lease memory) = λ is. absurd cc
 
-  answered_past : (o : Option (Outcome P)) (t : Stage) (c : PoolCore P) (p : RunningParty P) → t ≡ stage_of p.frame → StaysPast t o → PastReply (answered o c p).reply (stage_of (answered o c p).party.frame)
+  answered_past : (o : Option (Outcome P PlainHeap)) (t : Stage) (c : PoolCore P PlainHeap) (p : RunningParty P) → t ≡ stage_of p.frame → StaysPast t o → PastReply (answered o c p).reply (stage_of (answered o c p).party.frame)
   answered_past None t c p is past = subst IsPast is past
   answered_past (Some answer.Key) t c p is past = absurd past
   answered_past (Some (answer.Granted grant)) t c p is past = granted_past grant
@@ -199,10 +242,11 @@ module _ {P : Type 0} where
   answered_past (Some (answer.Refused e)) t c p is past = λ wants. past (refused_once e wants)
 
   -- A step of such a request.
-  pub step_past : (maker : MakerTold) (c : PoolCore P) (p : RunningParty P) (t : Turned P) → CanTurn maker c p → IsPast (stage_of p.frame) → Steps c p t → PastReply t.reply (stage_of t.party.frame)
+  pub step_past : (maker : MakerTold) (c : PoolCore P PlainHeap) (p : RunningParty P) (t : Turned P) → CanTurn maker c p → IsPast (stage_of p.frame) → Steps c p t → PastReply t.reply (stage_of t.party.frame)
   step_past maker c p t can past steps =
       let by = steps.1 in
       let on : IsStepped maker by.0 by.1 c p.frame steps.0 = stepped maker by.0 by.1 c p.frame steps.0 (can_step maker c p can) by.3 in
-      let stays = past_goes maker by.0 by.1 c p.frame (stage_of p.frame) (stage_of steps.0.frame) steps.0.outcome on.goes.way past in
+      let Told : HeapsTold → Type 0 = λ h. IsSome h.plan in
+      let stays = past_goes maker by.0 by.1 c p.frame (subst Told (sym by.4) refl) (stage_of p.frame) (stage_of steps.0.frame) steps.0.outcome on.goes.way past in
       subst (λ (x : Turned P). PastReply x.reply (stage_of x.party.frame)) (sym steps.2)
-      (answered_past steps.0.outcome (stage_of steps.0.frame) steps.0.core (record p { frame = steps.0.frame }) refl stays)
+      (answered_past steps.0.outcome (stage_of steps.0.frame) steps.0.core (record p { frame = steps.0.frame; heaps = t.party.heaps }) refl stays)

@@ -10,10 +10,12 @@ use Rattle.pool_index.specs.declared.ids.SlotId.{SlotId}
 use Rattle.pool_pages.specs.MakerTold.{MakerTold}
 use Rattle.pool_slots.specs.Parts.{part_at}
 use Rattle.pool_slots.specs.Plans.{Role, shard_role, cell_role, queue_role, heaps_role, no_role, role_at, home_of}
+use Rattle.pool_slots.specs.SlotNames.{of_kind}
 use Rattle.pool_slots.specs.declared.slot_name.SlotName.{SlotName}
 use Rattle.pool_slots.specs.declared.plan.Allocator.{Allocator}
 use Rattle.pool_slots.specs.declared.part.PoolPart.{PoolPart}
 use Rattle.pool_slots.specs.declared.part.PoolPart.TheVariants as part
+use Rattle.pool_slots.specs.declared.listed_heaps.PlainHeap.{PlainHeap}
 use Rattle.pool_alloc.specs.Places.{right_to, queued_count, away_count}
 use Rattle.pool_alloc.specs.Steps.{shard_in, shard_at, queue_in}
 use Rattle.pool_alloc.specs.Sound.{IsPartFor, IsPartAt, IsSlotName}
@@ -61,21 +63,21 @@ one_of_all f (x ∷ xs) one =
     ]
 
 -- a shard of the pool has the role of one
-shard_role_of : (P : Type 0) (maker : MakerTold) (s : Settings) (r : Role) (shard : ShardState) → IsPartFor {P = P} maker s r (part.Shard shard) → (a : Allocator) × (j : ℕ) × (r ≡ shard_role a j)
+shard_role_of : (P : Type 0) (maker : MakerTold) (s : Settings) (r : Role) (shard : ShardState) → IsPartFor {P = P} {H = PlainHeap} maker s r (part.Shard shard) → (a : Allocator) × (j : ℕ) × (r ≡ shard_role a j)
 shard_role_of P maker s (shard_role a j) shard is = (a, j, refl)
 shard_role_of P maker s (cell_role name) shard is = absurd is
 shard_role_of P maker s queue_role shard is = absurd is
-shard_role_of P maker s heaps_role shard is = absurd is
+shard_role_of P maker s (heaps_role n) shard is = absurd is
 shard_role_of P maker s no_role shard is = absurd is
 
 module _ {P : Type 0} (maker : MakerTold) (s : RunState P) (k : SlotName) (holds : HoldsBetween maker s) where
-  abbrev of_queue : PoolPart P → ℕ
+  abbrev of_queue : PoolPart P PlainHeap → ℕ
   of_queue x = queued_count (right_to k) (queue_in x).slots
 
   abbrev of_party : RunningParty P → ℕ
   of_party p = (held_by_party p).places (right_to k)
 
-  queue_here : (xs : List (PoolPart P)) (p : ℕ) → of_queue (part_at p xs) ≡ has_at of_queue xs p
+  queue_here : (xs : List (PoolPart P PlainHeap)) (p : ℕ) → of_queue (part_at p xs) ≡ has_at of_queue xs p
   queue_here [] p = refl
   queue_here (x ∷ xs) zero = refl
   queue_here (x ∷ xs) (suc p) = queue_here xs p
@@ -141,7 +143,7 @@ module _ {P : Type 0} (maker : MakerTold) (s : RunState P) (k : SlotName) (holds
   is_in place one = record { once = one; nowhere_else = λ other some. apart place other one some }
 
   -- and in one it is.
-  placed : IsSlotName s.core.plan k → (place : Place) × IsIn s k place
+  placed : k.slot < of_kind k.kind s.core.plan.totals → (place : Place) × IsIn s k place
   placed below =
       elim (cases_Bool used) [
         | inl is ↦
@@ -159,7 +161,7 @@ module _ {P : Type 0} (maker : MakerTold) (s : RunState P) (k : SlotName) (holds
       let core = holds.running.core in
       let at : part_at x.place s.core.parts ≡ part.Shard x.shard = get_or_from_slice_get s.core.parts x.place (part.Shard x.shard) _ x.there in
       let below = slice_get_within s.core.parts x.place (part.Shard x.shard) x.there in
-      let F : PoolPart P → Type 0 = λ y. IsPartAt maker s.core.settings s.core.plan x.place y in
+      let F : PoolPart P PlainHeap → Type 0 = λ y. IsPartAt maker s.core.settings s.core.plan x.place y in
       let role = shard_role_of P maker s.core.settings (role_at s.core.plan x.place) x.shard (subst F at (core.parts x.place below)) in
       let place : IsShardPlace s.core.plan x.place = record { allocator = role.0; index = role.1; role = role.2 } in
       let is : shard_at x.place s.core ≡ x.shard = ap shard_in at in
@@ -171,7 +173,8 @@ module _ {P : Type 0} (maker : MakerTold) (s : RunState P) (k : SlotName) (holds
       let within : x.pick.0.0 < (shard_at x.place s.core).capacity = subst (λ (o : Option (SlotId × ℕ)). IfSome o (λ p. p.0.0 < (shard_at x.place s.core).capacity)) answer (picked_inside x.want (shard_at x.place s.core) sound) in
       let none : away_count (right_to k) s.core ≡ 0 = ap (λ (n : SlotName). away_count (right_to n) s.core) (sym number) ∙ picked_was_in maker x.want x.place x.pick s.core core place answer in
       let slot = slot_of_shard maker x.place x.pick.0.0 s.core core place within in
-      let inside : IsSlotName s.core.plan k = subst (IsSlotName s.core.plan) number slot.named in (
+      let Inside : SlotName → Type 0 = λ n. n.slot < of_kind n.kind s.core.plan.totals in
+      let inside : Inside k = subst Inside number slot.inside in (
         slot.home ∙ ap (λ (n : SlotName). (home_of s.core.plan n).place) number,
         elim (cases_Bool used) [
           | inl is' ↦ absurd (omega (arith, none, used_is_out maker k s.core core inside is'))

@@ -9,11 +9,11 @@ use Rattle.pool_pages.specs.declared.unsupported.Unsupported.{Unsupported}
 use Rattle.pool_images.specs.Images.{Image}
 use Rattle.pool_images.specs.Slots.{FitsInto}
 use Rattle.pool_pages.specs.MemoryTypes.{minimum_byte_size}
-use Rattle.pool_limits.specs.LimiterTold.{LimiterTold}
 use Rattle.pool_memory.specs.Making.{minimum_asked, maximum_asked}
 use Rattle.pool_memory.specs.Memories.{MemoryState}
 use Rattle.pool_slots.specs.declared.errors.AllocError.{AllocError}
 use Rattle.pool_slots.specs.declared.errors.AllocError.TheVariants as refusal
+use Rattle.pool_alloc.specs.PartyTold.{PartyTold}
 use Rattle.pool_alloc.specs.Answers.{AsksForMemory}
 use Rattle.pool_alloc.specs.Leases.{Lease, memory_slot}
 use Rattle.pool_alloc.specs.Own.{made_for}
@@ -25,9 +25,9 @@ use Rattle.pool_alloc.specs.Wants.{MemoryWant, Want, new_memory, new_table, want
 use Rattle.pool_run.proofs.SlotsMade.{made_slot}
 use Rattle.pool_alloc.specs.Refusals.{module_refused}
 use Rattle.pool_alloc.specs.Sound.{IsFrame, IsAllocating, IsMemoryNext, IsTableNext, IsSupported, AreSupported, IsNew, AreBegun, IsLeaseOf, AreLeasesOf}
-use Rattle.pool_alloc.specs.Stages.{Progress, untested, uncounted, admitted, seeks_stack, FindsNone, IsPageFaulted, Makes, MakesTable, IsUntested, Raises, Follows}
+use Rattle.pool_alloc.specs.Stages.{Progress, untested, uncounted, admitted, seeks_stack, tests_heap, seeks_heap, counts_heap, FindsNone, IsPageFaulted, Makes, MakesTable, IsUntested, Raises, Follows}
 use Rattle.pool_alloc.specs.Stepping.{grant_count, grant_instances, grant_components}
-use Rattle.pool_alloc.specs.Steps.{IsModule, kind_by, stacks_wanted, info_wanted, memories_wanted, images_wanted, tables_wanted, memory_slots, stripe_allocator, allocator_of, allocator_for, kind_next}
+use Rattle.pool_alloc.specs.Steps.{IsModule, kind_by, IsForInstance, info_wanted, memories_wanted, images_wanted, tables_wanted, memory_slots, stripe_allocator, allocator_of, allocator_for, kind_next}
 use Rattle.pool_alloc.specs.Turns.{limit_of}
 use Rattle.pool_alloc.specs.PoolTables.{IsTableLease, IsBegunTable}
 use Rattle.pool_alloc.specs.TableLeases.{LeasedTable}
@@ -62,6 +62,7 @@ use Rattle.pool_run.proofs.Growths.{answer_told}
 use Rattle.pool_run.proofs.Wants.{IsWanted, wants_there, count_wanted, count_all, memory_at, table_at, all_declared}
 use Rattle.pool_slots.specs.declared.plan.Allocator.{Allocator}
 use Rattle.pool_slots.specs.Plans.{has_number}
+use Rattle.pool_slots.specs.declared.listed_heaps.PlainHeap.{PlainHeap}
 use Rattle.pool_index.specs.Shard.{one_if}
 
 -- the tables of the module that is asked for
@@ -69,10 +70,10 @@ tables_told_by : (asked : Asked) → tables_wanted asked ≡ (info_wanted asked)
 tables_told_by (module_asked m) = refl
 tables_told_by _ = refl
 
--- a module has memories and tables, and no stack
-no_stack_of : (asked : Asked) → IsModule asked → stacks_wanted asked ≡ 0
-no_stack_of (module_asked m) is = refl
-no_stack_of _ is = absurd is
+-- a module has memories and tables, and neither a stack nor a heap
+for_instance : (asked : Asked) → IsModule asked → IsForInstance asked
+for_instance (module_asked m) is = record { no_stack = refl; no_heap = refl }
+for_instance _ is = absurd is
 
 kind_of_module : (asked : Asked) (n : ℕ) → IsModule asked → kind_by asked n ≡ (if nat_lt n (length (memories_wanted asked)) then memory_kind else table_kind)
 kind_of_module (module_asked m) n is = refl
@@ -85,7 +86,7 @@ told_there Q (x ∷ xs) zero below step = step x refl
 told_there Q (x ∷ xs) (suc k) below step = told_there Q xs k (omega (arith, below)) (λ y is. step y is)
 
 -- what is told of it
-told_of : {X : Type 0} (A : X → Type 0) (o : Option X) (x : X) → o ≡ Some x → IfSome o A → A x
+pub told_of : {X : Type 0} (A : X → Type 0) (o : Option X) (x : X) → o ≡ Some x → IfSome o A → A x
 told_of A None x is h = absurd cc
 told_of A (Some y) x is h = let same : y ≡ x = cc in subst A same h
 
@@ -109,7 +110,7 @@ all_begun {X = X} make index seen (x ∷ xs) (l ∷ ls) same each =
     ap (λ (m : X). m ∷ map seen ls) (each 0 l x refl refl) ∙ ap (λ (ms : List X). make (index l) x ∷ ms) rest
 
 -- a party of this world with these live grants, which was told of these, and whose call is this
-module _ {P : Type 0} (w : World) (old new : LimiterTold) (c : PoolCore P) (f : Frame P) (live : List (Option (Grant P))) (told : Grants) where
+module _ {P : Type 0} (w : World) (old new : PartyTold) (c : PoolCore P PlainHeap) (f : Frame P PlainHeap) (live : List (Option (Grant P PlainHeap))) (told : Grants) where
   -- What is so of the pool and the party before a step.
   pub record IsBefore : Type 0 where
     pub world : IsWorldOf w c
@@ -118,10 +119,10 @@ module _ {P : Type 0} (w : World) (old new : LimiterTold) (c : PoolCore P) (f : 
     pub instances : frame_instances f + sum_by (granted_to grant_instances) live ≤ c.counters.core_instances
     pub components : phase_components f.phase + sum_by (granted_to grant_components) live ≤ c.counters.component_instances
     pub alone : w.alone ≡ true → IsAlone c f live
-    pub rule : old.rule ≡ Some w.terms.host.rule
+    pub rule : old.limiter.rule ≡ Some w.terms.host.rule
     pub stripe : f.stripe ≡ w.terms.stripe
 
-module _ {P : Type 0} (w : World) (old new : LimiterTold) (c : PoolCore P) (f : Frame P) (live : List (Option (Grant P))) (told : Grants) (is : IsBefore w old new c f live told) where
+module _ {P : Type 0} (w : World) (old new : PartyTold) (c : PoolCore P PlainHeap) (f : Frame P PlainHeap) (live : List (Option (Grant P PlainHeap))) (told : Grants) (is : IsBefore w old new c f live told) where
   -- Where the party is alone and no slot is found, each of the allocator is with it.
   pub gone : (n : ℕ) (e : AllocError) → FindsNone c f n e → w.alone ≡ true → (kind : SlotKind) → kind_next f ≡ kind → (k : ℕ) → has_number (allocator_for c.plan f) k ≡ true
       → 1 ≤ instance_count (right_to (record { kind = kind; slot = k })) f.objects + sum_by (granted_to (grant_count (right_to (record { kind = kind; slot = k })))) live
@@ -132,7 +133,7 @@ module _ {P : Type 0} (w : World) (old new : LimiterTold) (c : PoolCore P) (f : 
       let out : Gone kind = subst Gone next (none.none alone.searched k number) in
       omega (arith, alone.places (right_to name), out.0, out.1, none.has name)
 
-module _ {P : Type 0} (w : World) (old new : LimiterTold) (c : PoolCore P) (f : Frame P) (live : List (Option (Grant P))) (told : Grants) (is : IsBefore w old new c f live told) (seen : grants_of live ≡ told) (number : ℕ) (asked : IsFor w.terms number f.asked) where
+module _ {P : Type 0} (w : World) (old new : PartyTold) (c : PoolCore P PlainHeap) (f : Frame P PlainHeap) (live : List (Option (Grant P PlainHeap))) (told : Grants) (is : IsBefore w old new c f live told) (seen : grants_of live ≡ told) (number : ℕ) (asked : IsFor w.terms number f.asked) where
   abbrev request : Request
   request = request_of w.terms number
 
@@ -164,7 +165,7 @@ module _ {P : Type 0} (w : World) (old new : LimiterTold) (c : PoolCore P) (f : 
   table_number = ap (length {A = TableType}) its_tables
 
   pub same_number : objects_wanted f.asked ≡ length (wants_of request)
-  same_number = omega (arith, memory_number, table_number, no_stack_of f.asked asked.of_module, count_all request)
+  same_number = omega (arith, memory_number, table_number, (for_instance f.asked asked.of_module).no_stack, (for_instance f.asked asked.of_module).no_heap, count_all request)
 
   -- the rule that the module breaks
   broken_is : (o : Option Unsupported) → module_refused c.settings c.plan.totals.table (info_wanted f.asked) ≡ o → request.broken ≡ o
@@ -193,7 +194,7 @@ module _ {P : Type 0} (w : World) (old new : LimiterTold) (c : PoolCore P) (f : 
       → ((ty : TableType) → n ≡ length request.memories + length f.objects.tables.items → slice_get request.tables (length f.objects.tables.items) ≡ Some ty → Q) → Q
   table_now Q n same allocating next step =
       let place : n ≡ length request.memories + length f.objects.tables.items = omega (arith, same, memory_number, next.0, allocating.to_grant.few) in
-      told_there Q request.tables (length f.objects.tables.items) (omega (arith, place, same, allocating.more, memory_number, table_number, no_stack_of f.asked asked.of_module)) (λ ty there. step ty place there)
+      told_there Q request.tables (length f.objects.tables.items) (omega (arith, place, same, allocating.more, memory_number, table_number, (for_instance f.asked asked.of_module).no_stack, (for_instance f.asked asked.of_module).no_heap)) (λ ty there. step ty place there)
 
   -- how it is refused
   refused_for : (n : ℕ) (e : AllocError) → FindsNone c f n e → (kind : SlotKind) → kind_next f ≡ kind → e ≡ refusal.Limit (record { limit = (allocator_for c.plan f).capacity; kind = limit_of kind f.stripe })
@@ -243,7 +244,7 @@ module _ {P : Type 0} (w : World) (old new : LimiterTold) (c : PoolCore P) (f : 
 
   none_cause : (n : ℕ) (e : AllocError) → IsAdmitted w request told n → FindsNone c f n e → HasCause w request told e
   none_cause n e so none =
-      elim (cases_lt (length f.objects.memories.items) (length (memories_wanted f.asked))) [ inl memory ↦ no_memory_slot n e so none memory | inr table ↦ no_table_slot n e so none (table, no_stack_of f.asked asked.of_module) ]
+      elim (cases_lt (length f.objects.memories.items) (length (memories_wanted f.asked))) [ inl memory ↦ no_memory_slot n e so none memory | inr table ↦ no_table_slot n e so none (table, for_instance f.asked asked.of_module) ]
 
   -- A call on the pages of its slot failed.
   fault_cause : (n : ℕ) (e : AllocError) → IsAdmitted w request told n → IsPageFaulted w.maker c f n e → HasCause w request told e
@@ -267,25 +268,25 @@ module _ {P : Type 0} (w : World) (old new : LimiterTold) (c : PoolCore P) (f : 
       let k : ℕ = length f.objects.memories.items in
       let there : slice_get (memories_wanted f.asked) k ≡ Some want.decl = wanted.wanted in
       let supported : IsSupported c.settings want.decl (slice_index_or (images_wanted f.asked) k None) = told_of (λ d. IsSupported c.settings d (slice_index_or (images_wanted f.asked) k None)) (slice_get (memories_wanted f.asked) k) want.decl there (makes.allocating.to_grant.supported.each k) in
-      let asks : AsksForMemory makes.given old new want.decl = told_of (AsksForMemory makes.given old new) (slice_get (memories_wanted f.asked) k) want.decl there makes.asked in
+      let asks : AsksForMemory makes.given old.limiter new.limiter want.decl = told_of (AsksForMemory makes.given old.limiter new.limiter) (slice_get (memories_wanted f.asked) k) want.decl there makes.asked in
       let own : Option AllocError = own_refusal w.terms (new_memory want) in
       let Made : Option MemoryDecl → Type 0 = λ o. GoesWith own (made_for c.settings.max_memory_size makes.given makes.held o) in
       subst (GoesWith own) makes.is
-      (subst Made (sym there) (own_goes w.terms makes.given want c.settings.max_memory_size makes.held (answer_told w.terms.host.rule old.rule makes.given (minimum_asked want.decl.ty) (maximum_asked want.decl.ty) is.rule asks.answer) supported.minimum))
+      (subst Made (sym there) (own_goes w.terms makes.given want c.settings.max_memory_size makes.held (answer_told w.terms.host.rule old.limiter.rule makes.given (minimum_asked want.decl.ty) (maximum_asked want.decl.ty) is.rule asks.answer) supported.minimum))
 
   -- And so does what is made of a table.
   table_own : (n : ℕ) (made : Result LeasedTable AllocError) (ty : TableType) → slice_get request.tables (length f.objects.tables.items) ≡ Some ty → MakesTable old new c f n made → GoesWith (own_refusal w.terms (new_table ty)) made
   table_own n made ty at makes =
       let k : ℕ = length f.objects.tables.items in
       let there : slice_get (tables_wanted f.asked) k ≡ Some ty = ap (λ (ts : List TableType). slice_get ts k) its_tables ∙ at in
-      let asks : AsksForTable makes.given old new ty = told_of (AsksForTable makes.given old new) (slice_get (tables_wanted f.asked) k) ty there makes.asked in
+      let asks : AsksForTable makes.given old.limiter new.limiter ty = told_of (AsksForTable makes.given old.limiter new.limiter) (slice_get (tables_wanted f.asked) k) ty there makes.asked in
       let own : Option AllocError = own_refusal w.terms (new_table ty) in
       let most : Option ℕ = Some (type_maximum ty) in
       let Made : Option TableType → Type 0 = λ o. GoesWith own (made_table c.settings makes.given makes.at makes.region o) in
       let In : Settings → Type 0 = λ s. GoesWith own (made_unless (table_refused makes.given ty.limits.min (table_room s ty)) (table_in c.settings ty makes.at makes.region)) in
       subst (GoesWith own) makes.is
       (subst Made (sym there)
-      (subst In is.world.settings (table_goes w.terms makes.given ty (table_in c.settings ty makes.at makes.region) (table_answer_told w.terms.host.rule old.rule makes.given ty.limits.min most is.rule asks.answers))))
+      (subst In is.world.settings (table_goes w.terms makes.given ty (table_in c.settings ty makes.at makes.region) (table_answer_told w.terms.host.rule old.limiter.rule makes.given ty.limits.min most is.rule asks.answers))))
 
   own_by : (n : ℕ) (e : AllocError) → IsAdmitted w request told n → Makes old new c f n (Err e) → HasCause w request told e
   own_by n e so makes =
@@ -315,6 +316,9 @@ module _ {P : Type 0} (w : World) (old new : LimiterTold) (c : PoolCore P) (f : 
       λ a. omega (arith, most, raises.1, (is.alone a).instances, none refl, instances_told live told seen) in
       subst (HasCause w request told) (sym raises.0) (given_cause w request told _ so (instances_given w request told c.settings.max_core_instances most full))
   raised_cause seeks_stack e none so raises = absurd so
+  raised_cause tests_heap e none so raises = absurd so
+  raised_cause (seeks_heap n) e none so raises = absurd so
+  raised_cause counts_heap e none so raises = absurd so
   raised_cause (admitted n) e none so raises =
       elim raises [
         | inl found ↦ none_cause n e so found
@@ -338,20 +342,10 @@ module _ {P : Type 0} (w : World) (old new : LimiterTold) (c : PoolCore P) (f : 
 
   -- It goes on with what is known of it then.
   pub goes_so_far : (p q : Progress) → IsSoFar w request told p → Follows old new c f p q → IsSoFar w request told q
-  goes_so_far untested untested so follows = absurd follows
   goes_so_far untested uncounted so follows = broken_is None follows
-  goes_so_far untested (admitted m) so follows = absurd follows
-  goes_so_far uncounted untested so follows = absurd follows
-  goes_so_far uncounted uncounted so follows = absurd follows
   goes_so_far uncounted (admitted m) so follows =
       let most : w.terms.settings.max_core_instances ≡ c.settings.max_core_instances = ap (λ (s : Settings). s.max_core_instances) is.world.settings in
       record { supported = so; counted = omega (arith, most, follows.1, is.instances, instances_told live told seen); allowed = λ k below. absurd (omega (arith, follows.0, below)) }
-  goes_so_far untested seeks_stack so follows = absurd follows
-  goes_so_far uncounted seeks_stack so follows = absurd follows
-  goes_so_far (admitted n) seeks_stack so follows = absurd follows
-  goes_so_far seeks_stack q so follows = absurd so
-  goes_so_far (admitted n) untested so follows = absurd follows
-  goes_so_far (admitted n) uncounted so follows = absurd follows
   goes_so_far (admitted n) (admitted m) so follows =
       elim follows [
         | inl same ↦ subst (IsAdmitted w request told) (sym same) so
@@ -366,6 +360,11 @@ module _ {P : Type 0} (w : World) (old new : LimiterTold) (c : PoolCore P) (f : 
                   ];
             }
       ]
+  goes_so_far seeks_stack q so follows = absurd so
+  goes_so_far tests_heap q so follows = absurd so
+  goes_so_far (seeks_heap n) q so follows = absurd so
+  goes_so_far counts_heap q so follows = absurd so
+  goes_so_far _ _ so follows = absurd follows
 
   -- What is granted begins as what is asked for does.
   pub granted_begun : (lease : InstanceLease P) → AreLeasesOf w.maker c.settings c.plan lease → length lease.memories.items ≡ length (memories_wanted f.asked) → AreBegun c.settings f.asked lease → length lease.tables.items ≡ length (tables_wanted f.asked) → AreSupported c.settings (memories_wanted f.asked) (images_wanted f.asked) → private_grant (instance lease) ≡ instance_grant (begun_instance w.terms request (slots_of lease.memories.items) (table_slots_of lease.tables.items))

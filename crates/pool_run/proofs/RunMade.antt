@@ -21,7 +21,7 @@ use Rattle.pool_run.specs.Progress.{begins_by, bound_by, Advances, IsRunOf}
 use Rattle.pool_run.specs.RunsMade.{Background, IsKept, places_in, commands_in, party_made_for, parties_made}
 use Rattle.pool_run.specs.declared.input.Party.{Party}
 use Rattle.pool_run.specs.Ties.{CanTurn, held_by_party}
-use Rattle.pool_run.specs.Turns.{Turned, Turns}
+use Rattle.pool_run.specs.Turns.{heaps_told, Turned, Turns}
 use Rattle.pool_run.specs.Worlds.{IsFit, AreFit, AreCallsFor, IsCallFor, NameModules}
 use Rattle.pool_run.specs.Rooms.{World}
 use Rattle.pool_run.specs.declared.command.Command.{Command}
@@ -37,6 +37,10 @@ use Rattle.pool_run.proofs.Started.{IsMadeParty, AreMade, started_running}
 use Rattle.pool_run.proofs.LimitsOfRuns.{made_within}
 use Rattle.pool_run.proofs.Running.{can_turn}
 use Rattle.pool_run.proofs.Turned.{HasTurned, has_turned}
+use Rattle.pool_slots.specs.HeapsTold.{listed_heaps}
+use Rattle.pool_slots.specs.declared.listed_heaps.ListedHeaps.{ListedHeaps}
+use Rattle.pool_slots.specs.declared.listed_heaps.PlainHeap.{PlainHeap}
+use Rattle.pool_run.proofs.SameHeaps.{listed_same}
 
 one_fits : (w : World) (s : Settings) (number : ℕ) (o : Option ModuleAsked) → IfSome o (IsCallFor w.terms s number) → IfSome o (IsFit s)
 one_fits w s number None call = tt
@@ -63,9 +67,13 @@ map_all f xs i all = ap (map f) (take_all i xs all)
 pub store_made : (store : ListedStore) (failing : List ℕ) → store_told store ≡ listed_store failing 0 0 → store ≡ record { failing = failing; made = 0; faults = 0 }
 store_made store failing is = ap (λ (t : StoreTold). record { failing = unwrap_or t.plan []; made = t.made; faults = t.faults }) is
 
+-- a maker of heaps as it is made
+pub heaps_made : (heaps : ListedHeaps) (failing : List ℕ) → heaps_told heaps ≡ listed_heaps failing 0 0 → heaps ≡ record { failing = failing; made = 0; faults = 0 }
+heaps_made heaps failing is = listed_same heaps (record { failing = failing; made = 0; faults = 0 }) is
+
 -- a party that doesn't matter
 nobody : Party
-nobody = record { home = 0; limits = None; gc_faults = []; commands = [] }
+nobody = record { home = 0; limits = None; gc_faults = []; heap_faults = []; commands = [] }
 
 module _ {P : Type 0} where
   -- a turn that was made is one of the run
@@ -85,7 +93,7 @@ module _ {P : Type 0} where
   }
 
   -- what a turn of the party wants
-  pub record CanTake (maker : MakerTold) (modules : List ModuleAsked) (commands : List Command) (c : PoolCore P) (p : RunningParty P) : Type 0 where
+  pub record CanTake (maker : MakerTold) (modules : List ModuleAsked) (commands : List Command) (c : PoolCore P PlainHeap) (p : RunningParty P) : Type 0 where
     pub can : CanTurn maker c p
     pub counts : CanCount c
     pub calls : AreFit c.settings modules
@@ -163,7 +171,7 @@ module _ {P : Type 0} where
       subst F (replicate_more n i) (folds_more modules inputs (replicate n i) i s mid new folds turns)
 
   one_made : (s : Settings) (q : Party) → IsMadeParty s (length q.commands) (party_made_for {P = P} s q)
-  one_made s q = record { home = q.home; frame = refl; limits = q.limits; limited = refl; failing = q.gc_faults; store = refl; keyed = refl; done = refl; live = refl }
+  one_made s q = record { home = q.home; frame = refl; limits = q.limits; limited = refl; failing = q.gc_faults; store = refl; unmade = q.heap_faults; heaps = refl; keyed = refl; done = refl; live = refl }
 
   -- each party is as it is made, with a place for each of its commands
   pub are_made : (s : Settings) (parties : List Party) → AreMade s (commands_in parties) (map (party_made_for {P = P} s) parties)
@@ -176,7 +184,7 @@ module _ {P : Type 0} where
       subst (λ (cs : List Command). At cs (get_or (map (party_made_for {P = P} s) parties) i d)) (sym commands) (subst (At q.commands) (sym party) (one_made s q))
 
   -- A run keeps what it promises from its start on.
-  pub kept_at_start : (maker : MakerTold) (c : PoolCore P) (parties : List Party) → IsCore maker c → IsUntouched c → places_in (parties_made {P = P} c.settings parties) + 1 < 2 ^ 64 → IsKept c (parties_made c.settings parties)
+  pub kept_at_start : (maker : MakerTold) (c : PoolCore P PlainHeap) (parties : List Party) → IsCore maker c → IsUntouched c → places_in (parties_made {P = P} c.settings parties) + 1 < 2 ^ 64 → IsKept c (parties_made c.settings parties)
   kept_at_start maker c parties core untouched few =
       let whole : IsPartitioned held_by_party c (parties_made c.settings parties) = (started_running maker c (commands_in parties) (parties_made c.settings parties) core untouched (are_made c.settings parties)).whole in
       record {

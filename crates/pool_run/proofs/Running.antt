@@ -20,6 +20,7 @@ use Rattle.pool_run.proofs.Turned.{HasTurned}
 use Rattle.pool_run.proofs.Sounds.{IsSoundTurn, over_size}
 use Rattle.pool_slots.specs.declared.plan.Plan.{Plan}
 use Rattle.pool_slots.specs.declared.slot_name.SlotName.{SlotName}
+use Rattle.pool_slots.specs.declared.listed_heaps.PlainHeap.{PlainHeap}
 
 module _ {P : Type 0} where
   -- A party has no region without its slot.
@@ -36,7 +37,7 @@ module _ {P : Type 0} where
       )
 
   -- What each of the parties has fits what the pool has.
-  pub fits_party : (c : PoolCore P) (parties : List (RunningParty P)) (i : ℕ) (d : RunningParty P) → IsPartitioned held_by_party c parties → i < length parties → FitsParty c (slice_index_or parties i d)
+  pub fits_party : (c : PoolCore P PlainHeap) (parties : List (RunningParty P)) (i : ℕ) (d : RunningParty P) → IsPartitioned held_by_party c parties → i < length parties → FitsParty c (slice_index_or parties i d)
   fits_party c parties i d whole below = record {
     once = λ t. omega (arith, whole.places t, get_or-le-sum_by (λ p. (held_by_party p).places t) parties i d below);
     others = λ k. omega (arith, whole.places (right_to k), whole.places (region_of k), others_have_slots parties i k d below);
@@ -45,17 +46,18 @@ module _ {P : Type 0} where
     memories = omega (arith, whole.memories, get_or-le-sum_by (λ p. (held_by_party p).memories) parties i d below);
     tables = omega (arith, whole.tables, get_or-le-sum_by (λ p. (held_by_party p).tables) parties i d below);
     stacks = omega (arith, whole.stacks, get_or-le-sum_by (λ p. (held_by_party p).stacks) parties i d below);
+    heaps = omega (arith, whole.heaps, get_or-le-sum_by (λ p. (held_by_party p).heaps) parties i d below);
   }
 
   -- Each of them may turn.
-  pub can_turn : (maker : MakerTold) (c : PoolCore P) (parties : List (RunningParty P)) (i : ℕ) (d : RunningParty P) → IsRunning maker c parties → i < length parties → CanTurn maker c (slice_index_or parties i d)
+  pub can_turn : (maker : MakerTold) (c : PoolCore P PlainHeap) (parties : List (RunningParty P)) (i : ℕ) (d : RunningParty P) → IsRunning maker c parties → i < length parties → CanTurn maker c (slice_index_or parties i d)
   can_turn maker c parties i d running below = record {
     core = running.core;
     party = All-get_or (IsParty maker c) parties i d below running.each;
     fits = fits_party c parties i d running.whole below;
   }
 
-  whole_turned : (c : PoolCore P) (parties : List (RunningParty P)) (i : ℕ) (d : RunningParty P) (t : Turned P) → IsPartitioned held_by_party c parties → i < length parties → HasTurned c (slice_index_or parties i d) t → IsPartitioned held_by_party t.core (slice_set parties i t.party)
+  whole_turned : (c : PoolCore P PlainHeap) (parties : List (RunningParty P)) (i : ℕ) (d : RunningParty P) (t : Turned P) → IsPartitioned held_by_party c parties → i < length parties → HasTurned c (slice_index_or parties i d) t → IsPartitioned held_by_party t.core (slice_set parties i t.party)
   whole_turned c parties i d t whole below turned = record {
     places = λ x. omega (arith, whole.places x, turned.places x, sum_by-set (λ p. (held_by_party p).places x) parties i t.party d below);
     instances = omega (arith, whole.instances, turned.instances, sum_by-set (λ p. (held_by_party p).instances) parties i t.party d below);
@@ -63,10 +65,11 @@ module _ {P : Type 0} where
     memories = omega (arith, whole.memories, turned.memories, sum_by-set (λ p. (held_by_party p).memories) parties i t.party d below);
     tables = omega (arith, whole.tables, turned.tables, sum_by-set (λ p. (held_by_party p).tables) parties i t.party d below);
     stacks = omega (arith, whole.stacks, turned.stacks, sum_by-set (λ p. (held_by_party p).stacks) parties i t.party d below);
+    heaps = omega (arith, whole.heaps, turned.heaps, sum_by-set (λ p. (held_by_party p).heaps) parties i t.party d below);
   }
 
   -- A party stays sound over a pool of the same sizes.
-  pub party_over : (maker : MakerTold) (c d : PoolCore P) (p : RunningParty P) → IsSameSize c d → IsParty maker c p → IsParty maker d p
+  pub party_over : (maker : MakerTold) (c d : PoolCore P PlainHeap) (p : RunningParty P) → IsSameSize c d → IsParty maker c p → IsParty maker d p
   party_over maker c d p size is =
       let Grants : Settings → Plan → Type 0 = λ s plan. All (λ g. IfSome g (IsGrant maker s plan)) p.live in
       let Framed : Settings → Plan → Type 0 = λ s plan. IsFrame maker s plan p.frame in
@@ -77,7 +80,7 @@ module _ {P : Type 0} where
       }
 
   -- The run goes on after a turn of one of them.
-  pub turned_running : (maker : MakerTold) (c : PoolCore P) (parties : List (RunningParty P)) (i : ℕ) (d : RunningParty P) (t : Turned P) → IsRunning maker c parties → i < length parties → HasTurned c (slice_index_or parties i d) t → IsSoundTurn maker t → IsRunning maker t.core (slice_set parties i t.party)
+  pub turned_running : (maker : MakerTold) (c : PoolCore P PlainHeap) (parties : List (RunningParty P)) (i : ℕ) (d : RunningParty P) (t : Turned P) → IsRunning maker c parties → i < length parties → HasTurned c (slice_index_or parties i d) t → IsSoundTurn maker t → IsRunning maker t.core (slice_set parties i t.party)
   turned_running maker c parties i d t running below turned sound = record {
     core = sound.core;
     each =

@@ -28,6 +28,7 @@ use Rattle.pool_run.proofs.Opened.{idle_is}
 use Rattle.pool_run.proofs.Pending.{IsPast, PastReply, step_past}
 use Rattle.pool_run.proofs.SameTurns.{IsApart, can_now, turn_alike, turn_clear}
 use Rattle.pool_run.proofs.Wants.{stays_get}
+use Rattle.pool_slots.specs.declared.listed_heaps.PlainHeap.{PlainHeap}
 
 -- what is put behind a list is there
 last_get : {X : Type 0} (xs : List X) (x : X) → slice_get (xs ++ x ∷ []) (length xs) ≡ Some x
@@ -79,7 +80,7 @@ module _ {P : Type 0} where
       let Opens : Option Command → Type 0 = λ n. OpensNext modules n p.keyed p o in
       subst Opens (there ∙ none) opens
 
-  rest_turn : (modules : List ModuleCall) (commands : List Command) (c : PoolCore P) (p : RunningParty P) (t : Turned P) → HasNothingLeft commands p → Turns modules commands c p t → t ≡ record { core = c; party = p; reply = None }
+  rest_turn : (modules : List ModuleCall) (commands : List Command) (c : PoolCore P PlainHeap) (p : RunningParty P) (t : Turned P) → HasNothingLeft commands p → Turns modules commands c p t → t ≡ record { core = c; party = p; reply = None }
   rest_turn modules commands c p t left turns =
       let L : Opening P → Type 0 = λ o. Leaves o c p t in
       subst L (opens_rests modules commands p (is_idle p.frame.phase) (slice_get commands p.done) turns.0 refl left.idle refl (slice_get_past commands p.done left.all) turns.1) turns.2
@@ -144,9 +145,9 @@ module _ {P : Type 0} (w : World) (modules : List ModuleAsked) (inputs : List (L
     past : IsPast (stage_of party.frame)
     count : length (replies_to i s.replies) ≡ n
 
-  past_turns : (c : PoolCore P) (p : RunningParty P) (commands : List Command) (t : Turned P) (b : Bool) (o : Opening P) → is_idle p.frame.phase ≡ b → CanTurn w.maker c p → IsPast (stage_of p.frame) → OpensAt b modules commands p o → Leaves o c p t → PastReply t.reply (stage_of t.party.frame)
+  past_turns : (c : PoolCore P PlainHeap) (p : RunningParty P) (commands : List Command) (t : Turned P) (b : Bool) (o : Opening P) → is_idle p.frame.phase ≡ b → CanTurn w.maker c p → IsPast (stage_of p.frame) → OpensAt b modules commands p o → Leaves o c p t → PastReply t.reply (stage_of t.party.frame)
   past_turns c p commands t true o idle can past opens leaves =
-      let S : Phase P → Type 0 = λ x. IsPast (stage_at x p.frame.asked p.frame.ending (objects_in p.frame.objects)) in
+      let S : Phase P PlainHeap → Type 0 = λ x. IsPast (stage_at x p.frame.asked p.frame.ending (objects_in p.frame.objects)) in
       absurd (subst S (idle_is p.frame.phase idle) past)
   past_turns c p commands t false o busy can past opens leaves =
       let L : Opening P → Type 0 = λ x. Leaves x c p t in

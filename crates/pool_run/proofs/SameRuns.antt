@@ -1,5 +1,5 @@
 -- Two runs of one input, in which the same commands find no memory, give the same.
-use Rattle.std.proofs.Common.{◌≡◌, ℕ, zero, suc, ◌<◌, Bool, true, false, List, [], ◌∷◌, length, IsSome, None, Result, Ok, Err, refl, sym, ap, ◌∙◌, subst, arith}
+use Rattle.std.proofs.Common.{◌≡◌, ℕ, zero, suc, ◌<◌, Bool, true, false, List, [], ◌∷◌, length, IsSome, Option, Some, None, Result, Ok, Err, refl, sym, ap, ◌∙◌, subst, arith}
 use Rattle.std.specs.Prelude.{IfOk, OnOk, IfSome, slice_get, slice_index_or}
 use Rattle.pool_pages.specs.MakerTold.{MakerTold}
 use Rattle.pool_pages.specs.declared.config.PoolingAllocationConfig.{PoolingAllocationConfig}
@@ -7,6 +7,8 @@ use Rattle.pool_pages.specs.declared.module_types.Tunables.{Tunables}
 use Rattle.pool_pages.specs.declared.offered.Offered.{Offered}
 use Rattle.pool_pages.specs.declared.pages.PageCalls.{PageCalls}
 use Rattle.pool_alloc.specs.Asked.{ModuleAsked}
+use Rattle.pool_alloc.specs.Calls.{lists_made}
+use Rattle.pool_alloc.specs.declared.frame.FrameLists.{FrameLists}
 use Rattle.pool_alloc.specs.Made.{IsMadeCore, plan_settings, part_settings}
 use Rattle.pool_alloc.specs.Sums.{metrics_of}
 use Rattle.pool_alloc.specs.declared.metrics.Metrics.{Metrics}
@@ -35,7 +37,7 @@ use Rattle.pool_hall.specs.declared.unit_name.SlotKind.{SlotKind}
 use Rattle.pool_hall.specs.declared.unit_name.SlotKind.TheVariants as of_slot
 use Rattle.pool_slots.specs.PartsMade.{IsCellMade, IsMadeAs, AreMadeTo}
 use Rattle.pool_slots.specs.Plans.{Role, shard_role, cell_role, queue_role, heaps_role, no_role, role_at}
-use Rattle.pool_slots.specs.PlansMade.{heaps_from}
+use Rattle.pool_slots.specs.PlansMade.{places_planned}
 use Rattle.pool_slots.specs.StripedPlans.{divided, stripe_allocators}
 use Rattle.pool_slots.specs.declared.part_maker.PartSettings.{PartSettings}
 use Rattle.pool_slots.specs.declared.striped_plan.StripedPlanSettings.{StripedPlanSettings}
@@ -43,6 +45,7 @@ use Rattle.pool_slots.proofs.PlansMade.{one_plan_with}
 use Rattle.pool_slots.specs.Parts.{part_at}
 use Rattle.pool_slots.specs.declared.plan.Plan.{Plan}
 use Rattle.pool_slots.specs.declared.part.PoolPart.{PoolPart}
+use Rattle.pool_slots.specs.declared.listed_heaps.PlainHeap.{PlainHeap}
 
 -- lists with the same elements in each place are one
 places_same : {X : Type 0} (xs ys : List X) (d : X) → length xs ≡ length ys → ((i : ℕ) → i < length xs → slice_index_or xs i d ≡ slice_index_or ys i d) → xs ≡ ys
@@ -60,40 +63,42 @@ made_clear P settings (x ∷ xs) (suc k) = made_clear P settings xs k
 
 module _ {P : Type 0} where
   -- parts that are made alike for a place are one
-  cells_same : (stripes : ℕ) (maker : MakerTold) (ps : PartSettings) (kind : SlotKind) (slot : ℕ) (x y : PoolPart P) → IsCellMade stripes maker ps kind slot x → IsCellMade stripes maker ps kind slot y → x ≡ y
+  cells_same : (stripes : ℕ) (maker : MakerTold) (ps : PartSettings) (kind : SlotKind) (slot : ℕ) (x y : PoolPart P PlainHeap) → IsCellMade stripes maker ps kind slot x → IsCellMade stripes maker ps kind slot y → x ≡ y
   cells_same stripes maker ps of_slot.Memory slot x y one two = one ∙ sym two
   cells_same stripes maker ps of_slot.Table slot x y one two = one ∙ sym two
   cells_same stripes maker ps of_slot.Stack slot x y one two = one ∙ sym two
   cells_same stripes maker ps of_slot.Heap slot x y one two = absurd one
 
-  made_same : (stripes : ℕ) (maker : MakerTold) (ps : PartSettings) (r : Role) (x y : PoolPart P) → IsMadeAs stripes maker ps r x → IsMadeAs stripes maker ps r y → x ≡ y
+  made_same : (stripes : ℕ) (maker : MakerTold) (ps : PartSettings) (r : Role) (x y : PoolPart P PlainHeap) → IsMadeAs stripes maker ps r x → IsMadeAs stripes maker ps r y → x ≡ y
   made_same stripes maker ps (shard_role a j) x y one two = one.1 ∙ sym two.1
   made_same stripes maker ps (cell_role name) x y one two = cells_same stripes maker ps name.kind name.slot x y one two
   made_same stripes maker ps queue_role x y one two = one ∙ sym two
-  made_same stripes maker ps heaps_role x y one two = absurd one
+  made_same stripes maker ps (heaps_role n) x y one two = one ∙ sym two
   made_same stripes maker ps no_role x y one two = absurd one
 
   -- A pool is made in one way,
-  core_same : (maker : MakerTold) (config : PoolingAllocationConfig) (tunables : Tunables) (offered : Offered) (shards : ℕ) (a b : PoolCore P) → IsMadeCore maker config tunables offered shards a → IsMadeCore maker config tunables offered shards b → a ≡ b
+  core_same : (maker : MakerTold) (config : PoolingAllocationConfig) (tunables : Tunables) (offered : Offered) (shards : ℕ) (a b : PoolCore P PlainHeap) → IsMadeCore maker config tunables offered shards a → IsMadeCore maker config tunables offered shards b → a ≡ b
   core_same maker config tunables offered shards a b one two =
       let z : StripedPlanSettings = plan_settings maker.page config tunables offered shards in
       let ps : PartSettings = part_settings maker.page config offered in
       let settings : a.settings ≡ b.settings = one.settings ∙ sym two.settings in
       let plans : a.plan ≡ b.plan = one_plan_with (divided z) (stripe_allocators z) a.plan b.plan one.plan two.plan in
-      let others : AreMadeTo a.plan z.num_stripes maker ps (heaps_from (divided z)) b.parts = subst (λ plan. AreMadeTo plan z.num_stripes maker ps (heaps_from (divided z)) b.parts) (sym plans) two.parts in
+      let others : AreMadeTo a.plan z.num_stripes maker ps (places_planned (divided z)) b.parts = subst (λ plan. AreMadeTo plan z.num_stripes maker ps (places_planned (divided z)) b.parts) (sym plans) two.parts in
       let parts : a.parts ≡ b.parts = places_same a.parts b.parts (part_at 0 []) (one.parts.count ∙ sym two.parts.count) (λ p below. made_same z.num_stripes maker ps (role_at a.plan p) (part_at p a.parts) (part_at p b.parts) (one.parts.each p (omega (arith, below, one.parts.count))) (others.each p (omega (arith, below, one.parts.count)))) in
-      let C : List (PoolPart P) → Counters → Settings → Plan → PoolCore P = λ ps n s plan. record { parts = ps; counters = n; settings = s; plan = plan } in
-      ap (λ (ps : List (PoolPart P)). C ps a.counters a.settings a.plan) parts
-      ∙ ap (λ (n : Counters). C b.parts n a.settings a.plan) (one.counters ∙ sym two.counters)
-      ∙ ap (λ (s : Settings). C b.parts b.counters s a.plan) settings ∙ ap (C b.parts b.counters b.settings) plans
+      let spare : a.spare ≡ b.spare = one.spare ∙ ap (λ (s : Settings). Some (lists_made {P = P} s)) settings ∙ sym two.spare in
+      let C : List (PoolPart P PlainHeap) → Counters → Settings → Plan → Option (FrameLists P) → PoolCore P PlainHeap = λ ps n s plan spare. record { parts = ps; counters = n; settings = s; plan = plan; spare = spare } in
+      ap (λ (ps : List (PoolPart P PlainHeap)). C ps a.counters a.settings a.plan a.spare) parts
+      ∙ ap (λ (n : Counters). C b.parts n a.settings a.plan a.spare) (one.counters ∙ sym two.counters)
+      ∙ ap (λ (s : Settings). C b.parts b.counters s a.plan a.spare) settings
+      ∙ ap (λ (plan : Plan). C b.parts b.counters b.settings plan a.spare) plans ∙ ap (C b.parts b.counters b.settings b.plan) spare
 
   -- and so is a run.
   start_same : (input : Input) (maker : MakerTold) (a b : RunParts P) → IsMadeRun input maker a → IsMadeRun input maker b → a ≡ b
   start_same input maker a b one two =
       let core : a.core ≡ b.core = core_same maker input.config input.tunables input.offered input.shards a.core b.core one.made two.made in
-      let R : PoolCore P → List ModuleAsked → List (RunningParty P) → RunParts P = λ c ms ps. record { core = c; modules = ms; parties = ps } in
-      let parties : a.parties ≡ b.parties = one.parties ∙ ap (λ (c : PoolCore P). parties_made c.settings input.parties) core ∙ sym two.parties in
-      ap (λ (c : PoolCore P). R c a.modules a.parties) core ∙ ap (λ (ms : List ModuleAsked). R b.core ms a.parties) (one.calls ∙ sym two.calls) ∙ ap (R b.core b.modules) parties
+      let R : PoolCore P PlainHeap → List ModuleAsked → List (RunningParty P) → RunParts P = λ c ms ps. record { core = c; modules = ms; parties = ps } in
+      let parties : a.parties ≡ b.parties = one.parties ∙ ap (λ (c : PoolCore P PlainHeap). parties_made c.settings input.parties) core ∙ sym two.parties in
+      ap (λ (c : PoolCore P PlainHeap). R c a.modules a.parties) core ∙ ap (λ (ms : List ModuleAsked). R b.core ms a.parties) (one.calls ∙ sym two.calls) ∙ ap (R b.core b.modules) parties
 
   start_clear : (input : Input) (maker : MakerTold) (run : RunParts P) (w : World) → IsMadeRun input maker run → AllClear w run.modules (commands_in input.parties) (told_state run (nothing_told input.parties))
   start_clear input maker run w made k =

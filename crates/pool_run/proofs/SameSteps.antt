@@ -12,17 +12,20 @@ use Rattle.pool_images.specs.Images.{Image}
 use Rattle.pool_images.specs.Orders.{Follows, wiping, resizing, replacing, resetting, removing, set_by_hand}
 use Rattle.pool_images.specs.Slots.{Slot, hides, reused, replaced, forgotten}
 use Rattle.pool_limits.specs.Growth.{GrowthRule}
-use Rattle.pool_limits.specs.LimiterTold.{LimiterTold}
+use Rattle.pool_slots.specs.HeapsTold.{HeapsTold}
+use Rattle.pool_slots.specs.declared.heap_maker.HeapMakeFault.{HeapMakeFault}
+use Rattle.pool_slots.specs.declared.listed_heaps.ListedHeaps.{ListedHeaps}
+use Rattle.pool_alloc.specs.PartyTold.{PartyTold, MakesHeap}
 use Rattle.pool_limits.specs.declared.errors.LimiterError.{LimiterError}
 use Rattle.pool_memory.specs.Making.{minimum_asked, maximum_asked}
 use Rattle.pool_memory.specs.Memories.{slot_of}
 use Rattle.pool_slots.specs.SlotQueues.{Queue, is_to_zero}
 use Rattle.pool_slots.specs.declared.queued_range.QueuedRange.{QueuedRange}
 use Rattle.pool_slots.specs.declared.errors.AllocError.TheVariants as refusal
-use Rattle.pool_alloc.specs.Answers.{Empties, Resets, InstantiatesAs, InstantiatesFor, FollowsPlan, FollowsPlanFor, FollowsReset, AsksForMemory, FlushTold, FlushPlanned, MayBeTold, IsPlanned, AsksOf, RemovesImage, DecommitsWhole, Forgets, FollowsForget, Drains, FollowsDrain}
+use Rattle.pool_alloc.specs.Answers.{MakesOf, Empties, Resets, InstantiatesAs, InstantiatesFor, FollowsPlan, FollowsPlanFor, FollowsReset, AsksForMemory, FlushTold, FlushPlanned, MayBeTold, IsPlanned, AsksOf, RemovesImage, DecommitsWhole, Forgets, FollowsForget, Drains, FollowsDrain}
 use Rattle.pool_alloc.specs.Leases.{Lease, slot_taken}
 use Rattle.pool_alloc.specs.Refusals.{module_refused}
-use Rattle.pool_alloc.specs.Rows.{FlushStep, run, zero as zero_by_hand, put, free, flush_step, kind_settled, settled_step, some_queued, paged, make_memory_row, make_table_row, validated, was_reset, flush_row, row_of}
+use Rattle.pool_alloc.specs.Rows.{FlushStep, run, zero as zero_by_hand, put, free, flush_step, kind_settled, settled_step, some_queued, paged, make_memory_row, make_table_row, make_heap_row, validated, was_reset, flush_row, row_of}
 use Rattle.pool_alloc.specs.Sound.{IsFrame, IsShapedAt, HasSlot, MayHold, IsDraining}
 use Rattle.pool_alloc.specs.Stepping.{CanStep}
 use Rattle.pool_alloc.specs.Steps.{StepGiven, info_wanted, memories_wanted, tables_wanted, image_wanted}
@@ -34,7 +37,7 @@ use Rattle.pool_alloc.specs.declared.frame.FreedSlot.{FreedSlot}
 use Rattle.pool_alloc.specs.Turns.{After, Row, goes, failing, stepped}
 use Rattle.pool_alloc.specs.declared.frame.Frame.{Frame}
 use Rattle.pool_alloc.specs.declared.frame.Phase.{Phase}
-use Rattle.pool_alloc.specs.declared.frame.Phase.TheVariants.{Idle, Validate, Empty, Instantiate, MakeMemory, MakeTable, PutBack, Reset, Flush, Purge, Release}
+use Rattle.pool_alloc.specs.declared.frame.Phase.TheVariants.{Idle, Validate, TestHeap, MakeHeap, Empty, Instantiate, MakeMemory, MakeTable, PutBack, Reset, Flush, Purge, Release}
 use Rattle.pool_alloc.specs.declared.frame.TakenSlot.{TakenSlot}
 use Rattle.pool_alloc.specs.declared.frame.Object.TheVariants as object
 use Rattle.pool_slots.specs.declared.slot_name.SlotName.{SlotName}
@@ -44,6 +47,7 @@ use Rattle.std.proofs.lemmas.List.Elements.{All-get_or}
 use Rattle.pool_alloc.specs.declared.release.ReleaseCursor.{ReleaseCursor}
 use Rattle.pool_slots.specs.declared.cells.ImageSlot.{ImageSlot}
 use Rattle.pool_slots.specs.declared.cells.ImageSlot.TheVariants as image_slot
+use Rattle.pool_slots.specs.declared.listed_heaps.PlainHeap.{PlainHeap}
 use Rattle.pool_alloc.specs.Purges.{known_after, after_forgetting}
 use Rattle.pool_alloc.specs.Releases.{after_decommit}
 use Rattle.pool_alloc.specs.declared.purge.PurgeStep.TheVariants as purging
@@ -51,7 +55,8 @@ use Rattle.pool_alloc.specs.declared.release.ReleaseStep.TheVariants as releasin
 use Rattle.pool_alloc.specs.declared.pool_core.Settings.{Settings}
 use Rattle.pool_pages.specs.Told.{decommitting}
 use Rattle.pool_alloc.specs.declared.pool_core.PoolCore.{PoolCore}
-use Rattle.pool_run.specs.Turns.{StepsUnder}
+use Rattle.pool_run.specs.Turns.{StepsUnder, heaps_told}
+use Rattle.pool_run.proofs.SameHeaps.{given_same}
 use Rattle.pool_run.proofs.Growths.{answer_told}
 use Rattle.pool_run.proofs.SameFlushes.{decommit_same}
 use Rattle.pool_run.proofs.SameMoves.{slot_planned, slot_tells, faulted_is}
@@ -154,9 +159,9 @@ runs_some local freed step is runs none =
     let wrong : false ≡ true = sym settled ∙ ap is_run (ap Step (sym none) ∙ is ∙ runs) in
     absurd cc
 
-module _ {P : Type 0} (c : PoolCore P) (f : Frame P) where
+module _ {P : Type 0} (c : PoolCore P PlainHeap) (f : Frame P PlainHeap) where
   -- The rows under what comes of these.
-  paged_same : (a b : Bool) (at : TakenSlot) (goes_on : Slot → Phase P) (new other : Slot) → IsSameSlot a b new other → paged a at new (goes_on new) c f ≡ paged b at other (goes_on other) c f
+  paged_same : (a b : Bool) (at : TakenSlot) (goes_on : Slot → Phase P PlainHeap) (new other : Slot) → IsSameSlot a b new other → paged a at new (goes_on new) c f ≡ paged b at other (goes_on other) c f
   paged_same true true at goes_on new other same = ap (λ (s : Slot). record { part = c; frame = failing refusal.PageFault f; turn = goes (PutBack at (image_slot.Unknown s)) }) (same.left refl)
   paged_same false false at goes_on new other same = ap (λ (s : Slot). record { part = c; frame = f; turn = goes (goes_on s) }) (same.is refl)
   paged_same true false at goes_on new other same = let wrong : true ≡ false = same.fault in absurd cc
@@ -169,8 +174,9 @@ module _ {P : Type 0} (c : PoolCore P) (f : Frame P) where
   was_reset_same false true lease new other same = let wrong : false ≡ true = same.fault in absurd cc
 
 -- a request's test, and the first step of a release: there alone memory may be wanting
-abbrev pub is_test : {P : Type 0} → Phase P → Bool
+abbrev pub is_test : {P : Type 0} → Phase P PlainHeap → Bool
 is_test Validate = true
+is_test TestHeap = true
 is_test (Release releasing.Reserve) = true
 is_test _ = false
 
@@ -207,19 +213,21 @@ module _ {P : Type 0} where
   known_same false true new other same = let wrong : false ≡ true = same.fault in absurd cc
 
 -- a step of a call over a pool whose maker tells what its regions hold, and which of their calls fail
-module _ {P : Type 0} (maker : MakerTold) (tells : maker.tells ≡ true) (planned : IsSome maker.plan) (by : GrowthRule) (c : PoolCore P) (f : Frame P) (frame : IsFrame maker c.settings c.plan f) where
+module _ {P : Type 0} (maker : MakerTold) (tells : maker.tells ≡ true) (planned : IsSome maker.plan) (by : GrowthRule) (was : ListedHeaps) (c : PoolCore P PlainHeap) (f : Frame P PlainHeap) (frame : IsFrame maker c.settings c.plan f) where
   -- the frame as the row has it
-  abbrev bare : Frame P
+  abbrev bare : Frame P PlainHeap
   bare = record f { phase = Idle }
 
   -- what is given in this phase
-  pub record IsGivenAt (g : StepGiven) (phase : Phase P) : Type 0 where
-    pub old : LimiterTold
-    pub new : LimiterTold
-    pub rule : old.rule ≡ Some by
+  pub record IsGivenAt (g : StepGiven PlainHeap) (phase : Phase P PlainHeap) : Type 0 where
+    pub old : PartyTold
+    pub new : PartyTold
+    pub rule : old.limiter.rule ≡ Some by
+    pub told_of : old.heaps ≡ heaps_told was
     pub told : MayBeTold c.settings g phase f
     pub plan : IsPlanned c.settings g phase f
-    pub limiter : AsksOf old new g phase f
+    pub limiter : AsksOf old.limiter new.limiter g phase f
+    pub heaps : MakesOf old.heaps new.heaps g phase
 
   with_plan : (name : SlotName) (held : Slot) → HasSlot maker c.settings c.plan name held → IsSome held.region.plan
   with_plan name held has = slot_planned maker c.settings name.slot held planned has.region
@@ -227,7 +235,7 @@ module _ {P : Type 0} (maker : MakerTold) (tells : maker.tells ≡ true) (planne
   allocated : length f.objects.memories.items < length (memories_wanted f.asked) → IsSome (slice_get (memories_wanted f.asked) (length f.objects.memories.items))
   allocated more = get_there (memories_wanted f.asked) (length f.objects.memories.items) more
 
-  flushed_same : (step : FlushStep) (g h : StepGiven) → flush_step f.local f.freed.items ≡ step → FlushTold step g f.local → FlushTold step h f.local → FlushPlanned step g f.local → FlushPlanned step h f.local → flush_row step g.queue c bare ≡ flush_row step h.queue c bare
+  flushed_same : (step : FlushStep) (g h : StepGiven PlainHeap) → flush_step f.local f.freed.items ≡ step → FlushTold step g f.local → FlushTold step h f.local → FlushPlanned step g f.local → FlushPlanned step h f.local → flush_row step g.queue c bare ≡ flush_row step h.queue c bare
   flushed_same run g h is left right one two =
       ap (λ (q : Queue). flush_row {P = P} run q c bare) (decommit_same maker c.settings g.fault h.fault f.local g.queue h.queue planned frame.queue (runs_some f.local f.freed.items run is refl) left right one two)
   flushed_same (put kind) g h is left right one two = refl
@@ -251,13 +259,13 @@ module _ {P : Type 0} (maker : MakerTold) (tells : maker.tells ≡ true) (planne
       let of : M memory_kind = subst M kind holds in
       slot_planned maker c.settings name.slot slot planned of.0
 
-  forgets_same : (g h : StepGiven) (name : SlotName) (held : ImageSlot P) → name.kind ≡ memory_kind → MayHold maker c.settings name.kind name.slot (cell_of held) → Forgets g.fault held g.slot → Forgets h.fault held h.slot → FollowsForget g.fault held g.slot → FollowsForget h.fault held h.slot → after_forgetting g.fault held g.slot ≡ after_forgetting h.fault held h.slot
+  forgets_same : (g h : StepGiven PlainHeap) (name : SlotName) (held : ImageSlot P) → name.kind ≡ memory_kind → MayHold maker c.settings name.kind name.slot (cell_of held) → Forgets g.fault held g.slot → Forgets h.fault held h.slot → FollowsForget g.fault held g.slot → FollowsForget h.fault held h.slot → after_forgetting g.fault held g.slot ≡ after_forgetting h.fault held h.slot
   forgets_same g h name (image_slot.Unmapped region) kind holds one two way also = refl
   forgets_same g h name (image_slot.Unknown old) kind holds one two way also = known_same g.fault h.fault g.slot h.slot (emptied_same g.fault h.fault old g.slot h.slot (plan_known name old kind holds) one two way also)
   forgets_same g h name (image_slot.PreviouslyUsed old) kind holds one two way also = known_same g.fault h.fault g.slot h.slot (removed_same g.fault h.fault old g.slot h.slot (plan_used name old kind holds) one two way also)
   forgets_same g h name image_slot.Taken kind holds one two way also = refl
 
-  drains_same : (g h : StepGiven) (name : SlotName) (held : ImageSlot P) → name.kind ≡ memory_kind → MayHold maker c.settings name.kind name.slot (cell_of held) → Drains c.settings g.fault held g.slot → Drains c.settings h.fault held h.slot → FollowsDrain c.settings g.fault held g.slot → FollowsDrain c.settings h.fault held h.slot → (g.fault ≡ h.fault) × (after_decommit held g.slot ≡ after_decommit held h.slot)
+  drains_same : (g h : StepGiven PlainHeap) (name : SlotName) (held : ImageSlot P) → name.kind ≡ memory_kind → MayHold maker c.settings name.kind name.slot (cell_of held) → Drains c.settings g.fault held g.slot → Drains c.settings h.fault held h.slot → FollowsDrain c.settings g.fault held g.slot → FollowsDrain c.settings h.fault held h.slot → (g.fault ≡ h.fault) × (after_decommit held g.slot ≡ after_decommit held h.slot)
   drains_same g h name (image_slot.Unmapped region) kind holds one two way also = (one ∙ sym two, refl)
   drains_same g h name (image_slot.Unknown old) kind holds one two way also =
       let both = drained_same g.fault h.fault c.settings old g.slot h.slot (plan_known name old kind holds) one two way also in
@@ -267,16 +275,21 @@ module _ {P : Type 0} (maker : MakerTold) (tells : maker.tells ≡ true) (planne
       (both.0, ap (λ (s : Slot). image_slot.PreviouslyUsed s) both.1)
   drains_same g h name image_slot.Taken kind holds one two way also = (one ∙ sym two, refl)
 
-  row_same : (g h : StepGiven) (phase : Phase P) → is_test phase ≡ false → IsShapedAt maker c.settings c.plan phase f → IsGivenAt g phase → IsGivenAt h phase → row_of g phase c bare ≡ row_of h phase c bare
+  row_same : (g h : StepGiven PlainHeap) (phase : Phase P PlainHeap) → is_test phase ≡ false → IsShapedAt maker c.settings c.plan phase f → IsGivenAt g phase → IsGivenAt h phase → row_of g phase c bare ≡ row_of h phase c bare
   row_same g h Validate test shape one two = absurd cc
+  row_same g h TestHeap test shape one two = absurd cc
+  row_same g h (MakeHeap at) test shape one two =
+      let First : HeapsTold → Type 0 = λ old. MakesHeap g.heap old one.new.heaps in
+      let Second : HeapsTold → Type 0 = λ old. MakesHeap h.heap old two.new.heaps in
+      ap (λ (r : Result PlainHeap HeapMakeFault). make_heap_row r at c bare) (given_same was one.new.heaps two.new.heaps g.heap h.heap (subst First one.told_of one.heaps) (subst Second two.told_of two.heaps))
   row_same g h (Empty at held) test shape one two =
       paged_same c bare g.fault h.fault at (λ s. Instantiate at s) g.slot h.slot (emptied_same g.fault h.fault held g.slot h.slot (with_plan at.name held shape.2) one.told two.told one.plan two.plan)
   row_same g h (Instantiate at held) test shape one two =
       let image : Option Image = image_wanted f in
       at_place (slice_get (memories_wanted f.asked) (length f.objects.memories.items)) (allocated shape.4)
       (λ decl there.
-      let Told : StepGiven → Type 0 = λ x. InstantiatesFor c.settings decl x.fault image held x.slot in
-      let Plan : StepGiven → Type 0 = λ x. FollowsPlanFor c.settings decl x.fault image held x.slot in
+      let Told : StepGiven PlainHeap → Type 0 = λ x. InstantiatesFor c.settings decl x.fault image held x.slot in
+      let Plan : StepGiven PlainHeap → Type 0 = λ x. FollowsPlanFor c.settings decl x.fault image held x.slot in
       let first : Told g = held_of (λ d. InstantiatesFor c.settings d g.fault image held g.slot) _ decl there one.told in
       let second : Told h = held_of (λ d. InstantiatesFor c.settings d h.fault image held h.slot) _ decl there two.told in
       let way : Plan g = held_of (λ d. FollowsPlanFor c.settings d g.fault image held g.slot) _ decl there one.plan in
@@ -286,20 +299,20 @@ module _ {P : Type 0} (maker : MakerTold) (tells : maker.tells ≡ true) (planne
   row_same g h (MakeMemory at held) test shape one two =
       at_place (slice_get (memories_wanted f.asked) (length f.objects.memories.items)) (allocated shape.4)
       (λ decl there.
-      let first : AsksForMemory g.limiter one.old one.new decl = held_of (AsksForMemory g.limiter one.old one.new) _ decl there one.limiter in
-      let second : AsksForMemory h.limiter two.old two.new decl = held_of (AsksForMemory h.limiter two.old two.new) _ decl there two.limiter in
+      let first : AsksForMemory g.limiter one.old.limiter one.new.limiter decl = held_of (AsksForMemory g.limiter one.old.limiter one.new.limiter) _ decl there one.limiter in
+      let second : AsksForMemory h.limiter two.old.limiter two.new.limiter decl = held_of (AsksForMemory h.limiter two.old.limiter two.new.limiter) _ decl there two.limiter in
       let least : ℕ = minimum_asked decl.ty in
       let most : Option ℕ = maximum_asked decl.ty in
-      let same : g.limiter ≡ h.limiter = answer_told by one.old.rule g.limiter least most one.rule first.answer ∙ sym (answer_told by two.old.rule h.limiter least most two.rule second.answer) in
+      let same : g.limiter ≡ h.limiter = answer_told by one.old.limiter.rule g.limiter least most one.rule first.answer ∙ sym (answer_told by two.old.limiter.rule h.limiter least most two.rule second.answer) in
       ap (λ (r : Result Bool LimiterError). make_memory_row r at held c bare) same)
   row_same g h (MakeTable at region) test shape one two =
-      let table : length f.objects.tables.items < length (tables_wanted f.asked) = omega (arith, shape.3, shape.1.more, shape.1.to_grant.few) in
+      let table : length f.objects.tables.items < length (tables_wanted f.asked) = omega (arith, shape.3.0, shape.3.1.no_stack, shape.3.1.no_heap, shape.1.more, shape.1.to_grant.few) in
       at_place (slice_get (tables_wanted f.asked) (length f.objects.tables.items)) (get_there (tables_wanted f.asked) (length f.objects.tables.items) table)
       (λ ty there.
-      let first : AsksForTable g.limiter one.old one.new ty = held_of (AsksForTable g.limiter one.old one.new) _ ty there one.limiter in
-      let second : AsksForTable h.limiter two.old two.new ty = held_of (AsksForTable h.limiter two.old two.new) _ ty there two.limiter in
+      let first : AsksForTable g.limiter one.old.limiter one.new.limiter ty = held_of (AsksForTable g.limiter one.old.limiter one.new.limiter) _ ty there one.limiter in
+      let second : AsksForTable h.limiter two.old.limiter two.new.limiter ty = held_of (AsksForTable h.limiter two.old.limiter two.new.limiter) _ ty there two.limiter in
       let most : Option ℕ = Some (type_maximum ty) in
-      let same : g.limiter ≡ h.limiter = table_answer_told by one.old.rule g.limiter ty.limits.min most one.rule first.answers ∙ sym (table_answer_told by two.old.rule h.limiter ty.limits.min most two.rule second.answers) in
+      let same : g.limiter ≡ h.limiter = table_answer_told by one.old.limiter.rule g.limiter ty.limits.min most one.rule first.answers ∙ sym (table_answer_told by two.old.limiter.rule h.limiter ty.limits.min most two.rule second.answers) in
       ap (λ (r : Result Bool LimiterError). make_table_row r at region c bare) same)
   row_same g h (Reset (object.Memory lease)) test shape one two =
       was_reset_same c bare g.fault h.fault lease g.slot h.slot
@@ -310,24 +323,24 @@ module _ {P : Type 0} (maker : MakerTold) (tells : maker.tells ≡ true) (planne
       (forgets_same g h at.name held shape.1.2 shape.1.1.holds one.told two.told one.plan two.plan)
   row_same g h (Release (releasing.Decommit r k at held)) test shape one two =
       let both = drains_same g h at.name held (drained_kind r k at.name (cell_of held) shape.1) shape.1.region.holds one.told two.told one.plan two.plan in
-      let Next : Bool → ImageSlot P → Row (PoolCore P) P = λ b x. record { part = c; frame = bare; turn = goes (Release (releasing.PutRegion (record r { failed = r.failed || b }) k at x)) } in
+      let Next : Bool → ImageSlot P → Row (PoolCore P PlainHeap) P PlainHeap = λ b x. record { part = c; frame = bare; turn = goes (Release (releasing.PutRegion (record r { failed = r.failed || b }) k at x)) } in
       ap (λ (b : Bool). Next b (after_decommit held g.slot)) both.0 ∙ ap (Next h.fault) both.1
   row_same g h (Release releasing.Reserve) test shape one two = absurd cc
   row_same g h _ test shape one two = refl
 
 module _ {P : Type 0} where
   -- A step that is no test,
-  pub step_same : (maker : MakerTold) → maker.tells ≡ true → IsSome maker.plan → (rule : GrowthRule) (c : PoolCore P) (f : Frame P) (a b : After P) → CanStep maker c f → is_test f.phase ≡ false → StepsUnder rule c f a → StepsUnder rule c f b → a ≡ b
-  step_same maker tells planned rule c f a b can test one two =
+  pub step_same : (maker : MakerTold) → maker.tells ≡ true → IsSome maker.plan → (rule : GrowthRule) (was now other : ListedHeaps) (c : PoolCore P PlainHeap) (f : Frame P PlainHeap) (a b : After P PlainHeap) → CanStep maker c f → is_test f.phase ≡ false → StepsUnder rule was now c f a → StepsUnder rule was other c f b → a ≡ b
+  step_same maker tells planned rule was now other c f a b can test one two =
       let left = one.3 in
       let right = two.3 in
-      let same = row_same maker tells planned rule c f can.frame left.0 right.0 f.phase test can.frame.shape
-      (record { old = one.0; new = one.1; rule = one.2; told = left.1.told; plan = left.1.planned; limiter = left.1.limiter })
-      (record { old = two.0; new = two.1; rule = two.2; told = right.1.told; plan = right.1.planned; limiter = right.1.limiter }) in
-      left.1.is ∙ ap (λ (r : Row (PoolCore P) P). stepped r) same ∙ sym right.1.is
+      let same = row_same maker tells planned rule was c f can.frame left.0 right.0 f.phase test can.frame.shape
+      (record { old = one.0; new = one.1; rule = one.2; told_of = one.4; told = left.1.told; plan = left.1.planned; limiter = left.1.limiter; heaps = left.1.heaps })
+      (record { old = two.0; new = two.1; rule = two.2; told_of = two.4; told = right.1.told; plan = right.1.planned; limiter = right.1.limiter; heaps = right.1.heaps }) in
+      left.1.is ∙ ap (λ (r : Row (PoolCore P PlainHeap) P PlainHeap). stepped r) same ∙ sym right.1.is
 
   -- and one that is, by whether there is memory for its lists.
-  pub step_tests : (rule : GrowthRule) (c : PoolCore P) (f : Frame P) (a : After P) (phase : Phase P) → f.phase ≡ phase → StepsUnder rule c f a → (g : StepGiven) × (a ≡ stepped (row_of g phase c (record f { phase = Idle })))
-  step_tests rule c f a phase test steps =
-      let g : StepGiven = steps.3.0 in
-      (g, steps.3.1.is ∙ ap (λ (x : Phase P). stepped (row_of g x c (record f { phase = Idle }))) test)
+  pub step_tests : (rule : GrowthRule) (was now : ListedHeaps) (c : PoolCore P PlainHeap) (f : Frame P PlainHeap) (a : After P PlainHeap) (phase : Phase P PlainHeap) → f.phase ≡ phase → StepsUnder rule was now c f a → (g : StepGiven PlainHeap) × (a ≡ stepped (row_of g phase c (record f { phase = Idle })))
+  step_tests rule was now c f a phase test steps =
+      let g : StepGiven PlainHeap = steps.3.0 in
+      (g, steps.3.1.is ∙ ap (λ (x : Phase P PlainHeap). stepped (row_of g x c (record f { phase = Idle }))) test)

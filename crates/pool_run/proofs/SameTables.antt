@@ -1,5 +1,5 @@
 -- A command on a table of the pool has one outcome, where the maker tells what its regions hold.
-use Rattle.std.proofs.Common.{◌≡◌, ℕ, true, List, Option, Some, None, refl, sym, ap, ◌∙◌, subst, is_some}
+use Rattle.std.proofs.Common.{◌≡◌, ℕ, true, List, Option, Some, None, refl, sym, ap, ◌∙◌, subst, is_some, []}
 use Rattle.std.specs.Prelude.{◌<◌, ◌≤◌, IfSome, option_map, slice_get}
 use Rattle.std.proofs.Common.{arith}
 use Rattle.pool_pages.specs.Contents.{Contents}
@@ -90,7 +90,7 @@ module _ (maker : MakerTold) (s : Settings) (plan : Plan) (tells : maker.tells �
 
   pub table_same : (op : TableOp) (rule : GrowthRule) (before after left : ListedStore) (new other : LeasedTable) (r q : Reply) → MovesTable op rule before after l new r → MovesTable op rule before left l other q → IsSameTable new other after left r q
   table_same op rule before after left new other r q one two =
-      let both = move_same op (record { rule = rule; failing = before.failing }) (stored_as l before) (stored_as new after) (stored_as other left) r q elements_told one.move two.move in
+      let both = move_same op (record { rule = rule; failing = before.failing; unmade = [] }) (stored_as l before) (stored_as new after) (stored_as other left) r q elements_told one.move two.move in
       let View : PrivateTable → Option Told → TableView = λ t region. record { kind = t.kind; size = t.size; maximum = t.maximum; elements = t.elements; region = region } in
       let table : new.table ≡ other.table = ap (λ (x : StoredTable). View x.table new.table.region) both.0 ∙ ap (View (private_table other)) (one.region ∙ sym two.region) in
       let made : after.made ≡ left.made = ap (λ (x : StoredTable). x.calls) both.0 in

@@ -1,22 +1,25 @@
--- The slots of memories, of tables and of stacks: each kind as one of those of which a grant has some.
+-- The slots of memories, of tables, of stacks and of heaps: each kind as one of those of which a grant has some.
 use Rattle.std.proofs.Common.{◌≢◌, ◌≡◌, ℕ, ◌+◌, ◌*◌, ◌<◌, ◌≤◌, List, [], ◌∷◌, length, map, Option, refl, sym, ap, arith}
 use Rattle.std.specs.Prelude.{sum_by}
 use Rattle.std.proofs.lemmas.List.Sums.{sum_by-cons}
 use Rattle.pool_hall.specs.declared.unit_name.SlotKind.{SlotKind}
 use Rattle.pool_hall.specs.declared.unit_name.SlotKind.TheVariants as kind
 use Rattle.pool_slots.specs.declared.slot_name.SlotName.{SlotName}
-use Rattle.pool_alloc.specs.Leases.{Lease, memory_slot}
+use Rattle.pool_alloc.specs.Leases.{Lease, memory_slot, slot_taken}
 use Rattle.pool_alloc.specs.Places.{taken_count, right_to, slot_count, both_count, leased_count, tables_count}
+use Rattle.pool_alloc.specs.HeapLeases.{LeasedHeap, heap_slot_taken}
 use Rattle.pool_alloc.specs.StackLeases.{LeasedStack, stack_slot, stack_taken}
+use Rattle.pool_slots.specs.HeapUnits.{heap_slot}
 use Rattle.pool_slots.specs.declared.slot_name.RegionNumbers.{RegionNumbers}
+use Rattle.pool_slots.specs.declared.listed_heaps.PlainHeap.{PlainHeap}
 use Rattle.pool_alloc.specs.TableLeases.{LeasedTable, table_slot}
 use Rattle.pool_alloc.proofs.SlotCounts.{slot_other, region_rights}
-use Rattle.pool_alloc.specs.Stepping.{grant_stacks, grant_count, grant_memories, grant_tables}
+use Rattle.pool_alloc.specs.Stepping.{grant_stacks, grant_heaps, grant_count, grant_memories, grant_tables}
 use Rattle.pool_alloc.specs.declared.frame.Grant.{Grant}
-use Rattle.pool_alloc.specs.declared.frame.Grant.TheVariants.{Instance as instance, Component as component, Stack as stack}
+use Rattle.pool_alloc.specs.declared.frame.Grant.TheVariants.{Instance as instance, Component as component, Stack as stack, Heap as heap}
 use Rattle.pool_run.specs.Private.{stacks_in_grant, Grants, memories_in_grant, tables_in_grant}
-use Rattle.pool_run.specs.Rooms.{stacks_in, stack_count, memories_in, tables_in, live_count, table_count}
-use Rattle.pool_run.specs.Turns.{private_stack, stack_of, private_memory, private_table, private_grant, leases_of, tables_of, grants_of}
+use Rattle.pool_run.specs.Rooms.{stacks_in, stack_count, heaps_in, heaps_in_grant, heap_count, memories_in, tables_in, live_count, table_count}
+use Rattle.pool_run.specs.Turns.{private_stack, stack_of, heap_of, private_memory, private_table, private_grant, leases_of, tables_of, grants_of}
 use Rattle.pool_run.specs.Ties.{granted_to}
 use Rattle.pool_run.proofs.Exhausted.{all_taken, room_for, one_free, live_told}
 use Rattle.pool_run.proofs.SlotsBelow.{times_in}
@@ -31,6 +34,9 @@ table_one k i same = ap (λ (n : SlotName). n.slot) same
 
 pub stack_one : (k i : ℕ) → stack_slot k ≡ stack_slot i → k ≡ i
 stack_one k i same = ap (λ (n : SlotName). n.slot) same
+
+pub heap_one : (k i : ℕ) → heap_slot k ≡ heap_slot i → k ≡ i
+heap_one k i same = ap (λ (n : SlotName). n.slot) same
 
 -- no slot is of two kinds
 abbrev kind_number : SlotKind → ℕ
@@ -63,87 +69,129 @@ no_memories name other ls = none_in memory_slot (λ (l : Lease). l.index) (λ l.
 no_tables : (name : SlotName) → kind_number name.kind ≢ 2 → (ls : List LeasedTable) → tables_count (right_to name) ls ≡ 0
 no_tables name other ls = none_in table_slot (λ (l : LeasedTable). l.index) (λ l. l.numbers) name (λ i. apart name (table_slot i) other) ls
 
+no_heap : (name : SlotName) → kind_number name.kind ≢ 0 → (l : LeasedHeap PlainHeap) → taken_count (right_to name) (heap_slot_taken l) ≡ 0
+no_heap name other l = omega (arith, slot_other name (heap_slot l.index) (apart name (heap_slot l.index) other), region_rights name (heap_slot l.index) l.numbers)
+
+no_memory : (name : SlotName) → kind_number name.kind ≢ 1 → (l : Lease) → taken_count (right_to name) (slot_taken l) ≡ 0
+no_memory name other l = omega (arith, slot_other name (memory_slot l.index) (apart name (memory_slot l.index) other), region_rights name (memory_slot l.index) l.numbers)
+
 no_stack : (name : SlotName) → kind_number name.kind ≢ 3 → (l : LeasedStack) → taken_count (right_to name) (stack_taken l) ≡ 0
 no_stack name other l = omega (arith, slot_other name (stack_slot l.stack.index) (apart name (stack_slot l.stack.index) other), region_rights name (stack_slot l.stack.index) l.numbers)
 
 module _ {P : Type 0} where
-  pub memories_counted : (k : ℕ) (g : Grant P) → grant_count (right_to (memory_slot k)) g ≡ times_in memory_slot memory_one (λ (l : Lease). l.index) (λ l. l.numbers) k (leases_of g)
+  pub memories_counted : (k : ℕ) (g : Grant P PlainHeap) → grant_count (right_to (memory_slot k)) g ≡ times_in memory_slot memory_one (λ (l : Lease). l.index) (λ l. l.numbers) k (leases_of g)
   memories_counted k (instance lease) = omega (arith, no_tables (memory_slot k) (λ is. absurd (omega (arith, is))) lease.tables.items)
   memories_counted k component = refl
   memories_counted k (stack lease) = no_stack (memory_slot k) (λ is. absurd (omega (arith, is))) lease
+  memories_counted k (heap lease memory) = omega (arith, no_heap (memory_slot k) (λ is. absurd (omega (arith, is))) lease, sum_by-cons (λ (l : Lease). both_count (right_to (memory_slot k)) (memory_slot l.index) l.numbers) memory [])
 
-  pub tables_counted : (k : ℕ) (g : Grant P) → grant_count (right_to (table_slot k)) g ≡ times_in table_slot table_one (λ (l : LeasedTable). l.index) (λ l. l.numbers) k (tables_of g)
+  pub tables_counted : (k : ℕ) (g : Grant P PlainHeap) → grant_count (right_to (table_slot k)) g ≡ times_in table_slot table_one (λ (l : LeasedTable). l.index) (λ l. l.numbers) k (tables_of g)
   tables_counted k (instance lease) = omega (arith, no_memories (table_slot k) (λ is. absurd (omega (arith, is))) lease.memories.items)
   tables_counted k component = refl
   tables_counted k (stack lease) = no_stack (table_slot k) (λ is. absurd (omega (arith, is))) lease
+  tables_counted k (heap lease memory) = omega (arith, no_heap (table_slot k) (λ is. absurd (omega (arith, is))) lease, no_memory (table_slot k) (λ is. absurd (omega (arith, is))) memory)
 
-  pub stacks_counted : (k : ℕ) (g : Grant P) → grant_count (right_to (stack_slot k)) g ≡ times_in stack_slot stack_one (λ (l : LeasedStack). l.stack.index) (λ l. l.numbers) k (stack_of g)
+  pub stacks_counted : (k : ℕ) (g : Grant P PlainHeap) → grant_count (right_to (stack_slot k)) g ≡ times_in stack_slot stack_one (λ (l : LeasedStack). l.stack.index) (λ l. l.numbers) k (stack_of g)
   stacks_counted k (instance lease) = omega (arith, no_memories (stack_slot k) (λ is. absurd (omega (arith, is))) lease.memories.items, no_tables (stack_slot k) (λ is. absurd (omega (arith, is))) lease.tables.items)
   stacks_counted k component = refl
   stacks_counted k (stack lease) = omega (arith, sum_by-cons (λ (l : LeasedStack). both_count (right_to (stack_slot k)) (stack_slot l.stack.index) l.numbers) lease [])
+  stacks_counted k (heap lease memory) = omega (arith, no_heap (stack_slot k) (λ is. absurd (omega (arith, is))) lease, no_memory (stack_slot k) (λ is. absurd (omega (arith, is))) memory)
+
+  pub heaps_counted : (k : ℕ) (g : Grant P PlainHeap) → grant_count (right_to (heap_slot k)) g ≡ times_in heap_slot heap_one (λ (l : LeasedHeap PlainHeap). l.index) (λ l. l.numbers) k (heap_of g)
+  heaps_counted k (instance lease) = omega (arith, no_memories (heap_slot k) (λ is. absurd (omega (arith, is))) lease.memories.items, no_tables (heap_slot k) (λ is. absurd (omega (arith, is))) lease.tables.items)
+  heaps_counted k component = refl
+  heaps_counted k (stack lease) = no_stack (heap_slot k) (λ is. absurd (omega (arith, is))) lease
+  heaps_counted k (heap lease memory) = omega (arith, no_memory (heap_slot k) (λ is. absurd (omega (arith, is))) memory, sum_by-cons (λ (l : LeasedHeap PlainHeap). both_count (right_to (heap_slot k)) (heap_slot l.index) l.numbers) lease [])
 
   -- so many are counted
-  pub memories_sized : (g : Grant P) → grant_memories g ≡ length (leases_of g)
+  pub memories_sized : (g : Grant P PlainHeap) → grant_memories g ≡ length (leases_of g)
   memories_sized (instance lease) = refl
   memories_sized component = refl
   memories_sized (stack lease) = refl
+  memories_sized (heap lease memory) = refl
 
-  pub tables_sized : (g : Grant P) → grant_tables g ≡ length (tables_of g)
+  pub tables_sized : (g : Grant P PlainHeap) → grant_tables g ≡ length (tables_of g)
   tables_sized (instance lease) = refl
   tables_sized component = refl
   tables_sized (stack lease) = refl
+  tables_sized (heap lease memory) = refl
 
-  pub stacks_sized : (g : Grant P) → grant_stacks g ≡ length (stack_of g)
+  pub stacks_sized : (g : Grant P PlainHeap) → grant_stacks g ≡ length (stack_of g)
   stacks_sized (instance lease) = refl
   stacks_sized component = refl
   stacks_sized (stack lease) = refl
+  stacks_sized (heap lease memory) = refl
+
+  pub heaps_sized : (g : Grant P PlainHeap) → grant_heaps g ≡ length (heap_of g)
+  heaps_sized (instance lease) = refl
+  heaps_sized component = refl
+  heaps_sized (stack lease) = refl
+  heaps_sized (heap lease memory) = refl
 
   -- and the party sees each
-  pub memories_seen_of : (g : Grant P) → memories_in_grant (private_grant g) ≡ map private_memory (leases_of g)
+  pub memories_seen_of : (g : Grant P PlainHeap) → memories_in_grant (private_grant g) ≡ map private_memory (leases_of g)
   memories_seen_of (instance lease) = refl
   memories_seen_of component = refl
   memories_seen_of (stack lease) = refl
+  memories_seen_of (heap lease memory) = refl
 
-  pub tables_seen_of : (g : Grant P) → tables_in_grant (private_grant g) ≡ map private_table (tables_of g)
+  pub tables_seen_of : (g : Grant P PlainHeap) → tables_in_grant (private_grant g) ≡ map private_table (tables_of g)
   tables_seen_of (instance lease) = refl
   tables_seen_of component = refl
   tables_seen_of (stack lease) = refl
+  tables_seen_of (heap lease memory) = refl
 
-  pub stacks_seen_of : (g : Grant P) → stacks_in_grant (private_grant g) ≡ map private_stack (stack_of g)
+  pub stacks_seen_of : (g : Grant P PlainHeap) → stacks_in_grant (private_grant g) ≡ map private_stack (stack_of g)
   stacks_seen_of (instance lease) = refl
   stacks_seen_of component = refl
   stacks_seen_of (stack lease) = refl
+  stacks_seen_of (heap lease memory) = refl
+
+  pub heaps_seen_of : (g : Grant P PlainHeap) → heaps_in_grant (private_grant g) ≡ map (λ l. l.index) (heap_of g)
+  heaps_seen_of (instance lease) = refl
+  heaps_seen_of component = refl
+  heaps_seen_of (stack lease) = refl
+  heaps_seen_of (heap lease memory) = refl
 
   -- Where so many memory slots are with this grant and the live ones, there are no more of them than they have.
-  pub memories_taken : (s step total : ℕ) (g : Grant P) (live : List (Option (Grant P))) → 0 < step → ((j : ℕ) → j < total → 1 ≤ grant_count (right_to (memory_slot (s + j * step))) g + sum_by (granted_to (grant_count (right_to (memory_slot (s + j * step))))) live) → total ≤ length (leases_of g) + sum_by (granted_to grant_memories) live
+  pub memories_taken : (s step total : ℕ) (g : Grant P PlainHeap) (live : List (Option (Grant P PlainHeap))) → 0 < step → ((j : ℕ) → j < total → 1 ≤ grant_count (right_to (memory_slot (s + j * step))) g + sum_by (granted_to (grant_count (right_to (memory_slot (s + j * step))))) live) → total ≤ length (leases_of g) + sum_by (granted_to grant_memories) live
   memories_taken s step total g live some all = all_taken memory_slot memory_one (λ (l : Lease). l.index) (λ l. l.numbers) leases_of memories_counted grant_memories memories_sized s step total g live some all
 
-  pub tables_taken : (s step total : ℕ) (g : Grant P) (live : List (Option (Grant P))) → 0 < step → ((j : ℕ) → j < total → 1 ≤ grant_count (right_to (table_slot (s + j * step))) g + sum_by (granted_to (grant_count (right_to (table_slot (s + j * step))))) live) → total ≤ length (tables_of g) + sum_by (granted_to grant_tables) live
+  pub tables_taken : (s step total : ℕ) (g : Grant P PlainHeap) (live : List (Option (Grant P PlainHeap))) → 0 < step → ((j : ℕ) → j < total → 1 ≤ grant_count (right_to (table_slot (s + j * step))) g + sum_by (granted_to (grant_count (right_to (table_slot (s + j * step))))) live) → total ≤ length (tables_of g) + sum_by (granted_to grant_tables) live
   tables_taken s step total g live some all = all_taken table_slot table_one (λ (l : LeasedTable). l.index) (λ l. l.numbers) tables_of tables_counted grant_tables tables_sized s step total g live some all
 
-  pub stacks_taken : (s step total : ℕ) (g : Grant P) (live : List (Option (Grant P))) → 0 < step → ((j : ℕ) → j < total → 1 ≤ grant_count (right_to (stack_slot (s + j * step))) g + sum_by (granted_to (grant_count (right_to (stack_slot (s + j * step))))) live) → total ≤ length (stack_of g) + sum_by (granted_to grant_stacks) live
+  pub stacks_taken : (s step total : ℕ) (g : Grant P PlainHeap) (live : List (Option (Grant P PlainHeap))) → 0 < step → ((j : ℕ) → j < total → 1 ≤ grant_count (right_to (stack_slot (s + j * step))) g + sum_by (granted_to (grant_count (right_to (stack_slot (s + j * step))))) live) → total ≤ length (stack_of g) + sum_by (granted_to grant_stacks) live
   stacks_taken s step total g live some all = all_taken stack_slot stack_one (λ (l : LeasedStack). l.stack.index) (λ l. l.numbers) stack_of stacks_counted grant_stacks stacks_sized s step total g live some all
 
+  pub heaps_taken : (s step total : ℕ) (g : Grant P PlainHeap) (live : List (Option (Grant P PlainHeap))) → 0 < step → ((j : ℕ) → j < total → 1 ≤ grant_count (right_to (heap_slot (s + j * step))) g + sum_by (granted_to (grant_count (right_to (heap_slot (s + j * step))))) live) → total ≤ length (heap_of g) + sum_by (granted_to grant_heaps) live
+  heaps_taken s step total g live some all = all_taken heap_slot heap_one (λ (l : LeasedHeap PlainHeap). l.index) (λ l. l.numbers) heap_of heaps_counted grant_heaps heaps_sized s step total g live some all
+
   -- There is room for a grant and live grants that are apart.
-  pub memories_room : (total : ℕ) (g : Grant P) (live : List (Option (Grant P))) → ((k : ℕ) → grant_count (right_to (memory_slot k)) g + sum_by (granted_to (grant_count (right_to (memory_slot k)))) live ≤ made_slot k total) → length (leases_of g) + sum_by (granted_to grant_memories) live ≤ total
+  pub memories_room : (total : ℕ) (g : Grant P PlainHeap) (live : List (Option (Grant P PlainHeap))) → ((k : ℕ) → grant_count (right_to (memory_slot k)) g + sum_by (granted_to (grant_count (right_to (memory_slot k)))) live ≤ made_slot k total) → length (leases_of g) + sum_by (granted_to grant_memories) live ≤ total
   memories_room total g live apart = room_for memory_slot memory_one (λ (l : Lease). l.index) (λ l. l.numbers) leases_of memories_counted grant_memories memories_sized total g live apart
 
-  pub tables_room : (total : ℕ) (g : Grant P) (live : List (Option (Grant P))) → ((k : ℕ) → grant_count (right_to (table_slot k)) g + sum_by (granted_to (grant_count (right_to (table_slot k)))) live ≤ made_slot k total) → length (tables_of g) + sum_by (granted_to grant_tables) live ≤ total
+  pub tables_room : (total : ℕ) (g : Grant P PlainHeap) (live : List (Option (Grant P PlainHeap))) → ((k : ℕ) → grant_count (right_to (table_slot k)) g + sum_by (granted_to (grant_count (right_to (table_slot k)))) live ≤ made_slot k total) → length (tables_of g) + sum_by (granted_to grant_tables) live ≤ total
   tables_room total g live apart = room_for table_slot table_one (λ (l : LeasedTable). l.index) (λ l. l.numbers) tables_of tables_counted grant_tables tables_sized total g live apart
 
-  pub stacks_room : (total : ℕ) (g : Grant P) (live : List (Option (Grant P))) → ((k : ℕ) → grant_count (right_to (stack_slot k)) g + sum_by (granted_to (grant_count (right_to (stack_slot k)))) live ≤ made_slot k total) → length (stack_of g) + sum_by (granted_to grant_stacks) live ≤ total
+  pub stacks_room : (total : ℕ) (g : Grant P PlainHeap) (live : List (Option (Grant P PlainHeap))) → ((k : ℕ) → grant_count (right_to (stack_slot k)) g + sum_by (granted_to (grant_count (right_to (stack_slot k)))) live ≤ made_slot k total) → length (stack_of g) + sum_by (granted_to grant_stacks) live ≤ total
   stacks_room total g live apart = room_for stack_slot stack_one (λ (l : LeasedStack). l.stack.index) (λ l. l.numbers) stack_of stacks_counted grant_stacks stacks_sized total g live apart
 
+  pub heaps_room : (total : ℕ) (g : Grant P PlainHeap) (live : List (Option (Grant P PlainHeap))) → ((k : ℕ) → grant_count (right_to (heap_slot k)) g + sum_by (granted_to (grant_count (right_to (heap_slot k)))) live ≤ made_slot k total) → length (heap_of g) + sum_by (granted_to grant_heaps) live ≤ total
+  heaps_room total g live apart = room_for heap_slot heap_one (λ (l : LeasedHeap PlainHeap). l.index) (λ l. l.numbers) heap_of heaps_counted grant_heaps heaps_sized total g live apart
+
   -- One more memory slot is with a call: there are more than the live grants have.
-  pub memory_free : (total slot : ℕ) (live : List (Option (Grant P))) → ((k : ℕ) → slot_count (right_to (memory_slot k)) (memory_slot slot) + sum_by (granted_to (grant_count (right_to (memory_slot k)))) live ≤ made_slot k total) → slot < total → sum_by (granted_to grant_memories) live < total
+  pub memory_free : (total slot : ℕ) (live : List (Option (Grant P PlainHeap))) → ((k : ℕ) → slot_count (right_to (memory_slot k)) (memory_slot slot) + sum_by (granted_to (grant_count (right_to (memory_slot k)))) live ≤ made_slot k total) → slot < total → sum_by (granted_to grant_memories) live < total
   memory_free total slot live apart inside = one_free memory_slot memory_one (λ (l : Lease). l.index) (λ l. l.numbers) leases_of memories_counted grant_memories memories_sized total slot live apart inside
 
   -- what the party sees is live
-  pub memories_told : (live : List (Option (Grant P))) (told : Grants) → grants_of live ≡ told → live_count told ≡ sum_by (granted_to grant_memories) live
+  pub memories_told : (live : List (Option (Grant P PlainHeap))) (told : Grants) → grants_of live ≡ told → live_count told ≡ sum_by (granted_to grant_memories) live
   memories_told live told is = live_told memory_slot memory_one (λ (l : Lease). l.index) (λ l. l.numbers) leases_of memories_counted grant_memories memories_sized private_memory memories_in_grant memories_in memories_seen_of refl (λ x. refl) live told is
 
-  pub tables_told : (live : List (Option (Grant P))) (told : Grants) → grants_of live ≡ told → table_count told ≡ sum_by (granted_to grant_tables) live
+  pub tables_told : (live : List (Option (Grant P PlainHeap))) (told : Grants) → grants_of live ≡ told → table_count told ≡ sum_by (granted_to grant_tables) live
   tables_told live told is = live_told table_slot table_one (λ (l : LeasedTable). l.index) (λ l. l.numbers) tables_of tables_counted grant_tables tables_sized private_table tables_in_grant tables_in tables_seen_of refl (λ x. refl) live told is
 
-  pub stacks_told : (live : List (Option (Grant P))) (told : Grants) → grants_of live ≡ told → stack_count told ≡ sum_by (granted_to grant_stacks) live
+  pub stacks_told : (live : List (Option (Grant P PlainHeap))) (told : Grants) → grants_of live ≡ told → stack_count told ≡ sum_by (granted_to grant_stacks) live
   stacks_told live told is = live_told stack_slot stack_one (λ (l : LeasedStack). l.stack.index) (λ l. l.numbers) stack_of stacks_counted grant_stacks stacks_sized private_stack stacks_in_grant stacks_in stacks_seen_of refl (λ x. refl) live told is
+
+  pub heaps_told : (live : List (Option (Grant P PlainHeap))) (told : Grants) → grants_of live ≡ told → heap_count told ≡ sum_by (granted_to grant_heaps) live
+  heaps_told live told is = live_told heap_slot heap_one (λ (l : LeasedHeap PlainHeap). l.index) (λ l. l.numbers) heap_of heaps_counted grant_heaps heaps_sized (λ l. l.index) heaps_in_grant heaps_in heaps_seen_of refl (λ x. refl) live told is

@@ -8,6 +8,7 @@ use Rattle.pool_alloc.specs.Places.{right_to, away_count}
 use Rattle.pool_alloc.specs.Sound.{IsCore}
 use Rattle.pool_slots.specs.SlotNames.{of_kind}
 use Rattle.pool_slots.specs.declared.slot_name.SlotName.{SlotName}
+use Rattle.pool_slots.specs.declared.listed_heaps.PlainHeap.{PlainHeap}
 use Rattle.pool_alloc.specs.declared.pool_core.PoolCore.{PoolCore}
 use Rattle.pool_alloc.proofs.Held.{none_past}
 use Rattle.pool_alloc.proofs.KeptCounts.{out_once}
@@ -31,7 +32,7 @@ pub made_inside : (k total : ℕ) → 1 ≤ made_slot k total → k < total
 made_inside k total some = ltb-true k total (one_true (nat_lt k total) some)
 
 -- what is given out is one of them
-pub away_made : {P : Type 0} (maker : MakerTold) (name : SlotName) (c : PoolCore P) → IsCore maker c → away_count (right_to name) c ≤ made_slot name.slot (of_kind name.kind c.plan.totals)
+pub away_made : {P : Type 0} (maker : MakerTold) (name : SlotName) (c : PoolCore P PlainHeap) → IsCore maker c → away_count (right_to name) c ≤ made_slot name.slot (of_kind name.kind c.plan.totals)
 away_made maker name c core =
     elim (cases_lt name.slot (of_kind name.kind c.plan.totals)) [
       | inl below ↦

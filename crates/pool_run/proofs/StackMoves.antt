@@ -1,6 +1,6 @@
--- What an operation makes of a stack that was granted: it stays in its slot, its party sees the operation on its own stack, and
--- two of them from one stack agree.
-use Rattle.std.proofs.Common.{◌≡◌, ◌≢◌, ◌⊎◌, ℕ, ◌+◌, ◌≤◌, Bool, true, false, List, length, replicate, Option, Some, None, is_some, refl, sym, ap, ◌∙◌, subst, inl, inr, arith}
+-- What an operation makes of a stack: its party sees the operation on its own stack; and of one that a pool granted: it stays
+-- in its slot, and two of them from one stack agree.
+use Rattle.std.proofs.Common.{◌≡◌, ◌≢◌, ◌⊎◌, ℕ, ◌+◌, ◌<◌, ◌≤◌, Bool, true, false, List, length, replicate, Option, Some, None, is_some, refl, sym, ap, ◌∙◌, subst, inl, inr, arith}
 use Rattle.std.specs.Prelude.{IfSome, nat_le, if◌then◌else◌, option_map, slice_range}
 use Rattle.std.proofs.lemmas.Bool.{leb-true, leb-false}
 use Rattle.std.proofs.lemmas.List.{same_lists, places}
@@ -9,39 +9,42 @@ use Rattle.pool_pages.specs.MakerTold.{MakerTold}
 use Rattle.pool_images.specs.Slots.{Slot, SlotIdentity, IsSound, identity, size_of}
 use Rattle.pool_images.proofs.Identity.{told_same}
 use Rattle.pool_limits.specs.declared.errors.Trap.TheVariants.{MemoryOutOfBounds}
-use Rattle.pool_slots.specs.PlainSlots.{IsPlain, plain_written}
+use Rattle.pool_slots.specs.PlainSlots.{IsPlain, StackState, plain_written}
 use Rattle.pool_slots.specs.declared.plan.Plan.{Plan}
 use Rattle.pool_slots.proofs.PlainSlots.{plain_after}
 use Rattle.pool_alloc.specs.PoolStacks.{IsPoolStack, IsStackLease}
-use Rattle.pool_alloc.specs.StackLeases.{LeasedStack, stack_taken}
+use Rattle.pool_alloc.specs.StackLeases.{LeasedStack, stack_slot, stack_taken}
 use Rattle.pool_alloc.specs.declared.pool_core.Settings.{Settings}
 use Rattle.pool_run.specs.Acts.{MemoryOp, reads, writes, fills, grows, asks_size}
 use Rattle.pool_run.specs.Agreeing.{want_of_memory}
 use Rattle.pool_run.specs.PrivateStacks.{PrivateStack, WritesBytes, StackMoves, stack_written}
-use Rattle.pool_run.specs.Turns.{stack_bytes, private_stack, StackLeaseWrites, StackLeaseMoves}
+use Rattle.pool_run.specs.Turns.{stack_bytes, seen_stack, private_stack, StackStateWrites, StackStateMoves, StackLeaseMoves}
 use Rattle.pool_run.specs.declared.reply.Reply.{Reply}
 use Rattle.pool_run.specs.declared.reply.Reply.TheVariants.{Done, Trap}
 use Rattle.pool_run.proofs.HeldSlots.{told_if}
 use Rattle.pool_run.proofs.SameMoves.{looks_same}
 
 -- a stack after a write of these bytes, and what a write leaves
-abbrev stack_after : ℕ → List ℕ → LeasedStack → LeasedStack
-stack_after i bytes l = record l { stack = record l.stack { slot = plain_written i bytes l.stack.slot } }
+abbrev stack_after : ℕ → List ℕ → StackState → StackState
+stack_after i bytes s = record s { slot = plain_written i bytes s.slot }
 
-abbrev after_write : ℕ → List ℕ → LeasedStack → Bool → LeasedStack × Reply
-after_write i bytes l b = if b then (stack_after i bytes l, Done) else (l, Trap MemoryOutOfBounds)
+abbrev after_write : ℕ → List ℕ → StackState → Bool → StackState × Reply
+after_write i bytes s b = if b then (stack_after i bytes s, Done) else (s, Trap MemoryOutOfBounds)
 
--- It stays in its slot.
-write_slot : (i : ℕ) (bytes : List ℕ) (l new : LeasedStack) (reply : Reply) (b : Bool) → ◌≡◌ {A = LeasedStack × Reply} (new, reply) (after_write i bytes l b) → stack_taken new ≡ stack_taken l
-write_slot i bytes l new reply true is = ap (λ (p : LeasedStack × Reply). stack_taken p.0) is
-write_slot i bytes l new reply false is = ap (λ (p : LeasedStack × Reply). stack_taken p.0) is
+-- It keeps its number, and stays in its slot.
+write_index : (i : ℕ) (bytes : List ℕ) (s new : StackState) (reply : Reply) (b : Bool) → ◌≡◌ {A = StackState × Reply} (new, reply) (after_write i bytes s b) → new.index ≡ s.index
+write_index i bytes s new reply true is = ap (λ (p : StackState × Reply). p.0.index) is
+write_index i bytes s new reply false is = ap (λ (p : StackState × Reply). p.0.index) is
+
+op_index : (op : MemoryOp) (s new : StackState) (reply : Reply) → StackStateMoves op s new reply → new.index ≡ s.index
+op_index (reads i len) s new reply is = ap (λ (x : StackState). x.index) is.1
+op_index (writes i bytes) s new reply is = write_index i bytes s new reply (nat_le (i + length bytes) s.slot.static_size) is
+op_index (fills i len byte) s new reply is = write_index i (replicate len byte) s new reply (nat_le (i + length (replicate len byte)) s.slot.static_size) is
+op_index (grows pages) s new reply is = ap (λ (x : StackState). x.index) is.1
+op_index asks_size s new reply is = ap (λ (x : StackState). x.index) is.1
 
 pub stack_op_slot : (op : MemoryOp) (l new : LeasedStack) (reply : Reply) → StackLeaseMoves op l new reply → stack_taken new ≡ stack_taken l
-stack_op_slot (reads i len) l new reply is = ap stack_taken is.1
-stack_op_slot (writes i bytes) l new reply is = write_slot i bytes l new reply (nat_le (i + length bytes) l.stack.slot.static_size) is
-stack_op_slot (fills i len byte) l new reply is = write_slot i (replicate len byte) l new reply (nat_le (i + length (replicate len byte)) l.stack.slot.static_size) is
-stack_op_slot (grows pages) l new reply is = ap stack_taken is.1
-stack_op_slot asks_size l new reply is = ap stack_taken is.1
+stack_op_slot op l new reply is = ap stack_taken is.1 ∙ ap (λ (i : ℕ). record { name = stack_slot i; numbers = l.numbers }) (op_index op l.stack new.stack reply is.0)
 
 -- all of its bytes are bytes of its region
 long_by : (s : Slot) (o : Option Contents) → IsPlain s → IfSome o (IsSound s.region.page s.region.len s.base.bytes (size_of s)) → IfSome o (λ c. s.base.bytes + s.static_size ≤ length c.bytes)
@@ -60,40 +63,59 @@ written_by base i size new None within long = refl
 written_by base i size new (Some c) within long = ap Some (range_put base i size new c.bytes within long)
 
 -- A write is one of the party's stack.
-write_seen : (i : ℕ) (bytes : List ℕ) (l new : LeasedStack) (reply : Reply) (b : Bool) → IsPlain l.stack.slot → nat_le (i + length bytes) l.stack.slot.static_size ≡ b → ◌≡◌ {A = LeasedStack × Reply} (new, reply) (after_write i bytes l b) → WritesBytes (private_stack l).size i (length bytes) (stack_written i bytes (private_stack l)) (private_stack l) (private_stack new) reply
-write_seen i bytes l new reply true plain fits is =
-    let W : LeasedStack × Reply → Type 0 = λ p. WritesBytes (private_stack l).size i (length bytes) (stack_written i bytes (private_stack l)) (private_stack l) (private_stack p.0) p.1 in
-    let within : i + length bytes ≤ l.stack.slot.static_size = leb-true (i + length bytes) l.stack.slot.static_size fits in
-    let Seen : Option (List ℕ) → PrivateStack = λ b. record { slot = l.stack.index; size = l.stack.slot.static_size; bytes = b } in
-    subst W (sym is) (within, ap Seen (written_by l.stack.slot.base.bytes i l.stack.slot.static_size bytes l.stack.slot.region.contents within (stack_long l.stack.slot plain)))
-write_seen i bytes l new reply false plain past is =
-    let W : LeasedStack × Reply → Type 0 = λ p. WritesBytes (private_stack l).size i (length bytes) (stack_written i bytes (private_stack l)) (private_stack l) (private_stack p.0) p.1 in
-    subst W (sym is) (refl, leb-false (i + length bytes) l.stack.slot.static_size past, refl)
+write_seen : (i : ℕ) (bytes : List ℕ) (s new : StackState) (reply : Reply) (b : Bool) → IsPlain s.slot → nat_le (i + length bytes) s.slot.static_size ≡ b → ◌≡◌ {A = StackState × Reply} (new, reply) (after_write i bytes s b) → WritesBytes (seen_stack s).size i (length bytes) (stack_written i bytes (seen_stack s)) (seen_stack s) (seen_stack new) reply
+write_seen i bytes s new reply true plain fits is =
+    let W : StackState × Reply → Type 0 = λ p. WritesBytes (seen_stack s).size i (length bytes) (stack_written i bytes (seen_stack s)) (seen_stack s) (seen_stack p.0) p.1 in
+    let within : i + length bytes ≤ s.slot.static_size = leb-true (i + length bytes) s.slot.static_size fits in
+    let Seen : Option (List ℕ) → PrivateStack = λ b. record { slot = s.index; size = s.slot.static_size; bytes = b } in
+    subst W (sym is) (within, ap Seen (written_by s.slot.base.bytes i s.slot.static_size bytes s.slot.region.contents within (stack_long s.slot plain)))
+write_seen i bytes s new reply false plain past is =
+    let W : StackState × Reply → Type 0 = λ p. WritesBytes (seen_stack s).size i (length bytes) (stack_written i bytes (seen_stack s)) (seen_stack s) (seen_stack p.0) p.1 in
+    subst W (sym is) (refl, leb-false (i + length bytes) s.slot.static_size past, refl)
+
+pub state_op_seen : (op : MemoryOp) (s new : StackState) (reply : Reply) → IsPlain s.slot → StackStateMoves op s new reply → StackMoves op (seen_stack s) (seen_stack new) reply
+state_op_seen (reads i len) s new reply plain is = (is.0, ap seen_stack is.1)
+state_op_seen (writes i bytes) s new reply plain is = write_seen i bytes s new reply (nat_le (i + length bytes) s.slot.static_size) plain refl is
+state_op_seen (fills i len byte) s new reply plain is = write_seen i (replicate len byte) s new reply (nat_le (i + length (replicate len byte)) s.slot.static_size) plain refl is
+state_op_seen (grows pages) s new reply plain is = (is.0, ap seen_stack is.1)
+state_op_seen asks_size s new reply plain is = (is.0, ap seen_stack is.1)
 
 pub stack_op_seen : (op : MemoryOp) (l new : LeasedStack) (reply : Reply) → IsPlain l.stack.slot → StackLeaseMoves op l new reply → StackMoves op (private_stack l) (private_stack new) reply
-stack_op_seen (reads i len) l new reply plain is = (is.0, ap private_stack is.1)
-stack_op_seen (writes i bytes) l new reply plain is = write_seen i bytes l new reply (nat_le (i + length bytes) l.stack.slot.static_size) plain refl is
-stack_op_seen (fills i len byte) l new reply plain is = write_seen i (replicate len byte) l new reply (nat_le (i + length (replicate len byte)) l.stack.slot.static_size) plain refl is
-stack_op_seen (grows pages) l new reply plain is = (is.0, ap private_stack is.1)
-stack_op_seen asks_size l new reply plain is = (is.0, ap private_stack is.1)
+stack_op_seen op l new reply plain is = state_op_seen op l.stack new.stack reply plain is.0
+
+-- It lies where it lay, and can be used still.
+pub record StaysStack (s new : StackState) : Type 0 where
+  pub index : new.index ≡ s.index
+  pub zeroing : new.zeroing ≡ s.zeroing
+  pub slot : identity new.slot ≡ identity s.slot
+  pub plain : IsPlain new.slot
+
+as_it_was : (s new : StackState) → IsPlain s.slot → new ≡ s → StaysStack s new
+as_it_was s new plain is = subst (StaysStack s) (sym is) (record { index = refl; zeroing = refl; slot = refl; plain = plain })
+
+write_stays : (i : ℕ) (bytes : List ℕ) (s new : StackState) (reply : Reply) (b : Bool) → IsPlain s.slot → nat_le (i + length bytes) s.slot.static_size ≡ b → ◌≡◌ {A = StackState × Reply} (new, reply) (after_write i bytes s b) → StaysStack s new
+write_stays i bytes s new reply true plain fits is =
+    let slot : Slot = s.slot in
+    let within : i + length bytes ≤ slot.accessible.bytes = omega (arith, leb-true (i + length bytes) slot.static_size fits, plain.all) in
+    let one : identity (plain_written i bytes slot) ≡ identity slot = ap (λ (b : Bool). record (identity slot) { tells = b }) (told_same (written (slot.base.bytes + i) bytes) slot.region.contents) in
+    let K : StackState × Reply → Type 0 = λ p. StaysStack s p.0 in
+    subst K (sym is) (record { index = refl; zeroing = refl; slot = one; plain = plain_after i bytes slot plain within })
+write_stays i bytes s new reply false plain past is = as_it_was s new plain (ap (λ (p : StackState × Reply). p.0) is)
+
+pub state_op_stays : (op : MemoryOp) (s new : StackState) (reply : Reply) → IsPlain s.slot → StackStateMoves op s new reply → StaysStack s new
+state_op_stays (reads i len) s new reply plain is = as_it_was s new plain is.1
+state_op_stays (writes i bytes) s new reply plain is = write_stays i bytes s new reply (nat_le (i + length bytes) s.slot.static_size) plain refl is
+state_op_stays (fills i len byte) s new reply plain is = write_stays i (replicate len byte) s new reply (nat_le (i + length (replicate len byte)) s.slot.static_size) plain refl is
+state_op_stays (grows pages) s new reply plain is = as_it_was s new plain is.1
+state_op_stays asks_size s new reply plain is = as_it_was s new plain is.1
 
 -- It is still a lease of the pool.
 module _ (maker : MakerTold) (s : Settings) (plan : Plan) where
-  write_kept : (i : ℕ) (bytes : List ℕ) (l new : LeasedStack) (reply : Reply) (b : Bool) → IsStackLease maker s plan l → nat_le (i + length bytes) l.stack.slot.static_size ≡ b → ◌≡◌ {A = LeasedStack × Reply} (new, reply) (after_write i bytes l b) → IsStackLease maker s plan new
-  write_kept i bytes l new reply true of fits is =
-      let slot : Slot = l.stack.slot in
-      let within : i + length bytes ≤ slot.accessible.bytes = omega (arith, leb-true (i + length bytes) slot.static_size fits, of.plain.all) in
-      let one : identity (plain_written i bytes slot) ≡ identity slot = ap (λ (b : Bool). record (identity slot) { tells = b }) (told_same (written (slot.base.bytes + i) bytes) slot.region.contents) in
-      let K : LeasedStack × Reply → Type 0 = λ p. IsStackLease maker s plan p.0 in
-      subst K (sym is) (record { inside = of.inside; slot = record { same = one ∙ of.slot.same }; plain = plain_after i bytes slot of.plain within; zeroing = of.zeroing })
-  write_kept i bytes l new reply false of past is = let K : LeasedStack × Reply → Type 0 = λ p. IsStackLease maker s plan p.0 in subst K (sym is) of
-
   pub stack_op_keeps : (op : MemoryOp) (l new : LeasedStack) (reply : Reply) → IsStackLease maker s plan l → StackLeaseMoves op l new reply → IsStackLease maker s plan new
-  stack_op_keeps (reads i len) l new reply of is = subst (IsStackLease maker s plan) (sym is.1) of
-  stack_op_keeps (writes i bytes) l new reply of is = write_kept i bytes l new reply (nat_le (i + length bytes) l.stack.slot.static_size) of refl is
-  stack_op_keeps (fills i len byte) l new reply of is = write_kept i (replicate len byte) l new reply (nat_le (i + length (replicate len byte)) l.stack.slot.static_size) of refl is
-  stack_op_keeps (grows pages) l new reply of is = subst (IsStackLease maker s plan) (sym is.1) of
-  stack_op_keeps asks_size l new reply of is = subst (IsStackLease maker s plan) (sym is.1) of
+  stack_op_keeps op l new reply of is =
+      let stays = state_op_stays op l.stack new.stack reply of.plain is.0 in
+      let At : ℕ → Type 0 = λ i. IsPoolStack maker s i new.stack.slot in
+      record { inside = omega (arith, of.inside, stays.index); slot = subst At (sym stays.index) (record { same = stays.slot ∙ of.slot.same }); plain = stays.plain; zeroing = stays.zeroing ∙ of.zeroing }
 
   -- what its party sees is told where the maker tells
   mapped_told : {X Y : Type 0} (f : X → Y) (o : Option X) → is_some (option_map f o) ≡ is_some o
@@ -103,15 +125,25 @@ module _ (maker : MakerTold) (s : Settings) (plan : Plan) where
   pub stack_told : (l : LeasedStack) → IsStackLease maker s plan l → is_some (stack_bytes l.stack.slot) ≡ maker.tells
   stack_told l of = mapped_told _ l.stack.slot.region.contents ∙ ap (λ (z : SlotIdentity). z.tells) of.slot.same ∙ told_if maker.tells _
 
-  writes_agree : (i : ℕ) (bytes : List ℕ) (l new other : LeasedStack) (r q : Reply) → StackLeaseWrites i bytes l new r → StackLeaseWrites i bytes l other q → (new ≡ other) × (r ≡ q)
-  writes_agree i bytes l new other r q one two =
+  writes_agree : (i : ℕ) (bytes : List ℕ) (x new other : StackState) (r q : Reply) → StackStateWrites i bytes x new r → StackStateWrites i bytes x other q → (new ≡ other) × (r ≡ q)
+  writes_agree i bytes x new other r q one two =
       let both : (new, r) ≡ (other, q) = one ∙ sym two in
-      (ap (λ (p : LeasedStack × Reply). p.0) both, ap (λ (p : LeasedStack × Reply). p.1) both)
+      (ap (λ (p : StackState × Reply). p.0) both, ap (λ (p : StackState × Reply). p.1) both)
 
   -- Each operation on it: both times the same, or one reply is that there was no memory for it.
-  pub stack_op_same : maker.tells ≡ true → (op : MemoryOp) (l new other : LeasedStack) (r q : Reply) → IsStackLease maker s plan l → StackLeaseMoves op l new r → StackLeaseMoves op l other q → ((new ≡ other) × (r ≡ q)) ⊎ (((r ≡ want_of_memory) × (q ≢ want_of_memory)) ⊎ ((q ≡ want_of_memory) × (r ≢ want_of_memory)))
-  stack_op_same tells (reads i len) l new other r q of one two = looks_same (private_stack l).size (private_stack l).bytes i len l new other r q (stack_told l of ∙ tells) one two
-  stack_op_same tells (writes i bytes) l new other r q of one two = inl (writes_agree i bytes l new other r q one two)
-  stack_op_same tells (fills i len byte) l new other r q of one two = inl (writes_agree i (replicate len byte) l new other r q one two)
-  stack_op_same tells (grows pages) l new other r q of one two = inl (one.1 ∙ sym two.1, one.0 ∙ sym two.0)
-  stack_op_same tells asks_size l new other r q of one two = inl (one.1 ∙ sym two.1, one.0 ∙ sym two.0)
+  abbrev Wants : Reply → Reply → Type 0
+  Wants r q = ((r ≡ want_of_memory) × (q ≢ want_of_memory)) ⊎ ((q ≡ want_of_memory) × (r ≢ want_of_memory))
+
+  state_op_same : (op : MemoryOp) (x new other : StackState) (r q : Reply) → is_some (stack_bytes x.slot) ≡ true → StackStateMoves op x new r → StackStateMoves op x other q → ((new ≡ other) × (r ≡ q)) ⊎ Wants r q
+  state_op_same (reads i len) x new other r q told one two = looks_same (seen_stack x).size (seen_stack x).bytes i len x new other r q told one two
+  state_op_same (writes i bytes) x new other r q told one two = inl (writes_agree i bytes x new other r q one two)
+  state_op_same (fills i len byte) x new other r q told one two = inl (writes_agree i (replicate len byte) x new other r q one two)
+  state_op_same (grows pages) x new other r q told one two = inl (one.1 ∙ sym two.1, one.0 ∙ sym two.0)
+  state_op_same asks_size x new other r q told one two = inl (one.1 ∙ sym two.1, one.0 ∙ sym two.0)
+
+  pub stack_op_same : maker.tells ≡ true → (op : MemoryOp) (l new other : LeasedStack) (r q : Reply) → IsStackLease maker s plan l → StackLeaseMoves op l new r → StackLeaseMoves op l other q → ((new ≡ other) × (r ≡ q)) ⊎ Wants r q
+  stack_op_same tells op l new other r q of one two =
+      elim (state_op_same op l.stack new.stack other.stack r q (stack_told l of ∙ tells) one.0 two.0) [
+        | inl same ↦ inl (one.1 ∙ ap (λ (x : StackState). record l { stack = x }) same.0 ∙ sym two.1, same.1)
+        | inr wants ↦ inr wants
+      ]

@@ -4,7 +4,6 @@ use Rattle.std.specs.Prelude.{◌==◌, IfSome, if◌then◌else◌, slice_range
 use Rattle.std.proofs.lemmas.Bool.Decides.{nat_tests}
 use Rattle.pool_hall.specs.declared.unit_name.SlotKind.{SlotKind}
 use Rattle.pool_hall.specs.declared.unit_name.SlotKind.TheVariants.{Stack as stack_kind}
-use Rattle.pool_limits.specs.LimiterTold.{LimiterTold}
 use Rattle.pool_pages.specs.Contents.{Contents}
 use Rattle.pool_pages.proofs.Puts.{length-range}
 use Rattle.pool_images.specs.Slots.{Slot}
@@ -15,6 +14,8 @@ use Rattle.pool_slots.specs.declared.errors.AllocError.{AllocError}
 use Rattle.pool_slots.specs.declared.errors.AllocError.TheVariants as refusal
 use Rattle.pool_slots.specs.declared.errors.ConcurrencyKind.TheVariants.{Fibers}
 use Rattle.pool_slots.specs.declared.slot_name.SlotName.{SlotName}
+use Rattle.pool_slots.specs.declared.listed_heaps.PlainHeap.{PlainHeap}
+use Rattle.pool_alloc.specs.PartyTold.{PartyTold}
 use Rattle.pool_alloc.specs.PoolStacks.{IsStackLease, IsNewStack}
 use Rattle.pool_alloc.specs.Places.{right_to}
 use Rattle.pool_alloc.specs.Sound.{IsEnabled}
@@ -41,7 +42,7 @@ use Rattle.pool_run.proofs.Requests.{IsBefore, gone}
 use Rattle.pool_run.proofs.SlotKinds.{stacks_taken, stacks_told}
 use Rattle.pool_run.proofs.StackMoves.{stack_told, stack_long}
 
-module _ {P : Type 0} (w : World) (old new : LimiterTold) (c : PoolCore P) (f : Frame P) (live : List (Option (Grant P))) (told : Grants) (is : IsBefore w old new c f live told) (seen : grants_of live ≡ told) (for : f.asked ≡ stack_asked) where
+module _ {P : Type 0} (w : World) (old new : PartyTold) (c : PoolCore P PlainHeap) (f : Frame P PlainHeap) (live : List (Option (Grant P PlainHeap))) (told : Grants) (is : IsBefore w old new c f live told) (seen : grants_of live ≡ told) (for : f.asked ≡ stack_asked) where
   -- what comes next is a stack
   next_stack : kind_next f ≡ stack_kind
   next_stack = ap (λ (asked : Asked). kind_by asked (length f.objects.memories.items)) for
@@ -87,7 +88,7 @@ begins_zero : (s : Slot) (n : ℕ) (o : Option Contents) → s.static_size ≡ n
 begins_zero s n None size zeros = tt
 begins_zero s n (Some c) size zeros = let Z : ℕ → Type 0 = λ m. slice_range c.bytes s.base.bytes (s.base.bytes + m) ≡ replicate n 0 in subst Z (sym size) zeros
 
-module _ {P : Type 0} (w : World) (old new : LimiterTold) (c : PoolCore P) (f : Frame P) (live : List (Option (Grant P))) (told : Grants) (is : IsBefore w old new c f live told) where
+module _ {P : Type 0} (w : World) (old new : PartyTold) (c : PoolCore P PlainHeap) (f : Frame P PlainHeap) (live : List (Option (Grant P PlainHeap))) (told : Grants) (is : IsBefore w old new c f live told) where
   pub stack_begins : (l : LeasedStack) → IsStackLease w.maker c.settings c.plan l → IsNewStack c.settings l → BeginsStack w.terms.stacks w.terms.tells l.stack.index (private_stack l)
   stack_begins l of begun =
       let size : l.stack.slot.static_size ≡ w.terms.stacks.size = begun.size ∙ sym is.world.stacks.size in

@@ -2,31 +2,32 @@
 use Rattle.std.proofs.Common.{◌≡◌, ℕ, ◌+◌, ◌<◌, ◌≤◌, ◌⊎◌, inl, inr, Bool, true, false, Option, Some, None, refl, ap, arith}
 use Rattle.std.specs.Prelude.{◌&&◌, not, is_some}
 use Rattle.pool_pages.specs.MakerTold.{MakerTold}
-use Rattle.pool_limits.specs.LimiterTold.{LimiterTold}
+use Rattle.pool_alloc.specs.PartyTold.{PartyTold}
 use Rattle.pool_alloc.specs.Calls.{IfGranted}
 use Rattle.pool_alloc.specs.Places.{phase_instances, instances_for, phase_components}
-use Rattle.pool_alloc.specs.Stages.{Progress, untested, uncounted, admitted, Stage, no_call, keys, asks, returning, refusing, purging, reserving, releasing, stage_by, stage_of_release, stage_at, Follows, Goes, seeks_stack, tests_component, counts_component, stage_back, stage_of}
+use Rattle.pool_alloc.specs.Stages.{Progress, untested, uncounted, admitted, Stage, no_call, keys, asks, returning, refusing, purging, reserving, releasing, stage_by, stage_of_release, stage_at, Follows, Goes, seeks_stack, tests_heap, seeks_heap, counts_heap, tests_component, counts_component, stage_back, stage_of}
 use Rattle.pool_alloc.specs.Stepping.{is_idle, count_granted, grant_instances, grant_components}
 use Rattle.pool_alloc.specs.Objects.{objects_wanted, objects_in}
 use Rattle.pool_alloc.specs.Sound.{IsFrame, IsShapedAt}
 use Rattle.pool_slots.specs.declared.plan.Plan.{Plan}
+use Rattle.pool_slots.specs.declared.listed_heaps.PlainHeap.{PlainHeap}
 use Rattle.pool_alloc.specs.declared.pool_core.Settings.{Settings}
 use Rattle.pool_alloc.specs.declared.pool_core.PoolCore.{PoolCore}
 use Rattle.pool_alloc.specs.declared.frame.Asked.{Asked}
-use Rattle.pool_alloc.specs.declared.frame.Asked.TheVariants.{Stack as stack_asked}
+use Rattle.pool_alloc.specs.declared.frame.Asked.TheVariants.{Stack as stack_asked, Heap as heap_asked}
 use Rattle.pool_alloc.specs.declared.frame.Ending.{Ending}
 use Rattle.pool_alloc.specs.declared.frame.Ending.TheVariants as ending
 use Rattle.pool_alloc.specs.declared.frame.Frame.{Frame}
-use Rattle.pool_alloc.specs.declared.frame.Grant.TheVariants.{Instance as instance, Component as component, Stack as stack}
+use Rattle.pool_alloc.specs.declared.frame.Grant.TheVariants.{Instance as instance, Component as component, Stack as stack, Heap as heap}
 use Rattle.pool_alloc.specs.declared.frame.Outcome.{Outcome}
 use Rattle.pool_alloc.specs.declared.frame.Outcome.TheVariants as answer
 use Rattle.pool_alloc.specs.declared.frame.Phase.{Phase}
-use Rattle.pool_alloc.specs.declared.frame.Phase.TheVariants.{Idle, Key, Validate, CountInstance, CountObject, Purge, Release, TestStack, ValidateComponent, CountComponent, UncountComponent}
+use Rattle.pool_alloc.specs.declared.frame.Phase.TheVariants.{Idle, Key, Validate, CountInstance, CountObject, Purge, Release, TestStack, TestHeap, CountHeap, ValidateComponent, CountComponent, UncountComponent}
 use Rattle.pool_alloc.specs.declared.release.ReleaseStep.{ReleaseStep}
 use Rattle.pool_alloc.specs.declared.release.ReleaseStep.TheVariants.{Reserve}
 use Rattle.pool_run.specs.Limits.{admitted_at}
 use Rattle.pool_run.specs.RunsMade.{is_drawing}
-use Rattle.pool_run.specs.Ties.{is_asking, is_for_objects}
+use Rattle.pool_run.specs.Ties.{is_asking, is_for_instance, is_for_objects}
 
 -- no call is under way
 abbrev pub is_none : Stage → Bool
@@ -81,18 +82,21 @@ counted_back e is = absurd cc
 
 admitted_by : (asked : Asked) (e : Ending) (n : ℕ) → admitted_at (stage_by asked e n) ≤ instances_for asked 1
 admitted_by stack_asked ending.Granted n = omega arith
+admitted_by (heap_asked ty) ending.Granted n = omega arith
 admitted_by _ ending.Granted n = omega arith
 admitted_by asked ending.Returned n = omega arith
 admitted_by asked (ending.Refused e) n = omega arith
 
 counted_by : (asked : Asked) (e : Ending) (n : ℕ) → stage_by asked e n ≡ asks uncounted → ⊥
 counted_by stack_asked ending.Granted n is = absurd cc
+counted_by (heap_asked ty) ending.Granted n is = absurd cc
 counted_by _ ending.Granted n is = absurd cc
 counted_by asked ending.Returned n is = absurd cc
 counted_by asked (ending.Refused e) n is = absurd cc
 
 seeks_by : (asked : Asked) (e : Ending) (n : ℕ) → stage_by asked e n ≡ asks seeks_stack → asked ≡ stack_asked
 seeks_by stack_asked e n is = refl
+seeks_by (heap_asked ty) ending.Granted n is = absurd cc
 seeks_by _ ending.Granted n is = absurd cc
 seeks_by _ ending.Returned n is = absurd cc
 seeks_by _ (ending.Refused e) n is = absurd cc
@@ -112,12 +116,14 @@ module _ {P : Type 0} where
   released_none _ = refl
 
   -- The stage says whether a call is under way,
-  pub none_idle : (phase : Phase P) (asked : Asked) (e : Ending) (n : ℕ) → is_none (stage_at phase asked e n) ≡ is_idle phase
+  pub none_idle : (phase : Phase P PlainHeap) (asked : Asked) (e : Ending) (n : ℕ) → is_none (stage_at phase asked e n) ≡ is_idle phase
   none_idle Idle asked e n = refl
   none_idle Key asked e n = refl
   none_idle Validate asked e n = refl
   none_idle CountInstance asked e n = refl
   none_idle TestStack asked e n = refl
+  none_idle TestHeap asked e n = refl
+  none_idle (CountHeap lease) asked e n = refl
   none_idle (ValidateComponent info) asked e n = refl
   none_idle CountComponent asked e n = refl
   none_idle UncountComponent asked e n = none_back e
@@ -127,12 +133,14 @@ module _ {P : Type 0} where
   none_idle _ asked e n = none_by asked e n
 
   -- and a call that was admitted has counted its instance,
-  pub admitted_counts : (phase : Phase P) (asked : Asked) (e : Ending) (n : ℕ) → admitted_at (stage_at phase asked e n) ≤ instances_for asked (phase_instances phase)
+  pub admitted_counts : (phase : Phase P PlainHeap) (asked : Asked) (e : Ending) (n : ℕ) → admitted_at (stage_at phase asked e n) ≤ instances_for asked (phase_instances phase)
   admitted_counts Idle asked e n = omega arith
   admitted_counts Key asked e n = omega arith
   admitted_counts Validate asked e n = omega arith
   admitted_counts CountInstance asked e n = omega arith
   admitted_counts TestStack asked e n = omega arith
+  admitted_counts TestHeap asked e n = omega arith
+  admitted_counts (CountHeap lease) asked e n = omega arith
   admitted_counts (ValidateComponent info) asked e n = omega arith
   admitted_counts CountComponent asked e n = omega arith
   admitted_counts UncountComponent asked e n = omega (arith, admitted_back e)
@@ -142,12 +150,14 @@ module _ {P : Type 0} where
   admitted_counts _ asked e n = omega (arith, admitted_by asked e n)
 
   -- and one that isn't counted yet hasn't.
-  pub uncounted_none : (phase : Phase P) (asked : Asked) (e : Ending) (n : ℕ) → stage_at phase asked e n ≡ asks uncounted → instances_for asked (phase_instances phase) ≡ 0
+  pub uncounted_none : (phase : Phase P PlainHeap) (asked : Asked) (e : Ending) (n : ℕ) → stage_at phase asked e n ≡ asks uncounted → instances_for asked (phase_instances phase) ≡ 0
   uncounted_none Idle asked e n is = none_for asked
   uncounted_none Key asked e n is = none_for asked
   uncounted_none Validate asked e n is = none_for asked
   uncounted_none CountInstance asked e n is = none_for asked
   uncounted_none TestStack asked e n is = none_for asked
+  uncounted_none TestHeap asked e n is = none_for asked
+  uncounted_none (CountHeap lease) asked e n is = absurd cc
   uncounted_none (ValidateComponent info) asked e n is = none_for asked
   uncounted_none CountComponent asked e n is = none_for asked
   uncounted_none UncountComponent asked e n is = absurd (counted_back e is)
@@ -157,7 +167,7 @@ module _ {P : Type 0} where
   uncounted_none _ asked e n is = absurd (counted_by asked e n is)
 
   -- So it is with a component.
-  pub uncounted_component : (phase : Phase P) (asked : Asked) (e : Ending) (n : ℕ) → stage_at phase asked e n ≡ counts_component → phase_components phase ≡ 0
+  pub uncounted_component : (phase : Phase P PlainHeap) (asked : Asked) (e : Ending) (n : ℕ) → stage_at phase asked e n ≡ counts_component → phase_components phase ≡ 0
   uncounted_component UncountComponent asked e n is = absurd (back_counts e is)
   uncounted_component _ asked e n is = refl
 
@@ -166,12 +176,14 @@ module _ {P : Type 0} where
   seeks_released _ is = absurd cc
 
   -- A call that seeks a stack asks for one.
-  seeks_at : (maker : MakerTold) (s : Settings) (plan : Plan) (phase : Phase P) (f : Frame P) → IsShapedAt maker s plan phase f → stage_at phase f.asked f.ending (objects_in f.objects) ≡ asks seeks_stack → f.asked ≡ stack_asked
+  seeks_at : (maker : MakerTold) (s : Settings) (plan : Plan) (phase : Phase P PlainHeap) (f : Frame P PlainHeap) → IsShapedAt maker s plan phase f → stage_at phase f.asked f.ending (objects_in f.objects) ≡ asks seeks_stack → f.asked ≡ stack_asked
   seeks_at maker s plan Idle f shape is = absurd cc
   seeks_at maker s plan Key f shape is = absurd cc
   seeks_at maker s plan Validate f shape is = absurd cc
   seeks_at maker s plan TestStack f shape is = shape.1.2
   seeks_at maker s plan CountInstance f shape is = absurd cc
+  seeks_at maker s plan TestHeap f shape is = absurd cc
+  seeks_at maker s plan (CountHeap lease) f shape is = absurd cc
   seeks_at maker s plan (ValidateComponent info) f shape is = absurd cc
   seeks_at maker s plan CountComponent f shape is = absurd cc
   seeks_at maker s plan UncountComponent f shape is = absurd (seeks_back f.ending is)
@@ -180,26 +192,26 @@ module _ {P : Type 0} where
   seeks_at maker s plan (CountObject object) f shape is = seeks_by f.asked f.ending (objects_in f.objects + 1) is
   seeks_at maker s plan _ f shape is = seeks_by f.asked f.ending (objects_in f.objects) is
 
-  pub stack_is_asked : (maker : MakerTold) (c : PoolCore P) (f : Frame P) → IsFrame maker c.settings c.plan f → stage_of f ≡ asks seeks_stack → f.asked ≡ stack_asked
+  pub stack_is_asked : (maker : MakerTold) (c : PoolCore P PlainHeap) (f : Frame P PlainHeap) → IsFrame maker c.settings c.plan f → stage_of f ≡ asks seeks_stack → f.asked ≡ stack_asked
   stack_is_asked maker c f frame is = seeks_at maker c.settings c.plan f.phase f frame.shape is
 
-  abbrev pub is_key : Option (Outcome P) → Bool
+  abbrev pub is_key : Option (Outcome P PlainHeap) → Bool
   is_key (Some answer.Key) = true
   is_key _ = false
 
   -- what holds where a request is under way holds where one is granted
-  pub place_granted : (Q : Type 0) (b : Bool) (o : Option (Outcome P)) → (b ≡ true → Q) → IfGranted (λ g. b ≡ true) o → IfGranted (λ g. Q) o
+  pub place_granted : (Q : Type 0) (b : Bool) (o : Option (Outcome P PlainHeap)) → (b ≡ true → Q) → IfGranted (λ g. b ≡ true) o → IfGranted (λ g. Q) o
   place_granted Q b (Some (answer.Granted grant)) place is = place is
   place_granted Q b _ place is = tt
 
   -- this holds where an instance is granted
-  abbrev pub IfInstance : Type 0 → Option (Outcome P) → Type 0
+  abbrev pub IfInstance : Type 0 → Option (Outcome P PlainHeap) → Type 0
   IfInstance Q (Some (answer.Granted (instance lease))) = Q
   IfInstance Q _ = Unit {0}
 
   -- A step answers where it ends the call. A request is granted or goes on only where one was under way, and only a call
   -- for the stripe answers with it, which no step leads to.
-  pub record IsStagedStep (s t : Stage) (o : Option (Outcome P)) : Type 0 where
+  pub record IsStagedStep (s t : Stage) (o : Option (Outcome P PlainHeap)) : Type 0 where
     pub answer : is_some o ≡ (not (is_none s) && is_none t)
     pub settled : is_some o ≡ true → t ≡ no_call
     pub asking : is_asking t ≡ true → is_asking s ≡ true
@@ -210,23 +222,37 @@ module _ {P : Type 0} where
     pub key : is_key o ≡ is_drawing s
 
   -- A component is granted only where fewer are counted than there may be.
-  abbrev pub MayGrant : PoolCore P → Option (Outcome P) → Type 0
+  abbrev pub MayGrant : PoolCore P PlainHeap → Option (Outcome P PlainHeap) → Type 0
   MayGrant c o = (count_granted grant_components o ≡ 0) ⊎ ((count_granted grant_components o ≡ 1) × (c.counters.component_instances < c.settings.max_component_instances))
 
   -- No more is admitted than others and the limit leave room for.
-  pub record Admits (others most : ℕ) (t : Stage) (o : Option (Outcome P)) : Type 0 where
+  pub record Admits (others most : ℕ) (t : Stage) (o : Option (Outcome P PlainHeap)) : Type 0 where
     pub within : others + (admitted_at t + count_granted grant_instances o) ≤ most
 
-module _ {P : Type 0} (maker : MakerTold) (old new : LimiterTold) (c : PoolCore P) (f : Frame P) where
-  pub staged : (s t : Stage) (o : Option (Outcome P)) → Goes maker old new c f s t o → IsStagedStep s t o
+module _ {P : Type 0} (maker : MakerTold) (old new : PartyTold) (c : PoolCore P PlainHeap) (f : Frame P PlainHeap) where
+  -- a request for an instance stays one, and no other becomes one
+  for_instance : (p q : Progress) → Follows old new c f p q → is_for_instance q ≡ true → is_for_instance p ≡ true
+  for_instance untested q follows for = refl
+  for_instance uncounted q follows for = refl
+  for_instance (admitted n) q follows for = refl
+  for_instance seeks_stack seeks_stack follows for = for
+  for_instance tests_heap (seeks_heap m) follows for = for
+  for_instance (seeks_heap n) (seeks_heap m) follows for = for
+  for_instance (seeks_heap n) counts_heap follows for = for
+  for_instance _ _ follows for = absurd follows
+
+  pub staged : (s t : Stage) (o : Option (Outcome P PlainHeap)) → Goes maker old new c f s t o → IsStagedStep s t o
   staged no_call no_call None goes = record { answer = refl; settled = λ e. refl; asking = λ e. e; granted = tt; for_it = λ e. absurd cc; instance_granted = tt; drawn = refl; key = refl }
   staged keys no_call (Some answer.Key) goes = record { answer = refl; settled = λ e. refl; asking = λ e. absurd cc; granted = tt; for_it = λ e. absurd cc; instance_granted = tt; drawn = refl; key = refl }
-  staged (asks p) (asks q) None goes = record { answer = refl; settled = λ e. absurd cc; asking = λ e. refl; granted = tt; for_it = λ e. refl; instance_granted = tt; drawn = refl; key = refl }
+  staged (asks p) (asks q) None goes = record { answer = refl; settled = λ e. absurd cc; asking = λ e. refl; granted = tt; for_it = λ e. for_instance p q goes e; instance_granted = tt; drawn = refl; key = refl }
   staged (asks p) (refusing e) None goes = record { answer = refl; settled = λ e. absurd cc; asking = λ e. absurd cc; granted = tt; for_it = λ e. absurd cc; instance_granted = tt; drawn = refl; key = refl }
   staged (asks untested) no_call (Some (answer.Refused e)) goes = record { answer = refl; settled = λ e. refl; asking = λ e. absurd cc; granted = tt; for_it = λ e. absurd cc; instance_granted = tt; drawn = refl; key = refl }
-  staged (asks p) no_call (Some (answer.Granted (instance lease))) goes = record { answer = refl; settled = λ e. refl; asking = λ e. absurd cc; granted = refl; for_it = λ e. absurd cc; instance_granted = refl; drawn = refl; key = refl }
+  staged (asks p) no_call (Some (answer.Granted (instance lease))) goes = record { answer = refl; settled = λ e. refl; asking = λ e. absurd cc; granted = refl; for_it = λ e. absurd cc; instance_granted = for_instance p (admitted (objects_wanted f.asked)) goes.0 refl; drawn = refl; key = refl }
   staged (asks p) no_call (Some (answer.Granted (stack lease))) goes = record { answer = refl; settled = λ e. refl; asking = λ e. absurd cc; granted = refl; for_it = λ e. absurd cc; instance_granted = tt; drawn = refl; key = refl }
   staged (asks seeks_stack) no_call (Some (answer.Refused e)) goes = record { answer = refl; settled = λ e. refl; asking = λ e. absurd cc; granted = tt; for_it = λ e. absurd cc; instance_granted = tt; drawn = refl; key = refl }
+  staged (asks tests_heap) no_call (Some (answer.Refused e)) goes = record { answer = refl; settled = λ e. refl; asking = λ e. absurd cc; granted = tt; for_it = λ e. absurd cc; instance_granted = tt; drawn = refl; key = refl }
+  staged (asks (seeks_heap n)) no_call (Some (answer.Refused e)) goes = record { answer = refl; settled = λ e. refl; asking = λ e. absurd cc; granted = tt; for_it = λ e. absurd cc; instance_granted = tt; drawn = refl; key = refl }
+  staged (asks counts_heap) no_call (Some (answer.Granted (heap lease memory))) goes = record { answer = refl; settled = λ e. refl; asking = λ e. absurd cc; granted = refl; for_it = λ e. absurd cc; instance_granted = tt; drawn = refl; key = refl }
   staged (tests_component info) counts_component None goes = record { answer = refl; settled = λ e. absurd cc; asking = λ e. refl; granted = tt; for_it = λ e. absurd cc; instance_granted = tt; drawn = refl; key = refl }
   staged (tests_component info) no_call (Some (answer.Refused e)) goes = record { answer = refl; settled = λ e. refl; asking = λ e. absurd cc; granted = tt; for_it = λ e. absurd cc; instance_granted = tt; drawn = refl; key = refl }
   staged counts_component no_call (Some (answer.Granted component)) goes = record { answer = refl; settled = λ e. refl; asking = λ e. absurd cc; granted = refl; for_it = λ e. absurd cc; instance_granted = tt; drawn = refl; key = refl }
@@ -243,7 +269,7 @@ module _ {P : Type 0} (maker : MakerTold) (old new : LimiterTold) (c : PoolCore 
   staged releasing no_call (Some (answer.Released n)) goes = record { answer = refl; settled = λ e. refl; asking = λ e. absurd cc; granted = tt; for_it = λ e. absurd cc; instance_granted = tt; drawn = refl; key = refl }
   staged _ _ _ goes = absurd goes
 
-  pub may_grant : (s t : Stage) (o : Option (Outcome P)) → Goes maker old new c f s t o → MayGrant c o
+  pub may_grant : (s t : Stage) (o : Option (Outcome P PlainHeap)) → Goes maker old new c f s t o → MayGrant c o
   may_grant no_call no_call None goes = inl refl
   may_grant keys no_call (Some answer.Key) goes = inl refl
   may_grant (asks p) (asks q) None goes = inl refl
@@ -252,6 +278,9 @@ module _ {P : Type 0} (maker : MakerTold) (old new : LimiterTold) (c : PoolCore 
   may_grant (asks p) no_call (Some (answer.Granted (instance lease))) goes = inl refl
   may_grant (asks p) no_call (Some (answer.Granted (stack lease))) goes = inl refl
   may_grant (asks seeks_stack) no_call (Some (answer.Refused e)) goes = inl refl
+  may_grant (asks tests_heap) no_call (Some (answer.Refused e)) goes = inl refl
+  may_grant (asks (seeks_heap n)) no_call (Some (answer.Refused e)) goes = inl refl
+  may_grant (asks counts_heap) no_call (Some (answer.Granted (heap lease memory))) goes = inl refl
   may_grant (tests_component info) counts_component None goes = inl refl
   may_grant (tests_component info) no_call (Some (answer.Refused e)) goes = inl refl
   may_grant counts_component no_call (Some (answer.Granted component)) goes = inr (refl, goes)
@@ -272,13 +301,16 @@ module _ {P : Type 0} (maker : MakerTold) (old new : LimiterTold) (c : PoolCore 
   granted_within others n untested follows within counted = absurd follows
   granted_within others n uncounted follows within counted = omega (arith, follows.1, counted)
   granted_within others n seeks_stack follows within counted = absurd follows
+  granted_within others n tests_heap follows within counted = absurd follows
+  granted_within others n (seeks_heap m) follows within counted = absurd follows
+  granted_within others n counts_heap follows within counted = absurd follows
   granted_within others n (admitted m) follows within counted = omega (arith, within)
 
   followed_within : (others : ℕ) (p q : Progress) → Follows old new c f p q → others + admitted_at (asks p) ≤ c.settings.max_core_instances → others ≤ c.counters.core_instances → others + admitted_at (asks q) ≤ c.settings.max_core_instances
   followed_within others p (admitted m) follows within counted = omega (arith, granted_within others m p follows within counted)
   followed_within others p _ follows within counted = omega (arith, within)
 
-  pub admits : (others : ℕ) (s t : Stage) (o : Option (Outcome P)) → Goes maker old new c f s t o → others + admitted_at s ≤ c.settings.max_core_instances → others ≤ c.counters.core_instances → Admits others c.settings.max_core_instances t o
+  pub admits : (others : ℕ) (s t : Stage) (o : Option (Outcome P PlainHeap)) → Goes maker old new c f s t o → others + admitted_at s ≤ c.settings.max_core_instances → others ≤ c.counters.core_instances → Admits others c.settings.max_core_instances t o
   admits others no_call no_call None goes within counted = record { within = omega (arith, within) }
   admits others keys no_call (Some answer.Key) goes within counted = record { within = omega (arith, within) }
   admits others (asks p) (asks q) None goes within counted = record { within = omega (arith, followed_within others p q goes within counted) }
@@ -287,6 +319,9 @@ module _ {P : Type 0} (maker : MakerTold) (old new : LimiterTold) (c : PoolCore 
   admits others (asks p) no_call (Some (answer.Granted (instance lease))) goes within counted = record { within = omega (arith, granted_within others (objects_wanted f.asked) p goes.0 within counted) }
   admits others (asks p) no_call (Some (answer.Granted (stack lease))) goes within counted = record { within = omega (arith, within) }
   admits others (asks seeks_stack) no_call (Some (answer.Refused e)) goes within counted = record { within = omega (arith, within) }
+  admits others (asks tests_heap) no_call (Some (answer.Refused e)) goes within counted = record { within = omega (arith, within) }
+  admits others (asks (seeks_heap n)) no_call (Some (answer.Refused e)) goes within counted = record { within = omega (arith, within) }
+  admits others (asks counts_heap) no_call (Some (answer.Granted (heap lease memory))) goes within counted = record { within = omega (arith, within) }
   admits others (tests_component info) counts_component None goes within counted = record { within = omega (arith, within) }
   admits others (tests_component info) no_call (Some (answer.Refused e)) goes within counted = record { within = omega (arith, within) }
   admits others counts_component no_call (Some (answer.Granted component)) goes within counted = record { within = omega (arith, within) }

@@ -1,7 +1,7 @@
 -- What is known of a step of a call, all in one place.
 use Rattle.std.proofs.Common.{◌≡◌, ◌+◌, ◌≤◌, false}
 use Rattle.pool_pages.specs.MakerTold.{MakerTold}
-use Rattle.pool_limits.specs.LimiterTold.{LimiterTold}
+use Rattle.pool_alloc.specs.PartyTold.{PartyTold}
 use Rattle.pool_alloc.specs.Bounds.{steps_left}
 use Rattle.pool_alloc.specs.Calls.{IsGrantOf, IfGranted}
 use Rattle.pool_alloc.specs.Searches.{IsSearched}
@@ -13,9 +13,10 @@ use Rattle.pool_alloc.specs.declared.pool_core.PoolCore.{PoolCore}
 use Rattle.pool_alloc.specs.declared.frame.Frame.{Frame}
 use Rattle.pool_alloc.proofs.Steps.{step_ok, same_size, step_grants, step_fewer}
 use Rattle.pool_run.proofs.StageSteps.{IsStagedStep, staged}
+use Rattle.pool_slots.specs.declared.listed_heaps.PlainHeap.{PlainHeap}
 
 module _ {P : Type 0} where
-  pub record IsStepped (maker : MakerTold) (old new : LimiterTold) (c : PoolCore P) (f : Frame P) (a : After P) : Type 0 where
+  pub record IsStepped (maker : MakerTold) (old new : PartyTold) (c : PoolCore P PlainHeap) (f : Frame P PlainHeap) (a : After P PlainHeap) : Type 0 where
     pub core : IsCore maker a.core
     pub frame : IsFrame maker a.core.settings a.core.plan a.frame
     pub goes : GoesOn maker old new c f a
@@ -26,7 +27,7 @@ module _ {P : Type 0} where
     pub fewer : is_idle f.phase ≡ false → steps_left a.core a.frame + 1 ≤ steps_left c f
     pub granted : IfGranted (IsGrantOf maker c.settings c.plan f.asked) a.outcome
 
-  pub stepped : (maker : MakerTold) (old new : LimiterTold) (c : PoolCore P) (f : Frame P) (a : After P) → CanStep maker c f → StepsTo old new c f a → IsStepped maker old new c f a
+  pub stepped : (maker : MakerTold) (old new : PartyTold) (c : PoolCore P PlainHeap) (f : Frame P PlainHeap) (a : After P PlainHeap) → CanStep maker c f → StepsTo old new c f a → IsStepped maker old new c f a
   stepped maker old new c f a can by =
       let ok = step_ok maker old new c f a can by in
       record {

@@ -241,7 +241,7 @@ module _ (l n : LeasedTable) (same : n ≡ record l { table = n.table }) where
     abbrev region_by : Bool → Told → Told
     region_by b r = if b then r else region_set at (elements_set l.table.kind before.failing before.made count) (element_for (type_of l.table.kind) value) l.table.kind r
 
-    set_by : (leads : ListedStore → StoreCall → ListedStore → Type 0) (b : Bool) → nat_lt l.table.size (at + count) ≡ b → IsSet store_told leads at count (element_for (type_of l.table.kind) value) l n before after result → SetsSo (region_by b) (fills_by b)
+    set_by : (leads : ListedStore → StoreCall → ListedStore → Type 0) (b : Bool) → nat_lt l.table.size (at + count) ≡ b → IsSet store_told leads at count (element_for (type_of l.table.kind) value) l.table n.table before after result → SetsSo (region_by b) (fills_by b)
     set_by leads true past is =
         let out = is.outside (ltb-true _ _ past) in
         record {
@@ -255,8 +255,15 @@ module _ (l n : LeasedTable) (same : n ≡ record l { table = n.table }) where
 pub filled_moves : (leads : ListedStore → StoreCall → ListedStore → Type 0) (at count : ℕ) (value : TableValue) (rule : GrowthRule) (l n : LeasedTable) (before after : ListedStore) (result : Result (Unit {0}) GcTableError)
     → IsFilled store_told leads at count (element_for (type_of l.table.kind) value) l n before after result → MovesTable (sets at count value) rule before after l n (fill_reply result)
 filled_moves leads at count value rule l n before after result is =
-    let so = set_by l n is.set.same before after at count value result leads (nat_lt l.table.size (at + count)) refl is.set in
-    record { same = is.set.same; move = so.seen_so; region = so.region; lies = inr is.region; store = so.store }
+    let so = set_by l n is.same before after at count value result leads (nat_lt l.table.size (at + count)) refl is.set in
+    record { same = is.same; move = so.seen_so; region = so.region; lies = inr is.region; store = so.store }
+
+-- So is one of its elements alone, whose store stays the same but for its counts.
+pub set_moves : (leads : ListedStore → StoreCall → ListedStore → Type 0) (at count : ℕ) (value : TableValue) (rule : GrowthRule) (l n : LeasedTable) (before after : ListedStore) (result : Result (Unit {0}) GcTableError) → n ≡ record l { table = n.table }
+    → IsSet store_told leads at count (element_for (type_of l.table.kind) value) l.table n.table before after result → TableMoves (sets at count value) (record { rule = rule; failing = before.failing; unmade = [] }) (stored_as l before) (stored_as n after) (fill_reply result) × (after.failing ≡ before.failing)
+set_moves leads at count value rule l n before after result same is =
+    let so = set_by l n same before after at count value result leads (nat_lt l.table.size (at + count)) refl is in
+    (so.seen_so, ap (λ (s : ListedStore). s.failing) so.store)
 
 -- what a limiter answers that tells its rule
 pub table_answer_told : (rule : GrowthRule) (o : Option GrowthRule) (given : Result Bool LimiterError) (size : ℕ) (most : Option ℕ) → o ≡ Some rule → given ≡ table_answer o given size most → given ≡ table_answer (Some rule) (Ok true) size most
@@ -285,10 +292,10 @@ store_stays : (store : ListedStore) (reply : Reply) → faults_left reply store.
 store_stays store reply is = ap (λ (n : ℕ). record store { faults = n }) (sym is)
 
 -- How a table's growth ends, and what it leaves.
-record EndsTable (by : ℕ) (l n : LeasedTable) (reply : Reply) (end : GrowthEnd × Reply) : Type 0 where
-  says : reply ≡ end.1
-  leaves : private_table n ≡ table_left end.0 by (private_table l)
-  there : n.table.region ≡ l.table.region
+pub record EndsTable (by : ℕ) (l n : LeasedTable) (reply : Reply) (end : GrowthEnd × Reply) : Type 0 where
+  pub says : reply ≡ end.1
+  pub leaves : private_table n ≡ table_left end.0 by (private_table l)
+  pub there : n.table.region ≡ l.table.region
 
 module _ (by : ℕ) (l n : LeasedTable) (same : n ≡ record l { table = n.table }) where
   abbrev grows_by : Bool → Bool → Bool → Result Bool LimiterError → Result (Unit {0}) LimiterError → GrowthEnd × Reply
@@ -315,25 +322,31 @@ module _ (by : ℕ) (l n : LeasedTable) (same : n ≡ record l { table = n.table
   table_end false false false (Ok true) (Some e) r grows = absurd grows
 
 -- A growth of it ends by the rule that its limiter told.
-pub lengthened_moves : (rule : GrowthRule) (by : ℕ) (store : ListedStore) (l n : LeasedTable) (answer : Result (Option ℕ) GrowFault) → LengthensUnder rule by l n answer → MovesTable (lengthens by) rule store store l n (growth_reply answer)
-lengthened_moves rule by store l n answer is =
-    let g : GrowthGiven = is.growth.0 in
-    let asked : LimiterTold = is.growth.1 in
-    let told : asked.rule ≡ Some rule = is.growth.3 in
-    let grows : IsTableGrowth g by l.table n.table asked is.growth.2 answer = is.growth.4 in
+pub growth_ends : (rule : GrowthRule) (by : ℕ) (l n : LeasedTable) (answer : Result (Option ℕ) GrowFault) → n ≡ record l { table = n.table } → (given : GrowthGiven) × (asked : LimiterTold) × (left : LimiterTold) × (asked.rule ≡ Some rule) × IsTableGrowth given by l.table n.table asked left answer
+    → EndsTable by l n (growth_reply answer) (table_growth rule by (private_table l))
+growth_ends rule by l n answer same growth =
+    let g : GrowthGiven = growth.0 in
+    let asked : LimiterTold = growth.1 in
+    let told : asked.rule ≡ Some rule = growth.3 in
+    let grows : IsTableGrowth g by l.table n.table asked growth.2 answer = growth.4 in
     let size : ℕ = l.table.size + by in
     let most : Option ℕ = Some l.table.maximum in
     let nothing : Bool = by == 0 in
     let past_type : Bool = nat_lt (2 ^ 64 - 1) size in
     let past : Bool = nat_lt l.table.maximum size in
-    let By : Result Bool LimiterError → Result (Unit {0}) LimiterError → GrowthEnd × Reply = grows_by by l n is.same nothing past_type past in
-    let end : EndsTable by l n (growth_reply (result_by l.table.size nothing past_type past g)) (By g.answer g.report) = table_end by l n is.same nothing past_type past g.answer g.failure g.report grows.table in
+    let By : Result Bool LimiterError → Result (Unit {0}) LimiterError → GrowthEnd × Reply = grows_by by l n same nothing past_type past in
+    let end : EndsTable by l n (growth_reply (result_by l.table.size nothing past_type past g)) (By g.answer g.report) = table_end by l n same nothing past_type past g.answer g.failure g.report grows.table in
     let ruled : By g.answer g.report ≡ table_growth rule by (private_table l) = ap (λ (a : Result Bool LimiterError). By a g.report) (table_answer_told rule asked.rule g.answer size most told grows.ruled.answer) ∙ ap (By (table_answer (Some rule) (Ok true) size most)) (table_failure_told rule asked.rule g.report told grows.ruled.report) in
     let Left : GrowthEnd × Reply → PrivateTable = λ e. table_left e.0 by (private_table l) in
+    record { says = ap growth_reply grows.ruled.replies ∙ end.says ∙ ap (λ (e : GrowthEnd × Reply). e.1) ruled; leaves = end.leaves ∙ ap Left ruled; there = end.there }
+
+pub lengthened_moves : (rule : GrowthRule) (by : ℕ) (store : ListedStore) (l n : LeasedTable) (answer : Result (Option ℕ) GrowFault) → LengthensUnder rule by l n answer → MovesTable (lengthens by) rule store store l n (growth_reply answer)
+lengthened_moves rule by store l n answer is =
+    let ends = growth_ends rule by l n answer is.same is.growth in
     record {
       same = is.same;
-      move = (ap (λ (t : PrivateTable). record { table = t; calls = store.made }) (end.leaves ∙ ap Left ruled), ap growth_reply grows.ruled.replies ∙ end.says ∙ ap (λ (e : GrowthEnd × Reply). e.1) ruled);
-      region = end.there ∙ region_stays l.table.region;
+      move = (ap (λ (t : PrivateTable). record { table = t; calls = store.made }) ends.leaves, ends.says);
+      region = ends.there ∙ region_stays l.table.region;
       lies = inr is.region;
       store = store_stays store (growth_reply answer) (grown_faults answer store.faults);
     }
@@ -343,11 +356,11 @@ pub lengthened_under : {R : Type 0} (told : R → LimiterTold) (leads : R → Ex
 lengthened_under told leads rule by l n before after answer is ruled = record { same = is.same; growth = (is.growth.0, told before, told after, ruled, is.growth.1.0); region = is.region }
 
 -- A look leaves it as it is.
-looks : (at : ℕ) (rule : GrowthRule) (store : ListedStore) (l : LeasedTable) (answer : Result Element Fault) → IsElementAt l at answer → TableMoves (gets at) (record { rule = rule; failing = store.failing }) (stored_as l store) (stored_as l store) (element_reply answer)
+pub looks : (at : ℕ) (rule : GrowthRule) (store : ListedStore) (l : LeasedTable) (answer : Result Element Fault) → IsElementAt l.table at answer → TableMoves (gets at) (record { rule = rule; failing = store.failing; unmade = [] }) (stored_as l store) (stored_as l store) (element_reply answer)
 looks at rule store l (Ok e) is = (is, refl)
 looks at rule store l (Err trap) is = (is, refl)
 
-pub got_moves : (at : ℕ) (rule : GrowthRule) (store : ListedStore) (l : LeasedTable) (answer : Result Element Fault) → IsElementAt l at answer → MovesTable (gets at) rule store store l l (element_reply answer)
+pub got_moves : (at : ℕ) (rule : GrowthRule) (store : ListedStore) (l : LeasedTable) (answer : Result Element Fault) → IsElementAt l.table at answer → MovesTable (gets at) rule store store l l (element_reply answer)
 got_moves at rule store l answer is = record { same = refl; move = looks at rule store l answer is; region = region_stays l.table.region; lies = inl refl; store = store_stays store (element_reply answer) (got_faults answer store.faults) }
 
 pub length_moves : (rule : GrowthRule) (store : ListedStore) (l : LeasedTable) (n : ℕ) → n ≡ l.table.size → MovesTable asks_length rule store store l l (Size n)

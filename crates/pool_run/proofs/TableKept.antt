@@ -1,5 +1,5 @@
 -- A table of the pool stays one, whatever its party does with it: it lies where it lay, and what it doesn't use holds zeros.
-use Rattle.std.proofs.Common.{◌≡◌, ℕ, zero, suc, ◌+◌, ◌-◌, ◌*◌, ◌%◌, ◌^◌, ◌<◌, ◌≤◌, Bool, true, false, List, length, replicate, Option, Some, None, inl, inr, refl, sym, ap, ◌∙◌, subst, arith}
+use Rattle.std.proofs.Common.{[], ◌≡◌, ℕ, zero, suc, ◌+◌, ◌-◌, ◌*◌, ◌%◌, ◌^◌, ◌<◌, ◌≤◌, Bool, true, false, List, length, replicate, Option, Some, None, inl, inr, refl, sym, ap, ◌∙◌, subst, arith}
 use Rattle.std.specs.Prelude.{◌==◌, nat_lt, if◌then◌else◌, is_some, option_map}
 use Rattle.std.specs.List.{concat}
 use Rattle.std.proofs.Math.Nat.{mul-le-mul_right}
@@ -194,7 +194,7 @@ module _ (maker : MakerTold) (s : Settings) (plan : Plan) (op : TableOp) (rule :
       let there : new.table.region ≡ Some left = moves.region ∙ ap (option_map (region_left op before.failing seen)) of.lies.is in
       let same_region : lies.region ≡ left = let both : Some lies.region ≡ Some left = sym lies.is ∙ there in cc in
       let holds : IsTable (state_in left new.table) = subst (λ (r : Told). IsTable (state_in r new.table)) same_region lies.holds in
-      let less : IsNoLess (private_table l) (private_table new) = moved_no_less op (record { rule = rule; failing = before.failing }) seen (stored_as new after) reply moves.move in
+      let less : IsNoLess (private_table l) (private_table new) = moved_no_less op (record { rule = rule; failing = before.failing; unmade = [] }) seen (stored_as new after) reply moves.move in
       let wide : width new.table.kind ≡ width l.table.kind = ap width less.kind in
       let held : l.table.size * width l.table.kind ≤ new.table.size * width new.table.kind = rw wide (mul-le-mul_right (width l.table.kind) less.size) in
       let fits : new.table.size * width new.table.kind ≤ left.len = omega (arith, mul-le-mul_right (width new.table.kind) holds.within, holds.room) in

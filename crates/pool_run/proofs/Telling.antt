@@ -14,6 +14,7 @@ use Rattle.pool_run.specs.declared.input.Party.{Party}
 use Rattle.pool_run.specs.declared.reply.Reply.{Reply}
 use Rattle.pool_run.specs.declared.running_party.RunningParty.{RunningParty}
 use Rattle.pool_run.proofs.Ended.{few_told}
+use Rattle.pool_slots.specs.declared.listed_heaps.PlainHeap.{PlainHeap}
 
 abbrev pub lists_of : List (Reserved Reply) → List (List Reply)
 lists_of told = map (λ l. l.items) told
@@ -49,10 +50,10 @@ module _ {P : Type 0} where
         count = length-map parties room_for ∙ sym (length-map parties (party_made_for {P = P} s));
         each = λ i d x below.
             let inside : i < length parties = omega (arith, below, length-map parties (party_made_for {P = P} s)) in
-            let q : Party = slice_index_or parties i (record { home = 0; limits = None; gc_faults = []; commands = [] }) in
-            let party : length (slice_index_or (parties_made {P = P} s parties) i d).live ≡ length (party_made_for {P = P} s q).live = ap (λ (p : RunningParty P). length p.live) (get_or-map (party_made_for {P = P} s) parties i (record { home = 0; limits = None; gc_faults = []; commands = [] }) d inside) in
-            let room : (slice_index_or (map room_for parties) i x).room ≡ length q.commands = ap (λ (l : Reserved Reply). l.room) (get_or-map room_for parties i (record { home = 0; limits = None; gc_faults = []; commands = [] }) x inside) in
-            omega (arith, party, room, length-replicate {A = Option (Grant P)} (length q.commands) None);
+            let q : Party = slice_index_or parties i (record { home = 0; limits = None; gc_faults = []; heap_faults = []; commands = [] }) in
+            let party : length (slice_index_or (parties_made {P = P} s parties) i d).live ≡ length (party_made_for {P = P} s q).live = ap (λ (p : RunningParty P). length p.live) (get_or-map (party_made_for {P = P} s) parties i (record { home = 0; limits = None; gc_faults = []; heap_faults = []; commands = [] }) d inside) in
+            let room : (slice_index_or (map room_for parties) i x).room ≡ length q.commands = ap (λ (l : Reserved Reply). l.room) (get_or-map room_for parties i (record { home = 0; limits = None; gc_faults = []; heap_faults = []; commands = [] }) x inside) in
+            omega (arith, party, room, length-replicate {A = Option (Grant P PlainHeap)} (length q.commands) None);
       } in
       subst (λ ps. R ps told) (sym same) (subst (R (parties_made s parties)) (sym is) first)
 
@@ -68,7 +69,7 @@ module _ {P : Type 0} (of : Background) (given : List Party) (i : ℕ) (reply : 
   room_for_reply : (o : Option Reply) → reply ≡ o → IfSome o (λ r. length (slice_index_or told i no_room).items < (slice_index_or told i no_room).room)
   room_for_reply None none = tt
   room_for_reply (Some r) some =
-      let d : RunningParty P = party_made 0 None [] run.core.settings 0 in
+      let d : RunningParty P = party_made 0 None [] [] run.core.settings 0 in
       let items : List Reply = (slice_index_or told i no_room).items in
       let few = few_told of.world (commands_of of.inputs i) (replies_to i (replies_after i reply before)) (slice_index_or new.parties i d) (is.way.each i d (omega (arith, inside, is.parties))) in
       let long : i < length before = omega (arith, below, ap (length {A = List Reply}) same, length-map told (λ (l : Reserved Reply). l.items)) in

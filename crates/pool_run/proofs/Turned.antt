@@ -16,7 +16,7 @@ use Rattle.pool_table.specs.declared.gc_store.ListedStore.{ListedStore}
 use Rattle.pool_run.specs.Rooms.{World}
 use Rattle.pool_run.specs.PartyRules.{host_of}
 use Rattle.pool_run.specs.Turns.{Turned, host_of_party, one_step, ended_with, ended_at_once, answered, Steps, Turns, Opening, rests, replies, makes_step, Leaves}
-use Rattle.pool_run.specs.Ties.{CanTurn, is_asking}
+use Rattle.pool_run.specs.Ties.{IsSoundParty, CanTurn, is_asking}
 use Rattle.pool_run.proofs.Sounds.{reply_sound, step_sound, IsSoundTurn}
 use Rattle.pool_run.specs.Worlds.{AreCallsFor}
 use Rattle.pool_run.specs.declared.command.Command.{Command}
@@ -28,25 +28,28 @@ use Rattle.pool_run.proofs.Parties.{can_step}
 use Rattle.std.proofs.lemmas.List.{length-set, get_or-set_other}
 use Rattle.std.proofs.lemmas.List.Sums.{sum_by-set}
 use Rattle.pool_alloc.specs.Places.{Thing, kept_count, away_count}
-use Rattle.pool_alloc.specs.Stepping.{count_granted, Conserves, IsSameSize, grant_count, grant_instances, grant_memories, grant_tables, grant_stacks, grant_components}
-use Rattle.pool_run.specs.Ties.{granted_to, held_by_party}
+use Rattle.pool_alloc.specs.Stepping.{count_granted, Conserves, IsSameSize, grant_count, grant_instances, grant_memories, grant_tables, grant_stacks, grant_heaps, grant_components}
+use Rattle.pool_run.specs.Ties.{IsSoundParty, granted_to, held_by_party}
 use Rattle.pool_run.proofs.Parties.{HaveSame}
 use Rattle.pool_run.proofs.Opened.{IsOpened, opened}
 use Rattle.pool_alloc.specs.Searches.{IsSearchedAt, IsSearched}
 use Rattle.pool_alloc.specs.Stages.{stage_at, stage_of}
 use Rattle.pool_run.proofs.StageSteps.{IsStagedStep, settled_place}
+use Rattle.pool_run.proofs.HeapCalls.{list_kept}
 use Rattle.pool_run.proofs.Stepped.{IsStepped, stepped}
+use Rattle.pool_slots.specs.declared.listed_heaps.PlainHeap.{PlainHeap}
 
 module _ {P : Type 0} where
   -- What the pool loses comes to the party, and the other way round. The pool has the same sizes, and the party as many
   -- places, of which those to come are empty, and one is there for what is asked for.
-  pub record HasTurned (c : PoolCore P) (p : RunningParty P) (t : Turned P) : Type 0 where
+  pub record HasTurned (c : PoolCore P PlainHeap) (p : RunningParty P) (t : Turned P) : Type 0 where
     pub places : (x : Thing) → kept_count x t.core + (held_by_party t.party).places x + away_count x c ≡ kept_count x c + (held_by_party p).places x + away_count x t.core
     pub instances : t.core.counters.core_instances + (held_by_party p).instances ≡ c.counters.core_instances + (held_by_party t.party).instances
     pub components : t.core.counters.component_instances + (held_by_party p).components ≡ c.counters.component_instances + (held_by_party t.party).components
     pub memories : t.core.counters.memories + (held_by_party p).memories ≡ c.counters.memories + (held_by_party t.party).memories
     pub tables : t.core.counters.tables + (held_by_party p).tables ≡ c.counters.tables + (held_by_party t.party).tables
     pub stacks : t.core.counters.stacks + (held_by_party p).stacks ≡ c.counters.stacks + (held_by_party t.party).stacks
+    pub heaps : t.core.counters.gc_heaps + (held_by_party p).heaps ≡ c.counters.gc_heaps + (held_by_party t.party).heaps
     pub size : IsSameSize c t.core
     pub room : length t.party.live ≡ length p.live
     pub host : host_of_party t.party ≡ host_of_party p
@@ -54,15 +57,15 @@ module _ {P : Type 0} where
     pub place : is_asking (stage_of t.party.frame) ≡ true → t.party.done < length t.party.live
     pub searched : IsSearched c p.frame → IsSearched t.core t.party.frame
 
-  same_size : (c : PoolCore P) → IsSameSize c c
+  same_size : (c : PoolCore P PlainHeap) → IsSameSize c c
   same_size c = record { settings = refl; plan = refl }
 
   -- Nothing happened.
-  stayed : (c : PoolCore P) (p : RunningParty P) → ((k : ℕ) → p.done ≤ k → slice_index_or p.live k None ≡ None) → (is_asking (stage_of p.frame) ≡ true → p.done < length p.live) → HasTurned c p (record { core = c; party = p; reply = None })
-  stayed c p to_come place = record { places = λ x. refl; instances = refl; components = refl; memories = refl; tables = refl; stacks = refl; size = same_size c; room = refl; host = refl; to_come = to_come; place = place; searched = λ s. s }
+  stayed : (c : PoolCore P PlainHeap) (p : RunningParty P) → ((k : ℕ) → p.done ≤ k → slice_index_or p.live k None ≡ None) → (is_asking (stage_of p.frame) ≡ true → p.done < length p.live) → HasTurned c p (record { core = c; party = p; reply = None })
+  stayed c p to_come place = record { places = λ x. refl; instances = refl; components = refl; memories = refl; tables = refl; stacks = refl; heaps = refl; size = same_size c; room = refl; host = refl; to_come = to_come; place = place; searched = λ s. s }
 
   -- A command ended at once, and the party has the same of the pool.
-  ended : (c : PoolCore P) (p : RunningParty P) (live : List (Option (Grant P))) (store : ListedStore) (reply : Reply) → HaveSame p (record p { live = live }) → length live ≡ length p.live → ((k : ℕ) → p.done ≤ k → slice_index_or live k None ≡ None) → IsIdle p.frame → store.failing ≡ p.store.failing → HasTurned c p (ended_at_once reply c (record p { live = live; store = store }))
+  ended : (c : PoolCore P PlainHeap) (p : RunningParty P) (live : List (Option (Grant P PlainHeap))) (store : ListedStore) (reply : Reply) → HaveSame p (record p { live = live }) → length live ≡ length p.live → ((k : ℕ) → p.done ≤ k → slice_index_or live k None ≡ None) → IsIdle p.frame → store.failing ≡ p.store.failing → HasTurned c p (ended_at_once reply c (record p { live = live; store = store }))
   ended c p live store reply same room to_come idle listed = record {
     places = λ x. omega (arith, same.places x);
     instances = omega (arith, same.instances);
@@ -70,22 +73,23 @@ module _ {P : Type 0} where
     memories = omega (arith, same.memories);
     tables = omega (arith, same.tables);
     stacks = omega (arith, same.stacks);
+    heaps = omega (arith, same.heaps);
     size = same_size c;
     room = room;
-    host = ap (host_of p.limits) listed;
+    host = ap (λ (failing : List ℕ). host_of p.limits failing p.heaps.failing) listed;
     to_come = λ k behind. to_come k (omega (arith, behind));
-    place = λ is. settled_place (stage_of p.frame) (ap (λ (phase : Phase P). stage_at phase p.frame.asked p.frame.ending (objects_in p.frame.objects)) idle) is;
-    searched = λ s. let S : Phase P → Type 0 = λ phase. IsSearchedAt phase c (one_step p.frame) in subst S (sym idle) tt;
+    place = λ is. settled_place (stage_of p.frame) (ap (λ (phase : Phase P PlainHeap). stage_at phase p.frame.asked p.frame.ending (objects_in p.frame.objects)) idle) is;
+    searched = λ s. let S : Phase P PlainHeap → Type 0 = λ phase. IsSearchedAt phase c (one_step p.frame) in subst S (sym idle) tt;
   }
 
   -- what the live grants have, once one more is granted
-  more : (of : Grant P → ℕ) (live : List (Option (Grant P))) (i : ℕ) (grant : Grant P) → i < length live → slice_index_or live i None ≡ None → sum_by (granted_to of) (slice_set live i (Some grant)) ≡ sum_by (granted_to of) live + of grant
+  more : (of : Grant P PlainHeap → ℕ) (live : List (Option (Grant P PlainHeap))) (i : ℕ) (grant : Grant P PlainHeap) → i < length live → slice_index_or live i None ≡ None → sum_by (granted_to of) (slice_set live i (Some grant)) ≡ sum_by (granted_to of) live + of grant
   more of live i grant inside none =
       let here : granted_to of (slice_index_or live i None) ≡ 0 = ap (granted_to of) none in
       omega (arith, sum_by-set (granted_to of) live i (Some grant) None inside)
 
   -- a call that ended with no grant
-  told_turned : (reply : Reply) (o : Outcome P) (c : PoolCore P) (p : RunningParty P) (d : PoolCore P) (f : Frame P) → ((of : Grant P → ℕ) → count_granted of (Some o) ≡ 0) → ((k : ℕ) → p.done ≤ k → slice_index_or p.live k None ≡ None) → Conserves c p.frame (record { core = d; frame = f; outcome = Some o }) → IsSameSize c d → IsStagedStep (stage_of p.frame) (stage_of f) (Some o) → (IsSearched c p.frame → IsSearched d f) → HasTurned c p (ended_with reply d (record p { frame = f }))
+  told_turned : (reply : Reply) (o : Outcome P PlainHeap) (c : PoolCore P PlainHeap) (p : RunningParty P) (d : PoolCore P PlainHeap) (f : Frame P PlainHeap) → ((of : Grant P PlainHeap → ℕ) → count_granted of (Some o) ≡ 0) → ((k : ℕ) → p.done ≤ k → slice_index_or p.live k None ≡ None) → Conserves c p.frame (record { core = d; frame = f; outcome = Some o }) → IsSameSize c d → IsStagedStep (stage_of p.frame) (stage_of f) (Some o) → (IsSearched c p.frame → IsSearched d f) → HasTurned c p (ended_with reply d (record p { frame = f }))
   told_turned reply o c p d f none to_come b size staged after = record {
     places = λ x. omega (arith, b.places x, none (grant_count x));
     instances = omega (arith, b.instances, none grant_instances);
@@ -93,6 +97,7 @@ module _ {P : Type 0} where
     memories = omega (arith, b.memories, none grant_memories);
     tables = omega (arith, b.tables, none grant_tables);
     stacks = omega (arith, b.stacks, none grant_stacks);
+    heaps = omega (arith, b.heaps, none grant_heaps);
     size = size;
     room = refl;
     host = refl;
@@ -101,7 +106,7 @@ module _ {P : Type 0} where
     searched = after;
   }
 
-  answered_turned : (c : PoolCore P) (p : RunningParty P) (d : PoolCore P) (f : Frame P) (o : Option (Outcome P)) → ((k : ℕ) → p.done ≤ k → slice_index_or p.live k None ≡ None) → Conserves c p.frame (record { core = d; frame = f; outcome = o }) → IsSameSize c d → IsStagedStep (stage_of p.frame) (stage_of f) o → (is_asking (stage_of p.frame) ≡ true → p.done < length p.live) → (IsSearched c p.frame → IsSearched d f) → HasTurned c p (answered o d (record p { frame = f }))
+  answered_turned : (c : PoolCore P PlainHeap) (p : RunningParty P) (d : PoolCore P PlainHeap) (f : Frame P PlainHeap) (o : Option (Outcome P PlainHeap)) → ((k : ℕ) → p.done ≤ k → slice_index_or p.live k None ≡ None) → Conserves c p.frame (record { core = d; frame = f; outcome = o }) → IsSameSize c d → IsStagedStep (stage_of p.frame) (stage_of f) o → (is_asking (stage_of p.frame) ≡ true → p.done < length p.live) → (IsSearched c p.frame → IsSearched d f) → HasTurned c p (answered o d (record p { frame = f }))
   answered_turned c p d f None to_come b size staged place after = record {
     places = λ x. omega (arith, b.places x);
     instances = omega (arith, b.instances);
@@ -109,6 +114,7 @@ module _ {P : Type 0} where
     memories = omega (arith, b.memories);
     tables = omega (arith, b.tables);
     stacks = omega (arith, b.stacks);
+    heaps = omega (arith, b.heaps);
     size = size;
     room = refl;
     host = refl;
@@ -123,6 +129,7 @@ module _ {P : Type 0} where
     memories = omega (arith, b.memories);
     tables = omega (arith, b.tables);
     stacks = omega (arith, b.stacks);
+    heaps = omega (arith, b.heaps);
     size = size;
     room = refl;
     host = refl;
@@ -139,6 +146,7 @@ module _ {P : Type 0} where
         memories = omega (arith, b.memories, more grant_memories p.live p.done grant (place staged.granted) none);
         tables = omega (arith, b.tables, more grant_tables p.live p.done grant (place staged.granted) none);
         stacks = omega (arith, b.stacks, more grant_stacks p.live p.done grant (place staged.granted) none);
+        heaps = omega (arith, b.heaps, more grant_heaps p.live p.done grant (place staged.granted) none);
         size = size;
         room = length-set p.live p.done (Some grant);
         host = refl;
@@ -151,15 +159,8 @@ module _ {P : Type 0} where
   answered_turned c p d f (Some (answer.Released n)) to_come b size staged place after = told_turned (Released n) (answer.Released n) c p d f (λ of. refl) to_come b size staged after
   answered_turned c p d f (Some (answer.Refused e)) to_come b size staged place after = told_turned (Refused (Alloc e)) (answer.Refused e) c p d f (λ of. refl) to_come b size staged after
 
-  -- A step of the call under way.
-  pub step_turned : (maker : MakerTold) (c : PoolCore P) (p : RunningParty P) (t : Turned P) → CanTurn maker c p → Steps c p t → HasTurned c p t
-  step_turned maker c p t can steps =
-      let a : After P = steps.0 in
-      let on : IsStepped maker steps.1.0 steps.1.1 c p.frame a = stepped maker steps.1.0 steps.1.1 c p.frame a (can_step maker c p can) steps.1.3 in
-      subst (HasTurned c p) (sym steps.2) (answered_turned c p a.core a.frame a.outcome can.party.to_come on.conserves on.size on.staged can.party.place on.searched)
-
   -- The same from a party with as much of the pool.
-  turned_from : (c : PoolCore P) (p q : RunningParty P) (t : Turned P) → HaveSame p q → length q.live ≡ length p.live → host_of_party q ≡ host_of_party p → (IsSearched c p.frame → IsSearched c q.frame) → HasTurned c q t → HasTurned c p t
+  turned_from : (c : PoolCore P PlainHeap) (p q : RunningParty P) (t : Turned P) → HaveSame p q → length q.live ≡ length p.live → host_of_party q ≡ host_of_party p → (IsSearched c p.frame → IsSearched c q.frame) → HasTurned c q t → HasTurned c p t
   turned_from c p q t same room host searching turned = record {
     places = λ x. omega (arith, turned.places x, same.places x);
     instances = omega (arith, turned.instances, same.instances);
@@ -167,6 +168,7 @@ module _ {P : Type 0} where
     memories = omega (arith, turned.memories, same.memories);
     tables = omega (arith, turned.tables, same.tables);
     stacks = omega (arith, turned.stacks, same.stacks);
+    heaps = omega (arith, turned.heaps, same.heaps);
     size = turned.size;
     room = turned.room ∙ room;
     host = turned.host ∙ host;
@@ -175,7 +177,17 @@ module _ {P : Type 0} where
     searched = λ s. turned.searched (searching s);
   }
 
-module _ {P : Type 0} (maker : MakerTold) (c : PoolCore P) (p : RunningParty P) (can : CanTurn maker c p) where
+  -- A step of the call under way. The maker of heaps keeps its list.
+  pub step_turned : (maker : MakerTold) (c : PoolCore P PlainHeap) (p : RunningParty P) (t : Turned P) → CanTurn maker c p → Steps c p t → HasTurned c p t
+  step_turned maker c p t can steps =
+      let a : After P PlainHeap = steps.0 in
+      let q : RunningParty P = record p { heaps = t.party.heaps } in
+      let on : IsStepped maker steps.1.0 steps.1.1 c p.frame a = stepped maker steps.1.0 steps.1.1 c p.frame a (can_step maker c p can) steps.1.3 in
+      let same : HaveSame p q = record { places = λ x. refl; instances = refl; components = refl; memories = refl; tables = refl; stacks = refl; heaps = refl } in
+      turned_from c p q t same refl (ap (host_of p.limits p.store.failing) (list_kept steps.1)) (λ s. s)
+      (subst (HasTurned c q) (sym steps.2) (answered_turned c q a.core a.frame a.outcome can.party.to_come on.conserves on.size on.staged can.party.place on.searched))
+
+module _ {P : Type 0} (maker : MakerTold) (c : PoolCore P PlainHeap) (p : RunningParty P) (can : CanTurn maker c p) where
   follows_turned : (o : Opening P) (t : Turned P) → IsOpened maker c p o → Leaves o c p t → HasTurned c p t
   follows_turned rests t is follows = subst (HasTurned c p) (sym follows) (stayed c p can.party.to_come can.party.place)
   follows_turned (replies reply live store) t is follows = subst (HasTurned c p) (sym follows) (ended c p live store reply is.same is.room is.to_come is.idle is.listed)
@@ -188,12 +200,13 @@ module _ {P : Type 0} (maker : MakerTold) (c : PoolCore P) (p : RunningParty P) 
   follows_sound (makes_step frame live) t is leaves =
       let q : RunningParty P = record p { frame = frame; live = live } in
       let on : IsStepped maker leaves.1.0 leaves.1.1 c frame leaves.0 = stepped maker leaves.1.0 leaves.1.1 c frame leaves.0 (can_step maker c q is.can) leaves.1.3 in
-      subst (IsSoundTurn maker) (sym leaves.2) (step_sound maker c q leaves.0 is.can.party.sound on)
+      let sound : IsSoundParty maker c (record q { heaps = t.party.heaps }) = record { frame = is.can.party.sound.frame; grants = is.can.party.sound.grants } in
+      subst (IsSoundTurn maker) (sym leaves.2) (step_sound maker c (record q { heaps = t.party.heaps }) leaves.0 sound on)
 
 module _ {P : Type 0} where
   -- What each turn of a party leaves.
-  pub has_turned : (w : World) (modules : List ModuleAsked) (commands : List Command) (c : PoolCore P) (p : RunningParty P) (t : Turned P) → AreCallsFor w.terms c.settings modules → CanTurn w.maker c p → length commands ≤ length p.live → Turns modules commands c p t → HasTurned c p t
+  pub has_turned : (w : World) (modules : List ModuleAsked) (commands : List Command) (c : PoolCore P PlainHeap) (p : RunningParty P) (t : Turned P) → AreCallsFor w.terms c.settings modules → CanTurn w.maker c p → length commands ≤ length p.live → Turns modules commands c p t → HasTurned c p t
   has_turned w modules commands c p t calls can room turns = follows_turned w.maker c p can turns.0 t (opened w.maker c p w.terms modules commands turns.0 calls can room turns.1) turns.2
 
-  pub turn_sound : (w : World) (modules : List ModuleAsked) (commands : List Command) (c : PoolCore P) (p : RunningParty P) (t : Turned P) → AreCallsFor w.terms c.settings modules → CanTurn w.maker c p → length commands ≤ length p.live → Turns modules commands c p t → IsSoundTurn w.maker t
+  pub turn_sound : (w : World) (modules : List ModuleAsked) (commands : List Command) (c : PoolCore P PlainHeap) (p : RunningParty P) (t : Turned P) → AreCallsFor w.terms c.settings modules → CanTurn w.maker c p → length commands ≤ length p.live → Turns modules commands c p t → IsSoundTurn w.maker t
   turn_sound w modules commands c p t calls can room turns = follows_sound w.maker c p can turns.0 t (opened w.maker c p w.terms modules commands turns.0 calls can room turns.1) turns.2

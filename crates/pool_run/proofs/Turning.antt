@@ -4,6 +4,7 @@ use Rattle.std.proofs.Common.{◌≡◌, ℕ, ◌+◌, List, [], ◌∷◌, ◌+
 use Rattle.std.specs.Prelude.{option_map, slice_get, slice_set, is_some, sum_by}
 use Rattle.std.proofs.lemmas.List.{length_push}
 use Rattle.pool_limits.specs.Growth.{GrowthRule}
+use Rattle.pool_alloc.specs.PartyTold.{PartyTold}
 use Rattle.pool_alloc.specs.Objects.{objects_in}
 use Rattle.pool_alloc.specs.Turns.{After}
 use Rattle.pool_alloc.specs.declared.pool_core.PoolCore.{PoolCore}
@@ -14,8 +15,9 @@ use Rattle.pool_run.specs.PartyRules.{rule_of}
 use Rattle.pool_run.specs.Acts.{Act, act_of, act_at}
 use Rattle.pool_run.specs.Private.{Grants, PrivateState, Moves, with_grants}
 use Rattle.pool_run.specs.Rooms.{World, PooledStep, TellsOfPool}
-use Rattle.pool_run.specs.Turns.{Turned, with_reply, grants_of, granted_reply, answered, Steps}
-use Rattle.pool_run.specs.Ties.{granted_to, TiedAs, IsPrivate, CanTurn, IsAlone}
+use Rattle.pool_run.specs.PrivateTables.{Host}
+use Rattle.pool_run.specs.Turns.{host_of_party, Turned, with_reply, grants_of, granted_reply, answered, Steps}
+use Rattle.pool_run.specs.Ties.{seen_by_party, granted_to, TiedAs, IsPrivate, CanTurn, IsAlone}
 use Rattle.pool_run.specs.Worlds.{IsWorldOf}
 use Rattle.pool_run.specs.declared.command.Command.{Command}
 use Rattle.pool_run.specs.declared.reply.Reply.{Reply}
@@ -26,6 +28,7 @@ use Rattle.pool_run.proofs.Grants.{state_of, one_more}
 use Rattle.pool_run.proofs.Parties.{can_step}
 use Rattle.pool_run.proofs.Tied.{TiedBy, tied_by}
 use Rattle.pool_run.proofs.StageSteps.{is_none, none_idle, uncounted_none, uncounted_component, stack_is_asked}
+use Rattle.pool_run.proofs.HeapCalls.{calls_now}
 use Rattle.pool_run.proofs.Stepped.{IsStepped, stepped}
 use Rattle.pool_run.proofs.Requests.{IsBefore}
 use Rattle.pool_alloc.specs.Stages.{Stage, no_call, stage_of}
@@ -34,9 +37,10 @@ use Rattle.pool_alloc.specs.Places.{Thing, right_to, away_count, kept_count, fra
 use Rattle.pool_run.proofs.SlotsMade.{made_slot, away_made}
 use Rattle.pool_alloc.specs.Stepping.{is_idle, Conserves, grant_count, count_granted}
 use Rattle.pool_alloc.specs.declared.frame.Grant.{Grant}
-use Rattle.pool_limits.specs.LimiterTold.{LimiterTold}
 use Rattle.pool_slots.specs.SlotNames.{of_kind}
 use Rattle.pool_slots.specs.declared.slot_name.SlotName.{SlotName}
+use Rattle.pool_slots.specs.declared.listed_heaps.ListedHeaps.{ListedHeaps}
+use Rattle.pool_slots.specs.declared.listed_heaps.PlainHeap.{PlainHeap}
 
 -- the command that does this
 command_at : (o : Option Command) (act : Act) → option_map act_of o ≡ Some act → (command : Command) × (o ≡ Some command) × (act_of command ≡ act)
@@ -48,43 +52,39 @@ module _ {P : Type 0} where
   abbrev pub SeesTurn : World → Grants → List Command → List Reply → Turned P → Type 0
   SeesTurn w start commands before t = IsPrivate w start commands (with_reply t.reply before) t.party
 
-  -- what a party with these grants may see
-  abbrev told_by : RunningParty P → Grants → PrivateState
-  told_by p grants = state_of grants p.store.made
-
   -- One reply more, after which no call is under way.
-  pub replied : (w : World) (start : Grants) (commands : List Command) (before : List Reply) (p q : RunningParty P) (act : Act) (reply : Reply) (private : IsPrivate w start commands before p) → q.done ≡ p.done + 1 → stage_of q.frame ≡ no_call → act_at commands p.done ≡ Some act → Moves w.terms p.done (told_by p private.grants) act reply (told_by q (grants_of q.live)) → TellsOfPool w private.grants act reply → IsPrivate w start commands (before ++ reply ∷ []) q
+  pub replied : (w : World) (start : Grants) (commands : List Command) (before : List Reply) (p q : RunningParty P) (act : Act) (reply : Reply) (private : IsPrivate w start commands before p) → q.done ≡ p.done + 1 → stage_of q.frame ≡ no_call → act_at commands p.done ≡ Some act → Moves w.terms p.done private.told act reply (seen_by_party q) → TellsOfPool w private.told.grants act reply → IsPrivate w start commands (before ++ reply ∷ []) q
   replied w start commands before p q act reply private done settled next moves pool =
       let found = command_at (slice_get commands p.done) act next in
       let command : Command = found.0 in
-      let old : PrivateState = told_by p private.grants in
-      let new : PrivateState = told_by q (grants_of q.live) in
+      let old : PrivateState = private.told in
+      let new : PrivateState = seen_by_party q in
       let Does : Act → Type 0 = λ a. Moves w.terms p.done old a reply new in
-      let Tells : Act → Type 0 = λ a. TellsOfPool w private.grants a reply in
+      let Tells : Act → Type 0 = λ a. TellsOfPool w private.told.grants a reply in
       let Next : ℕ → Type 0 = λ n. slice_get commands n ≡ Some command in
       let Step : ℕ → Type 0 = λ n. PooledStep w n old command reply new in
       let step : Step p.done = record { private = subst Does (sym found.2) moves; pool = subst Tells (sym found.2) pool } in
-      let Tied : Stage → Type 0 = λ s. TiedAs w s commands q.done q.frame.asked (grants_of q.live) (grants_of q.live) in
+      let Tied : Stage → Type 0 = λ s. TiedAs w s commands q.done q.frame.asked (seen_by_party q) (seen_by_party q) in
       let place : p.done ≡ 0 + length before = omega (arith, private.count) in
       record {
-        grants = grants_of q.live;
+        told = seen_by_party q;
         run = one_more (PooledStep w) 0 commands before command reply (with_grants start) old new private.run (subst Next (sym private.count) found.1) (subst Step place step);
         count = omega (arith, length_push before reply, private.count, done);
         tied = subst Tied (sym settled) refl;
       }
 
   -- The answer of a call.
-  answered_private : (w : World) (start : Grants) (commands : List Command) (before : List Reply) (c : PoolCore P) (p : RunningParty P) (f : Frame P) (o : Option (Outcome P)) (private : IsPrivate w start commands before p) → (is_some o ≡ true → stage_of f ≡ no_call) → TiedBy w commands p.done p.live private.grants (stage_of f) f.asked o → SeesTurn w start commands before (answered o c (record p { frame = f }))
-  answered_private w start commands before c p f None private settled tied = record { grants = private.grants; run = private.run; count = private.count; tied = tied }
-  answered_private w start commands before c p f (Some answer.Key) private settled tied = record { grants = private.grants; run = private.run; count = private.count; tied = tied }
-  answered_private w start commands before c p f (Some (answer.Granted grant)) private settled tied = replied w start commands before p (record p { frame = f; live = slice_set p.live p.done (Some grant); done = p.done + 1 }) tied.act (granted_reply grant) private refl (settled refl) tied.next (tied.moves p.store.made) tied.pool
-  answered_private w start commands before c p f (Some answer.Returned) private settled tied = replied w start commands before p (record p { frame = f; done = p.done + 1 }) tied.act Returned private refl (settled refl) tied.next (tied.moves p.store.made) tied.pool
-  answered_private w start commands before c p f (Some (answer.Purged n)) private settled tied = replied w start commands before p (record p { frame = f; done = p.done + 1 }) tied.act (Purged n) private refl (settled refl) tied.next (tied.moves p.store.made) tied.pool
-  answered_private w start commands before c p f (Some (answer.Released n)) private settled tied = replied w start commands before p (record p { frame = f; done = p.done + 1 }) tied.act (Released n) private refl (settled refl) tied.next (tied.moves p.store.made) tied.pool
-  answered_private w start commands before c p f (Some (answer.Refused e)) private settled tied = replied w start commands before p (record p { frame = f; done = p.done + 1 }) tied.act (Refused (Alloc e)) private refl (settled refl) tied.next (tied.moves p.store.made) tied.pool
+  answered_private : (w : World) (start : Grants) (commands : List Command) (before : List Reply) (c : PoolCore P PlainHeap) (p : RunningParty P) (f : Frame P PlainHeap) (o : Option (Outcome P PlainHeap)) (heaps : ListedHeaps) (private : IsPrivate w start commands before p) → (is_some o ≡ true → stage_of f ≡ no_call) → TiedBy w commands p.done p.live p.store.made heaps.made private.told (stage_of f) f.asked o → SeesTurn w start commands before (answered o c (record p { frame = f; heaps = heaps }))
+  answered_private w start commands before c p f None heaps private settled tied = record { told = private.told; run = private.run; count = private.count; tied = tied }
+  answered_private w start commands before c p f (Some answer.Key) heaps private settled tied = record { told = private.told; run = private.run; count = private.count; tied = tied }
+  answered_private w start commands before c p f (Some (answer.Granted grant)) heaps private settled tied = replied w start commands before p (record p { frame = f; heaps = heaps; live = slice_set p.live p.done (Some grant); done = p.done + 1 }) tied.act (granted_reply grant) private refl (settled refl) tied.next tied.moves tied.pool
+  answered_private w start commands before c p f (Some answer.Returned) heaps private settled tied = replied w start commands before p (record p { frame = f; heaps = heaps; done = p.done + 1 }) tied.act Returned private refl (settled refl) tied.next tied.moves tied.pool
+  answered_private w start commands before c p f (Some (answer.Purged n)) heaps private settled tied = replied w start commands before p (record p { frame = f; heaps = heaps; done = p.done + 1 }) tied.act (Purged n) private refl (settled refl) tied.next tied.moves tied.pool
+  answered_private w start commands before c p f (Some (answer.Released n)) heaps private settled tied = replied w start commands before p (record p { frame = f; heaps = heaps; done = p.done + 1 }) tied.act (Released n) private refl (settled refl) tied.next tied.moves tied.pool
+  answered_private w start commands before c p f (Some (answer.Refused e)) heaps private settled tied = replied w start commands before p (record p { frame = f; heaps = heaps; done = p.done + 1 }) tied.act (Refused (Alloc e)) private refl (settled refl) tied.next tied.moves tied.pool
 
   -- what is granted isn't the party's yet, and is made once
-  apart : (c : PoolCore P) (f : Frame P) (live : List (Option (Grant P))) (a : After P) (o : Option (Outcome P)) → o ≡ a.outcome → ((t : Thing) → kept_count t c + (frame_count t f + sum_by (granted_to (grant_count t)) live) ≤ away_count t c) → Conserves c f a → ((name : SlotName) → away_count (right_to name) a.core ≤ made_slot name.slot (of_kind name.kind c.plan.totals)) → IfGranted (λ g. (name : SlotName) → grant_count (right_to name) g + sum_by (granted_to (grant_count (right_to name))) live ≤ made_slot name.slot (of_kind name.kind c.plan.totals)) o
+  apart : (c : PoolCore P PlainHeap) (f : Frame P PlainHeap) (live : List (Option (Grant P PlainHeap))) (a : After P PlainHeap) (o : Option (Outcome P PlainHeap)) → o ≡ a.outcome → ((t : Thing) → kept_count t c + (frame_count t f + sum_by (granted_to (grant_count t)) live) ≤ away_count t c) → Conserves c f a → ((name : SlotName) → away_count (right_to name) a.core ≤ made_slot name.slot (of_kind name.kind c.plan.totals)) → IfGranted (λ g. (name : SlotName) → grant_count (right_to name) g + sum_by (granted_to (grant_count (right_to name))) live ≤ made_slot name.slot (of_kind name.kind c.plan.totals)) o
   apart c f live a None is once b most = tt
   apart c f live a (Some answer.Key) is once b most = tt
   apart c f live a (Some (answer.Granted grant)) is once b most =
@@ -97,13 +97,13 @@ module _ {P : Type 0} where
   apart c f live a (Some (answer.Refused e)) is once b most = tt
 
   -- A step of the call under way.
-  pub step_private : (w : World) (start : Grants) (commands : List Command) (before : List Reply) (c : PoolCore P) (p : RunningParty P) (t : Turned P) → IsPrivate w start commands before p → IsWorldOf w c → CanTurn w.maker c p → (w.alone ≡ true → IsAlone c p.frame p.live) → rule_of p.limits ≡ w.terms.host.rule → p.frame.stripe ≡ w.terms.stripe → Steps c p t → SeesTurn w start commands before t
+  pub step_private : (w : World) (start : Grants) (commands : List Command) (before : List Reply) (c : PoolCore P PlainHeap) (p : RunningParty P) (t : Turned P) → IsPrivate w start commands before p → IsWorldOf w c → CanTurn w.maker c p → (w.alone ≡ true → IsAlone c p.frame p.live) → host_of_party p ≡ w.terms.host → p.frame.stripe ≡ w.terms.stripe → Steps c p t → SeesTurn w start commands before t
   step_private w start commands before c p t private world can alone ruled striped steps =
-      let a : After P = steps.0 in
-      let f : Frame P = p.frame in
-      let old : LimiterTold = steps.1.0 in
+      let a : After P PlainHeap = steps.0 in
+      let f : Frame P PlainHeap = p.frame in
+      let old : PartyTold = steps.1.0 in
       let on : IsStepped w.maker old steps.1.1 c f a = stepped w.maker old steps.1.1 c f a (can_step w.maker c p can) steps.1.3 in
-      let is : IsBefore w old steps.1.1 c f p.live private.grants =
+      let is : IsBefore w old steps.1.1 c f p.live private.told.grants =
       record {
         world = world;
         frame = can.party.sound.frame;
@@ -111,12 +111,13 @@ module _ {P : Type 0} where
         instances = omega (arith, can.fits.instances);
         components = omega (arith, can.fits.components);
         alone = alone;
-        rule = steps.1.2 ∙ ap (λ (r : GrowthRule). Some r) ruled;
+        rule = steps.1.2 ∙ ap (λ (h : Host). Some h.rule) ruled;
         stripe = striped;
       } in
       let idle : is_none (stage_of a.frame) ≡ is_idle a.frame.phase = none_idle a.frame.phase a.frame.asked a.frame.ending (objects_in a.frame.objects) in
       subst (SeesTurn w start commands before) (sym steps.2)
-      (answered_private w start commands before a.core p a.frame a.outcome private on.staged.settled
-      (tied_by w old steps.1.1 c f commands p.done p.live private.grants is (stage_of f) (stage_of a.frame) a.frame.asked a.outcome
+      (answered_private w start commands before a.core p a.frame a.outcome t.party.heaps private on.staged.settled
+      (tied_by w old steps.1.1 c f commands p.done p.live p.store.made p.heaps t.party.heaps private.told is steps.1.4 steps.1.5 (ap (λ (h : Host). h.unmade) ruled) (stage_of f) (stage_of a.frame) a.frame.asked a.outcome
+      (calls_now w.maker (rule_of p.limits) p.heaps t.party.heaps c f a can.party.sound.frame steps.1)
       (uncounted_none f.phase f.asked f.ending (objects_in f.objects)) (uncounted_component f.phase f.asked f.ending (objects_in f.objects)) (stack_is_asked w.maker c f can.party.sound.frame) (λ none. on.goes.asked (sym idle ∙ none)) on.granted
       (apart c f p.live a a.outcome refl can.fits.once on.conserves (λ k. omega (arith, away_made w.maker k a.core on.core, ap (λ (plan : Plan). made_slot k.slot (of_kind k.kind plan.totals)) on.size.plan))) on.goes.way private.tied))

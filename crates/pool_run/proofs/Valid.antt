@@ -18,7 +18,9 @@ valid_turns : (input : Input) → is_valid input ≡ true → (is_valid_schedule
 valid_turns input valid = second (nat_le (length input.parties) most_parties) (is_valid_schedule (length input.parties) input.schedule && list_all (is_valid_party input.modules) input.parties) (valid_rest input valid)
 
 valid_party : (input : Input) (i : ℕ) (p : Party) → is_valid input ≡ true → slice_get input.parties i ≡ Some p → (nat_lt p.home homes && (nat_le (length p.commands) most_commands && are_valid_after input.modules [] p.commands)) ≡ true
-valid_party input i p valid is = second (list_all (nat_lt 0) p.gc_faults) (nat_lt p.home homes && (nat_le (length p.commands) most_commands && are_valid_after input.modules [] p.commands)) (of_all (is_valid_party input.modules) input.parties i p (second (is_valid_schedule (length input.parties) input.schedule) (list_all (is_valid_party input.modules) input.parties) (valid_turns input valid)) is)
+valid_party input i p valid is =
+    let rest : Bool = nat_lt p.home homes && (nat_le (length p.commands) most_commands && are_valid_after input.modules [] p.commands) in
+    second (list_all (nat_lt 0) p.heap_faults) rest (second (list_all (nat_lt 0) p.gc_faults) (list_all (nat_lt 0) p.heap_faults && rest) (of_all (is_valid_party input.modules) input.parties i p (second (is_valid_schedule (length input.parties) input.schedule) (list_all (is_valid_party input.modules) input.parties) (valid_turns input valid)) is))
 
 -- each module is valid, and has not too many memories
 pub valid_modules : (input : Input) → is_valid input ≡ true → list_all is_valid_module input.modules ≡ true

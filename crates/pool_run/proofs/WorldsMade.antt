@@ -29,7 +29,8 @@ use Rattle.pool_alloc.specs.Asked.{ModuleAsked}
 use Rattle.pool_alloc.specs.Steps.{images_made, stripe_allocator, allocator_of, no_allocator}
 use Rattle.pool_alloc.specs.TableLeases.{table_slot}
 use Rattle.pool_alloc.specs.StackLeases.{stack_slot}
-use Rattle.pool_hall.specs.declared.unit_name.SlotKind.TheVariants.{Table, Stack}
+use Rattle.pool_hall.specs.declared.unit_name.SlotKind.{SlotKind}
+use Rattle.pool_hall.specs.declared.unit_name.SlotKind.TheVariants.{Table, Stack, Heap}
 use Rattle.pool_slots.specs.PlansMade.{allocator_planned}
 use Rattle.pool_alloc.specs.Wants.{wants_from}
 use Rattle.pool_run.specs.Built.{is_built_memory, is_built_module}
@@ -38,18 +39,21 @@ use Rattle.pool_alloc.specs.Steps.{no_module}
 use Rattle.pool_run.specs.Private.{Terms, module_of, has_images, images_of, request_for}
 use Rattle.pool_run.specs.Runs.{world_of}
 use Rattle.std.proofs.lemmas.Option.{get_or_from_slice_get}
-use Rattle.pool_run.specs.Worlds.{IsWorldOf, IsCallFor, AreCallsFor, HasStripes, HasTables}
+use Rattle.pool_run.specs.Worlds.{IsWorldOf, IsCallFor, AreCallsFor, HasStripes, HasSlots}
 use Rattle.pool_run.specs.declared.input.Input.{Input}
 use Rattle.pool_run.proofs.BuiltInputs.{built_memories, small_pages}
 use Rattle.pool_run.proofs.Tests.{second, of_all}
 use Rattle.pool_slots.specs.declared.plan.Plan.{Plan}
 use Rattle.pool_slots.specs.declared.plan.Allocator.{Allocator}
+use Rattle.pool_slots.specs.HeapUnits.{heap_slot}
+use Rattle.pool_slots.specs.SlotNames.{of_kind}
 use Rattle.pool_slots.specs.Plans.{has_number, have_number}
 use Rattle.pool_slots.specs.StripedPlans.{IsStripedPlanOf, divided, stripe_allocator as stripe_made}
 use Rattle.pool_slots.specs.declared.striped_plan.StripedPlanSettings.{StripedPlanSettings}
 use Rattle.pool_slots.proofs.StripedPlans.{follow}
 use Rattle.pool_pages.specs.declared.config.PoolingAllocationConfig.{PoolingAllocationConfig}
 use Rattle.pool_slots.specs.declared.slot_name.OfKinds.{OfKinds}
+use Rattle.pool_slots.specs.declared.listed_heaps.PlainHeap.{PlainHeap}
 
 -- what holds of the element at a place, whichever that is, holds if there is one
 if_some : {X : Type 0} (o : Option X) (Q : X → Type 0) → ((x : X) → o ≡ Some x → Q x) → IfSome o Q
@@ -83,18 +87,28 @@ stripes_made page config tunables offered shards plan paged made =
           ap (λ (x : Allocator). has_number x n) (its s inside) ∙ and_from (nat_le s n) (((n - s) % k == 0) && nat_lt ((n - s) / k) a.capacity) low (and_from ((n - s) % k == 0) (nat_lt ((n - s) / k) a.capacity) even under);
     }
 
--- Its tables have one allocator.
-tables_made : (page : ℕ) (config : PoolingAllocationConfig) (tunables : Tunables) (offered : Offered) (shards : ℕ) (plan : Plan) → 0 < page → IsStripedPlanOf (plan_settings page config tunables offered shards) plan → HasTables config.limits.total_tables plan
+-- Its slots of a kind have one allocator.
+one_allocator : (z : StripedPlanSettings) (plan : Plan) (kind : SlotKind) (all : List Allocator) (total : ℕ) → allocator_of plan kind 0 ≡ slice_index_or all 0 no_allocator → all ≡ allocator_planned (divided z) kind ∷ [] → (allocator_planned (divided z) kind).capacity ≡ total → total ≡ of_kind kind plan.totals → ((k : ℕ) → k < total → have_number all k ≡ 1) → HasSlots kind total plan
+one_allocator z plan kind all total is made capacity totals once =
+    let a : Allocator = allocator_planned (divided z) kind in
+    let Has : ℕ → List Allocator → Type 0 = λ k as'. have_number as' k ≡ 1 in
+    let first : allocator_of plan kind 0 ≡ a = is ∙ ap (λ (as' : List Allocator). slice_index_or as' 0 no_allocator) made in
+    record {
+      total = totals;
+      room = ap (λ (x : Allocator). x.capacity) first ∙ capacity;
+      each = λ k inside. ap (λ (x : Allocator). has_number x k) first ∙ only_one (has_number a k) (subst (Has k) made (once k inside));
+    }
+
+-- So have its tables and its heaps.
+tables_made : (page : ℕ) (config : PoolingAllocationConfig) (tunables : Tunables) (offered : Offered) (shards : ℕ) (plan : Plan) → 0 < page → IsStripedPlanOf (plan_settings page config tunables offered shards) plan → HasSlots Table config.limits.total_tables plan
 tables_made page config tunables offered shards plan paged made =
     let z : StripedPlanSettings = plan_settings page config tunables offered shards in
-    let a : Allocator = allocator_planned (divided z) Table in
-    let Has : ℕ → List Allocator → Type 0 = λ k as'. have_number as' k ≡ 1 in
-    let first : allocator_of plan Table 0 ≡ a = ap (λ (as' : List Allocator). slice_index_or as' 0 no_allocator) made.tables in
-    record {
-      total = sym (ap (λ (n : OfKinds). n.table) made.totals);
-      room = ap (λ (x : Allocator). x.capacity) first;
-      each = λ k inside. ap (λ (x : Allocator). has_number x k) first ∙ only_one (has_number a k) (subst (Has k) made.tables ((follow z plan (some_stripes config tunables page offered paged) made).one (table_slot k) inside));
-    }
+    one_allocator z plan Table plan.tables config.limits.total_tables refl made.tables refl (sym (ap (λ (n : OfKinds). n.table) made.totals)) (λ k inside. (follow z plan (some_stripes config tunables page offered paged) made).one (table_slot k) inside)
+
+heaps_made : (page : ℕ) (config : PoolingAllocationConfig) (tunables : Tunables) (offered : Offered) (shards : ℕ) (plan : Plan) → 0 < page → IsStripedPlanOf (plan_settings page config tunables offered shards) plan → HasSlots Heap config.limits.total_gc_heaps plan
+heaps_made page config tunables offered shards plan paged made =
+    let z : StripedPlanSettings = plan_settings page config tunables offered shards in
+    one_allocator z plan Heap plan.heaps config.limits.total_gc_heaps refl made.heaps refl (sym (ap (λ (n : OfKinds). n.heap) made.totals)) (λ k inside. (follow z plan (some_stripes config tunables page offered paged) made).one (heap_slot k) inside)
 
 -- So have its stacks.
 stacks_planned : (page : ℕ) (config : PoolingAllocationConfig) (tunables : Tunables) (offered : Offered) (shards : ℕ) (plan : Plan) → 0 < page → IsStripedPlanOf (plan_settings page config tunables offered shards) plan
@@ -111,12 +125,13 @@ stacks_planned page config tunables offered shards plan paged made =
 
 module _ {P : Type 0} where
   -- The pool as it is made has the sizes of the world.
-  pub is_world : (input : Input) (maker : MakerTold) (c : PoolCore P) → 0 < maker.page → IsMadeCore maker input.config input.tunables input.offered input.shards c → IsWorldOf (world_of input maker) c
+  pub is_world : (input : Input) (maker : MakerTold) (c : PoolCore P PlainHeap) → 0 < maker.page → IsMadeCore maker input.config input.tunables input.offered input.shards c → IsWorldOf (world_of input maker) c
   is_world input maker c paged made = record {
     tells = refl;
     settings = sym made.settings;
     plan = stripes_made maker.page input.config input.tunables input.offered input.shards c.plan paged made.plan;
     tables = tables_made maker.page input.config input.tunables input.offered input.shards c.plan paged made.plan;
+    heaps = heaps_made maker.page input.config input.tunables input.offered input.shards c.plan paged made.plan;
     stacks =
         let planned = stacks_planned maker.page input.config input.tunables input.offered input.shards c.plan paged made.plan in
         record {
@@ -190,7 +205,7 @@ is_call_for t s number m there built page some =
     }
 
 -- So are all the calls that are made.
-calls_at : (tunables : Tunables) (page n : ℕ) (ms : List ModuleInfo) (k : ℕ) → slice_get (calls_made tunables page n ms) k ≡ option_map (call_made tunables page (n + k)) (slice_get ms k)
+pub calls_at : (tunables : Tunables) (page n : ℕ) (ms : List ModuleInfo) (k : ℕ) → slice_get (calls_made tunables page n ms) k ≡ option_map (call_made tunables page (n + k)) (slice_get ms k)
 calls_at tunables page n [] k = refl
 calls_at tunables page n (m ∷ ms) zero = ap (λ (i : ℕ). Some (call_made tunables page i m)) {x = n} {y = n + 0} (omega arith)
 calls_at tunables page n (m ∷ ms) (suc k) = calls_at tunables page (n + 1) ms k ∙ ap (λ (i : ℕ). option_map (call_made tunables page i) (slice_get ms k)) {x = n + 1 + k} {y = n + suc k} (omega arith)

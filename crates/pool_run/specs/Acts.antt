@@ -1,8 +1,11 @@
 -- What a command acts on: commands that do alike have one case.
-use Rattle.std.specs.Prelude.{ℕ, List, slice_get, Option, option_map}
+use Rattle.std.specs.Prelude.{ℕ, List, slice_get, false, Option, option_map}
 use Rattle.pool_pages.specs.declared.module_types.ComponentInfo.{ComponentInfo}
+use Rattle.pool_pages.specs.declared.module_types.IndexType.TheVariants.{I32}
+use Rattle.pool_pages.specs.declared.module_types.Limits.{Limits}
+use Rattle.pool_pages.specs.declared.module_types.MemoryType.{MemoryType}
 use Rattle.pool_run.specs.declared.command.Command.{Command}
-use Rattle.pool_run.specs.declared.command.Command.TheVariants.{Instantiate, Read, Write, Fill, Grow, Size, Get, Set, TableFill, TableGrow, TableSize, Drop, Purge, Release, Component, Stack}
+use Rattle.pool_run.specs.declared.command.Command.TheVariants.{Instantiate, Read, Write, Fill, Grow, Size, Get, Set, TableFill, TableGrow, TableSize, Drop, Purge, Release, Component, Stack, Heap}
 use Rattle.pool_run.specs.declared.command.TableValue.{TableValue}
 
 -- what is done with a memory: so many bytes are read from a place, or these written there, or so many set to one byte; it
@@ -22,11 +25,17 @@ pub data TableOp : Type 0 where
   lengthens : ℕ → TableOp
   asks_length : TableOp
 
--- what is asked for: an instance of the module of this number, a component of which this is known, or a stack
+-- What is asked for: an instance of the module of this number, a component of which this is known, a stack, or a heap whose
+-- memory has so many pages of 64 KiB.
 pub data Wanted : Type 0 where
   an_instance : ℕ → Wanted
   a_component : ComponentInfo → Wanted
   a_stack : Wanted
+  a_heap : Limits → Wanted
+
+-- the type of that memory, which has addresses of 32 bits
+abbrev pub heap_type : Limits → MemoryType
+heap_type limits = record { idx_type = I32; limits = limits; shared = false; page_size_log2 = 16 }
 
 -- A grant is requested, something is done with a memory or a table of the grant of a command, or that grant is given back. A
 -- module of this number is purged, or what is resident released.
@@ -43,6 +52,7 @@ act_of (Instantiate number) = requests (an_instance number)
 act_of (Component core_instances memories tables core_bytes own_bytes) =
     requests (a_component (record { core_instances = core_instances; memories = memories; tables = tables; core_bytes = core_bytes; own_bytes = own_bytes }))
 act_of Stack = requests a_stack
+act_of (Heap min max) = requests (a_heap (record { min = min; max = max }))
 act_of (Read of k at len) = on_memory of k (reads at len)
 act_of (Write of k at bytes) = on_memory of k (writes at bytes)
 act_of (Fill of k at len byte) = on_memory of k (fills at len byte)

@@ -7,21 +7,22 @@ use Rattle.pool_limits.specs.declared.errors.GrowFault.{GrowFault}
 use Rattle.pool_limits.specs.declared.errors.GrowFault.TheVariants as fault
 use Rattle.pool_limits.specs.declared.errors.Trap.{Trap}
 use Rattle.pool_memory.specs.Growing.{IsGrowth}
+use Rattle.pool_slots.specs.PlainSlots.{StackState}
 use Rattle.pool_slots.specs.declared.errors.AllocError.TheVariants as alloc
+use Rattle.pool_slots.specs.declared.listed_heaps.PlainHeap.{PlainHeap}
 use Rattle.pool_table.specs.Growing.{IsTableGrowth}
 use Rattle.pool_table.specs.Stores.{StoreTold, listed_store}
 use Rattle.pool_table.specs.declared.gc_store.ListedStore.{ListedStore}
 use Rattle.pool_table.specs.declared.gc_store.GcTableError.{GcTableError}
 use Rattle.pool_table.specs.declared.gc_store.GcTableError.TheVariants as failed
 use Rattle.pool_alloc.specs.Leases.{Lease, IsUsable}
-use Rattle.pool_alloc.specs.StackLeases.{LeasedStack}
 use Rattle.pool_alloc.specs.TableLeases.{LeasedTable, LiesInRegion}
 use Rattle.pool_alloc.specs.declared.frame.Grant.{Grant}
-use Rattle.pool_alloc.specs.declared.frame.Grant.TheVariants.{Stack as stack}
+use Rattle.pool_alloc.specs.declared.frame.Grant.TheVariants.{Stack as stack, Heap as heap}
 use Rattle.pool_alloc.specs.declared.table_element.Element.{Element}
-use Rattle.pool_run.specs.Acts.{MemoryOp, reads, writes, fills, grows, asks_size, TableOp, gets, sets, lengthens, asks_length, Act, requests, on_memory, on_table, drops, purges, releases, Wanted, an_instance, a_component, a_stack}
+use Rattle.pool_run.specs.Acts.{MemoryOp, reads, writes, fills, grows, asks_size, TableOp, gets, sets, lengthens, asks_length, Act, requests, on_memory, on_table, drops, purges, releases, Wanted, an_instance, a_component, a_stack, a_heap}
 use Rattle.pool_run.specs.Objects.{MovesNamed}
-use Rattle.pool_run.specs.Turns.{LeaseMoves, StackLeaseMoves, leases_of, with_lease, with_stack_lease}
+use Rattle.pool_run.specs.Turns.{LeaseMoves, StackStateMoves, StackLeaseMoves, leases_of, with_lease, with_stack_lease}
 use Rattle.pool_run.specs.declared.act.MemoryOp.{MemoryOp as GivenOp}
 use Rattle.pool_run.specs.declared.act.MemoryOp.TheVariants as op
 use Rattle.pool_run.specs.declared.act.TableOp.{TableOp as GivenTableOp}
@@ -52,6 +53,7 @@ abbrev pub given_wanted : GivenWanted → Wanted
 given_wanted (wanted.Instance number) = an_instance number
 given_wanted (wanted.Component info) = a_component info
 given_wanted wanted.Stack = a_stack
+given_wanted (wanted.Heap limits) = a_heap limits
 
 abbrev pub given_act : GivenAct → Act
 given_act (act.Request wanted) = requests (given_wanted wanted)
@@ -97,18 +99,19 @@ pub record GrowsUnder (rule : GrowthRule) (pages : ℕ) (l new : Lease) (answer 
   pub memory : IsUsable new.memory
   pub growth : (given : GrowthGiven) × (asked : LimiterTold) × (left : LimiterTold) × (asked.rule ≡ Some rule) × IsGrowth given pages l.memory.linear.size l.memory new.memory asked left answer
 
--- an operation on bytes of a stack, which is the only one of its grant
-abbrev pub MovesStackBytes : MemoryOp → ℕ → LeasedStack → Reply → LeasedStack → Type 0
-MovesStackBytes op k lease reply new = MovesNamed (StackLeaseMoves op) (slice_get (lease ∷ []) k) (λ l old. l) lease reply new
+-- an operation on bytes of a stack, or of a heap's memory, which is the only one of its grant
+abbrev pub MovesOnly : {X : Type 0} → (X → X → Reply → Type 0) → ℕ → X → Reply → X → Type 0
+MovesOnly Move k lease reply new = MovesNamed Move (slice_get (lease ∷ []) k) (λ l old. l) lease reply new
 
 module _ {P : Type 0} where
   -- an operation on bytes of this grant
-  abbrev pub MovesGrantBytes : MemoryOp → GrowthRule → ℕ → Grant P → Reply → Grant P → Type 0
-  MovesGrantBytes op rule k (stack lease) reply new = (l : LeasedStack) × (new ≡ stack l) × MovesStackBytes op k lease reply l
+  abbrev pub MovesGrantBytes : MemoryOp → GrowthRule → ℕ → Grant P PlainHeap → Reply → Grant P PlainHeap → Type 0
+  MovesGrantBytes op rule k (stack lease) reply new = (s : StackState) × (new ≡ stack (record lease { stack = s })) × MovesOnly (StackStateMoves op) k lease.stack reply s
+  MovesGrantBytes op rule k (heap lease memory) reply new = (l : Lease) × (new ≡ heap lease l) × MovesOnly (LeaseMoves op rule) k memory reply l
   MovesGrantBytes op rule k grant reply new = MovesNamed (LeaseMoves op rule) (slice_get (leases_of grant) k) (with_lease k) grant reply new
 
   -- the same of a grant that was taken out of its place, and is put back
-  abbrev pub MovesTakenBytes : MemoryOp → GrowthRule → ℕ → ℕ → Grant P → List (Option (Grant P)) → Reply → List (Option (Grant P)) → Type 0
+  abbrev pub MovesTakenBytes : MemoryOp → GrowthRule → ℕ → ℕ → Grant P PlainHeap → List (Option (Grant P PlainHeap)) → Reply → List (Option (Grant P PlainHeap)) → Type 0
   MovesTakenBytes op rule of k (stack lease) live reply new =
       MovesNamed (StackLeaseMoves op) (slice_get (lease ∷ []) k) (λ l at. slice_set at of (Some (with_stack_lease k l (stack lease)))) (slice_set live of (Some (stack lease))) reply new
   MovesTakenBytes op rule of k grant live reply new = MovesNamed (LeaseMoves op rule) (slice_get (leases_of grant) k) (λ l at. slice_set at of (Some (with_lease k l grant))) (slice_set live of (Some grant)) reply new

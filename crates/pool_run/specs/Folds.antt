@@ -18,16 +18,17 @@ use Rattle.pool_run.specs.Worlds.{IsWorldOf, AreCallsFor}
 use Rattle.pool_run.specs.declared.command.Command.{Command}
 use Rattle.pool_run.specs.declared.reply.Reply.{Reply}
 use Rattle.pool_run.specs.declared.running_party.RunningParty.{RunningParty}
+use Rattle.pool_slots.specs.declared.listed_heaps.PlainHeap.{PlainHeap}
 
 -- what a run has: the pool, the calls for its modules, and the parties
 pub record RunParts (P : Type 0) : Type 0 where
-  pub core : PoolCore P
+  pub core : PoolCore P PlainHeap
   pub modules : List ModuleAsked
   pub parties : List (RunningParty P)
 
 -- the same, and the replies to each of the parties so far
 pub record RunState (P : Type 0) : Type 0 where
-  pub core : PoolCore P
+  pub core : PoolCore P PlainHeap
   pub modules : List ModuleAsked
   pub parties : List (RunningParty P)
   pub replies : List (List Reply)

@@ -4,10 +4,15 @@ pub mod AtOnce
 pub mod Built
 pub mod Folds
 pub mod GrowthEnds
+pub mod HeapFaults
 pub mod Limits
 pub mod Made
 pub mod Numbers
 pub mod Objects
+pub mod OnDemand
+pub mod OnDemandAlike
+pub mod OnDemandRuns
+pub mod OnDemandSeen
 pub mod PartyRules
 pub mod Placed
 pub mod Private

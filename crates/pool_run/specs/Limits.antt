@@ -5,6 +5,7 @@ use Rattle.pool_alloc.specs.Stepping.{grant_instances, grant_components}
 use Rattle.pool_alloc.specs.declared.pool_core.PoolCore.{PoolCore}
 use Rattle.pool_run.specs.Ties.{granted_to}
 use Rattle.pool_run.specs.declared.running_party.RunningParty.{RunningParty}
+use Rattle.pool_slots.specs.declared.listed_heaps.PlainHeap.{PlainHeap}
 
 -- A call was admitted for an instance, from where it was counted below the limit until it is granted or refused. A request
 -- that is refused, also one at the limit, has counted an instance until it has given back all, but isn't granted it any
@@ -27,6 +28,6 @@ module _ {P : Type 0} where
 
   -- At no time are more instances granted than there may be, nor can the requests on their way exceed that; and no more
   -- components. The counters themselves may stand above their limits while a request is refused there.
-  pub record IsWithinCounts (c : PoolCore P) (parties : List (RunningParty P)) : Type 0 where
+  pub record IsWithinCounts (c : PoolCore P PlainHeap) (parties : List (RunningParty P)) : Type 0 where
     pub instances : sum_by admitted_to parties ≤ c.settings.max_core_instances
     pub components : sum_by live_components parties ≤ c.settings.max_component_instances

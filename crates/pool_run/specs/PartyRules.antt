@@ -12,9 +12,9 @@ abbrev pub rule_of : Option PartyLimits → GrowthRule
 rule_of None = always
 rule_of (Some l) = limited_by (growth_of l)
 
--- what a party with these limits is answered, where these calls on its store fail
-abbrev pub host_of : Option PartyLimits → List ℕ → Host
-host_of limits failing = record { rule = rule_of limits; failing = failing }
+-- what a party with these limits is answered, where these calls on its store fail, and these makings of heaps
+abbrev pub host_of : Option PartyLimits → List ℕ → List ℕ → Host
+host_of limits failing unmade = record { rule = rule_of limits; failing = failing; unmade = unmade }
 
 abbrev pub host_for : Party → Host
-host_for p = host_of p.limits p.gc_faults
+host_for p = host_of p.limits p.gc_faults p.heap_faults

@@ -1,5 +1,5 @@
 -- Where each slot of the pool is between two turns: in one place.
-use Rattle.std.specs.Prelude.{◌≡◌, ◌≢◌, ℕ, if◌then◌else◌, slice_get, Option, Some}
+use Rattle.std.specs.Prelude.{◌≡◌, ◌≢◌, ℕ, ◌<◌, if◌then◌else◌, slice_get, Option, Some}
 use Rattle.std.specs.Option.{option_map_or}
 use Rattle.pool_index.specs.Shard.{ShardState, is_used, pick_answer, slot_number}
 use Rattle.pool_index.specs.declared.ids.MemoryInModule.{MemoryInModule}
@@ -8,7 +8,7 @@ use Rattle.pool_pages.specs.MakerTold.{MakerTold}
 use Rattle.pool_slots.specs.declared.part.PoolPart.TheVariants as part
 use Rattle.pool_alloc.specs.Places.{right_to, queued_count}
 use Rattle.pool_alloc.specs.Steps.{shard_at, queue_at}
-use Rattle.pool_alloc.specs.Sound.{IsSlotName}
+use Rattle.pool_slots.specs.SlotNames.{of_kind}
 use Rattle.pool_slots.specs.Plans.{home_of}
 use Rattle.pool_slots.specs.declared.slot_name.SlotName.{SlotName}
 use Rattle.pool_run.specs.Folds.{RunState, HoldsBetween}
@@ -45,7 +45,7 @@ module _ {P : Type 0} where
 
 -- Each slot of the pool is in one place,
 abbrev pub SlotsAreInOnePlace : Type 0 → Type 0
-SlotsAreInOnePlace P = (maker : MakerTold) (s : RunState P) (k : SlotName) → HoldsBetween maker s → IsSlotName s.core.plan k → (place : Place) × IsIn s k place
+SlotsAreInOnePlace P = (maker : MakerTold) (s : RunState P) (k : SlotName) → HoldsBetween maker s → k.slot < of_kind k.kind s.core.plan.totals → (place : Place) × IsIn s k place
 
 -- so what a pick gives is in no queue and with no party: it is free, and the shard is the one where it is at home.
 abbrev pub UsedSlotsAreNotPicked : Type 0 → Type 0

@@ -5,6 +5,7 @@ use Rattle.std.specs.Option.{option_or}
 use Rattle.std.specs.List.{list_all}
 use Rattle.pool_pages.specs.Contents.{put}
 use Rattle.pool_pages.specs.MemoryTypes.{minimum_byte_size, page_size, allow_growth_to}
+use Rattle.pool_pages.specs.Told.{risen}
 use Rattle.pool_pages.specs.declared.module_types.MemoryDecl.{MemoryDecl}
 use Rattle.pool_pages.specs.declared.module_types.ModuleInfo.{ModuleInfo}
 use Rattle.pool_pages.specs.declared.module_types.ComponentInfo.{ComponentInfo}
@@ -20,25 +21,25 @@ use Rattle.pool_memory.specs.Static.{static_capacity}
 use Rattle.pool_memory.specs.declared.memory_error.MemoryError.{MemoryError}
 use Rattle.pool_slots.specs.declared.errors.AllocError.{AllocError}
 use Rattle.pool_slots.specs.declared.errors.AllocError.TheVariants as alloc
-use Rattle.pool_slots.specs.declared.errors.ConcurrencyKind.TheVariants.{MemoryStripe, Tables, Fibers, CoreInstances}
+use Rattle.pool_slots.specs.declared.errors.ConcurrencyKind.TheVariants.{MemoryStripe, Tables, Fibers, GcHeaps, CoreInstances}
 use Rattle.pool_table.specs.Elements.{empty}
 use Rattle.pool_table.specs.Making.{kind_of, room_of}
 use Rattle.pool_table.specs.Tables.{type_maximum}
 use Rattle.pool_alloc.specs.Own.{refusal_of}
-use Rattle.pool_alloc.specs.Refusals.{module_refused, component_refused}
+use Rattle.pool_alloc.specs.Refusals.{module_refused, component_refused, type_refused}
 use Rattle.pool_alloc.specs.Rows.{no_component_left}
 use Rattle.pool_alloc.specs.Steps.{no_module}
 use Rattle.pool_alloc.specs.TableSteps.{table_refused, table_bytes}
-use Rattle.pool_alloc.specs.Wants.{MemoryWant, Want, new_memory, new_table, new_stack, wants_from}
+use Rattle.pool_alloc.specs.Wants.{MemoryWant, Want, new_memory, new_table, new_stack, new_heap, wants_from}
 use Rattle.pool_alloc.specs.declared.pool_core.Settings.{Settings}
 use Rattle.pool_run.specs.Objects.{Objects, MovesNamed, MovesObject, object_at, with_object}
-use Rattle.pool_run.specs.Acts.{MemoryOp, reads, writes, fills, grows, asks_size, Act, requests, on_memory, on_table, drops, purges, releases, act_of, Wanted, an_instance, a_component, a_stack}
+use Rattle.pool_run.specs.Acts.{MemoryOp, reads, writes, fills, grows, asks_size, Act, requests, on_memory, on_table, drops, purges, releases, act_of, Wanted, an_instance, a_component, a_stack, a_heap, heap_type}
 use Rattle.pool_run.specs.PrivateStacks.{ReadsBytes, WritesBytes, StackTerms, PrivateStack, BeginsStack, StackMoves}
-use Rattle.pool_run.specs.PrivateTables.{Host, PrivateTable, StoredTable, TableMoves}
+use Rattle.pool_run.specs.PrivateTables.{Host, PrivateTable, StoredTable, TableMoves, goes_through}
 pub use Rattle.pool_run.specs.GrowthEnds.{GrowthEnd, as_it_was, could_not, has_grown, if_allowed, reported}
 use Rattle.pool_run.specs.declared.command.Command.{Command}
 use Rattle.pool_run.specs.declared.reply.Reply.{Reply}
-use Rattle.pool_run.specs.declared.reply.Reply.TheVariants.{Instance, Bytes, Done, Size, Grown, Returned, Purged, Released, Refused, Trap, Component, Stack}
+use Rattle.pool_run.specs.declared.reply.Reply.TheVariants.{Instance, Bytes, Done, Size, Grown, Returned, Purged, Released, Refused, Trap, Component, Stack, Heap}
 use Rattle.pool_run.specs.declared.reply.Refusal.{Refusal}
 use Rattle.pool_run.specs.declared.reply.Refusal.TheVariants.{NoSuchGrant, Alloc}
 
@@ -56,11 +57,13 @@ pub record PrivateInstance : Type 0 where
   pub memories : List PrivateMemory
   pub tables : List PrivateTable
 
--- a live grant: an instance; a component, of which its party has nothing but that it is granted; or a stack
+-- A live grant: an instance; a component, of which its party has nothing but that it is granted; a stack; or a heap, of
+-- which it has the slot that its reply named, and a memory.
 pub data PrivateGrant : Type 0 where
   instance_grant : PrivateInstance → PrivateGrant
   component_grant : PrivateGrant
   stack_grant : PrivateStack → PrivateGrant
+  heap_grant : ℕ → PrivateMemory → PrivateGrant
 
 -- A party's grants by the numbers of its commands: none where the command is still to come, asked for none or was
 -- refused, or where its grant was given back.
@@ -71,14 +74,15 @@ abbrev pub grant_at : Grants → ℕ → Option PrivateGrant
 grant_at grants of = slice_index_or grants of None
 
 -- What a party's replies depend on beside its commands: whether pages are told, the modules, the pool's settings and how
--- many slots for memories and for tables it has, the stripe from which the party has its memories, the pool's stacks, and
--- what the host answers the party.
+-- many slots for memories, for tables and for heaps it has, the stripe from which the party has its memories, the pool's
+-- stacks, and what the host answers the party.
 pub record Terms : Type 0 where
   pub tells : Bool
   pub modules : List ModuleInfo
   pub settings : Settings
   pub slots : ℕ
   pub table_slots : ℕ
+  pub heap_slots : ℕ
   pub stripe : ℕ
   pub stacks : StackTerms
   pub host : Host
@@ -171,6 +175,7 @@ abbrev pub own_refusal : Terms → Want → Option AllocError
 own_refusal t (new_memory want) = refused_by (limits_answer (memory_answer (Some t.host.rule) (Ok true) (minimum_asked want.decl.ty) (maximum_asked want.decl.ty)) want.decl.ty)
 own_refusal t (new_table ty) = table_refused (table_answer (Some t.host.rule) (Ok true) ty.limits.min (Some (type_maximum ty))) ty.limits.min (table_room t.settings ty)
 own_refusal t new_stack = None
+own_refusal t new_heap = None
 
 -- that of the first of them which has one
 abbrev pub first_refusal : Terms → List Want → Option AllocError
@@ -262,12 +267,6 @@ AsksForStack t n grants (Stack slot) new =
 AsksForStack t n grants (Refused (Alloc e)) new = (e ≡ stack_refusal t) × (new ≡ grants)
 AsksForStack t n grants _ new = ⊥
 
--- the reply to command n, which asks for this
-abbrev pub Requests : Terms → ℕ → Wanted → Grants → Reply → Grants → Type 0
-Requests t n (an_instance number) grants reply new = Instantiates t n (request_of t number) grants reply new
-Requests t n (a_component info) grants reply new = AsksForComponent t n info grants reply new
-Requests t n a_stack grants reply new = AsksForStack t n grants reply new
-
 -- the reply to a read of a live memory
 abbrev pub IsRead : PrivateMemory → ℕ → ℕ → Reply → Type 0
 IsRead m at len reply = ReadsBytes m.size m.bytes at len reply
@@ -330,13 +329,15 @@ MemoryMoves (fills at len byte) rule m new reply = Writes at (replicate len byte
 MemoryMoves (grows pages) rule m new reply = Grows rule pages m new reply
 MemoryMoves asks_size rule m new reply = (reply ≡ Size m.size) × (new ≡ m)
 
--- the memories of a grant, the grant with another in the place of one, and the same of its tables
+-- the memories of a grant, the grant with another in the place of one, and the same of its tables; a heap has one memory
 abbrev pub memories_in_grant : PrivateGrant → List PrivateMemory
 memories_in_grant (instance_grant g) = g.memories
+memories_in_grant (heap_grant slot m) = m ∷ []
 memories_in_grant _ = []
 
 abbrev pub put_memory : ℕ → PrivateMemory → PrivateGrant → PrivateGrant
 put_memory k m (instance_grant g) = instance_grant (record g { memories = slice_set g.memories k m })
+put_memory k m (heap_grant slot old) = heap_grant slot (if k == 0 then m else old)
 put_memory k m g = g
 
 abbrev pub tables_in_grant : PrivateGrant → List PrivateTable
@@ -402,10 +403,70 @@ table_at of k s = option_map (λ t. record { table = t; calls = s.stores }) (obj
 abbrev pub with_table : ℕ → ℕ → StoredTable → PrivateState → PrivateState
 with_table of k t s = record s { grants = with_object private_tables of k t.table s.grants; stores = t.calls }
 
--- What command n does, its reply, and the state before and after. Only a command on a table calls the store, and none
--- calls the maker of heaps. A purge and a release change nothing that the party sees.
+-- A heap's memory is one without an image.
+abbrev pub heap_memory : MemoryType → MemoryWant
+heap_memory ty = record { decl = record { ty = ty; image = None }; image = None }
+
+-- what refuses a heap before anything is made for it: there is no collector, or its memory's type breaks a rule of the pool
+abbrev pub heap_barred : Terms → MemoryType → Option AllocError
+heap_barred t ty = if t.settings.tunables.tunables.collector then option_map alloc.Unsupported (type_refused t.settings ty) else Some alloc.HeapsDisabled
+
+-- what its memory has of an own refusal
+abbrev pub heap_refusal : Terms → MemoryType → Option AllocError
+heap_refusal t ty = own_refusal t (new_memory (heap_memory ty))
+
+-- how a heap is refused for room
+abbrev pub no_heap_left : Terms → AllocError
+no_heap_left t = alloc.Limit (record { limit = t.heap_slots; kind = GcHeaps })
+
+-- What a heap's request may meet before it has a slot for its heap. There is no memory for it. Its memory is refused as it is
+-- made, or, which is given, as no slot is free for it, or a call on the pages of its slot failed. Where it isn't refused, it
+-- is given that no slot is free for the heap.
+abbrev pub IsHeapRefused : Terms → MemoryType → AllocError → Type 0
+IsHeapRefused t ty e =
+    ((e ≡ alloc.Memory) ⊎ (heap_refusal t ty ≡ Some e))
+    ⊎ (((e ≡ limit_for t (Some (new_memory (heap_memory ty)))) ⊎ (e ≡ alloc.PageFault))
+    ⊎ ((heap_refusal t ty ≡ None) × (e ≡ no_heap_left t)))
+
+-- Why a heap is refused. Where the maker of heaps failed, nothing refuses it before.
+abbrev pub HeapRefusal : Terms → MemoryType → AllocError → Type 0
+HeapRefusal t ty alloc.HeapFault = heap_refusal t ty ≡ None
+HeapRefusal t ty e = IsHeapRefused t ty e
+
+abbrev pub RefusesHeap : Option AllocError → Terms → MemoryType → AllocError → Type 0
+RefusesHeap (Some barred) t ty e = e ≡ barred
+RefusesHeap None t ty e = HeapRefusal t ty e
+
+-- How often the maker of heaps was called before and after a request for a heap that is refused: once more where the maker
+-- failed, which its list says.
+abbrev pub CountsRefused : List ℕ → AllocError → ℕ → ℕ → Type 0
+CountsRefused unmade alloc.HeapFault calls after = (goes_through unmade calls ≡ false) × (after ≡ risen calls)
+CountsRefused unmade e calls after = after ≡ calls
+
+-- And one that is granted: the slot has a heap already, which is given, or the maker makes it, where its list lets it.
+abbrev pub CountsGranted : List ℕ → ℕ → ℕ → Type 0
+CountsGranted unmade calls after = (after ≡ calls) ⊎ ((goes_through unmade calls ≡ true) × (after ≡ risen calls))
+
+-- the reply to command n, which asks for a heap whose memory is of this type
+abbrev pub AsksForHeap : Terms → ℕ → MemoryType → PrivateState → Reply → PrivateState → Type 0
+AsksForHeap t n ty s (Heap slot memory) new =
+    (heap_barred t ty ≡ None) × (heap_refusal t ty ≡ None) × CountsGranted t.host.unmade s.heaps new.heaps
+    × (new ≡ record s { grants = slice_set s.grants n (Some (heap_grant slot (begun_memory t memory (heap_memory ty)))); heaps = new.heaps })
+AsksForHeap t n ty s (Refused (Alloc e)) new =
+    RefusesHeap (heap_barred t ty) t ty e × CountsRefused t.host.unmade e s.heaps new.heaps × (new ≡ record s { heaps = new.heaps })
+AsksForHeap t n ty s _ new = ⊥
+
+-- the reply to command n, which asks for this
+abbrev pub Requests : Terms → ℕ → Wanted → PrivateState → Reply → PrivateState → Type 0
+Requests t n (an_instance number) s reply new = OnGrants (Instantiates t n (request_of t number)) s reply new
+Requests t n (a_component info) s reply new = OnGrants (AsksForComponent t n info) s reply new
+Requests t n a_stack s reply new = OnGrants (AsksForStack t n) s reply new
+Requests t n (a_heap limits) s reply new = AsksForHeap t n (heap_type limits) s reply new
+
+-- What command n does, its reply, and the state before and after. Only a command on a table calls the store, and only a
+-- request for a heap calls the maker of heaps. A purge and a release change nothing that the party sees.
 abbrev pub Moves : Terms → ℕ → PrivateState → Act → Reply → PrivateState → Type 0
-Moves t n s (requests wanted) reply new = OnGrants (Requests t n wanted) s reply new
+Moves t n s (requests wanted) reply new = Requests t n wanted s reply new
 Moves t n s (on_memory of k op) reply new = OnGrants (MovesBytes op t.host.rule (grant_at s.grants of) of k) s reply new
 Moves t n s (on_table of k op) reply new = MovesNamed (TableMoves op t.host) (table_at of k s) (with_table of k) s reply new
 Moves t n s (drops of) reply new = OnGrants (λ grants. Drops (grant_at grants of) grants of) s reply new

@@ -16,10 +16,11 @@ use Rattle.pool_run.specs.declared.reply.Reply.TheVariants.{Done, Size, Grown, E
 use Rattle.pool_run.specs.declared.reply.Refusal.TheVariants.{GcStoreFault}
 
 -- What the host answers a party: the rule by which the growth of its memories and tables is decided, and which calls on
--- its store of GC references fail, by their numbers from 1 on.
+-- its store of GC references fail, and which makings by its maker of heaps, by their numbers from 1 on.
 pub record Host : Type 0 where
   pub rule : GrowthRule
   pub failing : List ℕ
+  pub unmade : List ℕ
 
 -- a live table: the slot that its reply named, what its elements are, how many it has and may have, and the elements,
 -- where they are told

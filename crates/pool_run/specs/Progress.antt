@@ -10,10 +10,11 @@ use Rattle.pool_alloc.specs.Asked.{ModuleAsked}
 use Rattle.pool_run.specs.Folds.{RunState, Folds, IsUnderWay}
 use Rattle.pool_run.specs.RunsMade.{Background, commands_in}
 use Rattle.pool_run.specs.Worlds.{NameModules}
-use Rattle.pool_run.specs.Acts.{Act, requests, on_memory, on_table, drops, purges, releases, act_of, an_instance, a_component, a_stack}
+use Rattle.pool_run.specs.Acts.{Act, requests, on_memory, on_table, drops, purges, releases, act_of, an_instance, a_component, a_stack, a_heap, heap_type}
 use Rattle.pool_run.specs.declared.command.Command.{Command}
 use Rattle.pool_run.specs.declared.input.Party.{Party}
 use Rattle.pool_run.specs.declared.running_party.RunningParty.{RunningParty}
+use Rattle.pool_slots.specs.declared.listed_heaps.PlainHeap.{PlainHeap}
 
 module _ {P : Type 0} where
   -- the party's call is under way
@@ -44,28 +45,29 @@ module _ {P : Type 0} where
   begins_call count (Some p) = begins_by count p
 
   -- at most how many turns its call still takes
-  abbrev pub turns_left : PoolCore P → Option (RunningParty P) → ℕ
+  abbrev pub turns_left : PoolCore P PlainHeap → Option (RunningParty P) → ℕ
   turns_left c None = 0
   turns_left c (Some p) = steps_left c p.frame
 
   -- At most how many turns a call takes, by the sizes of the pool and by what is asked for, given back or purged alone, and
   -- one where that isn't there.
-  abbrev pub bound_asked : PoolCore P → Option ModuleAsked → ℕ
+  abbrev pub bound_asked : PoolCore P PlainHeap → Option ModuleAsked → ℕ
   bound_asked c None = 1
   bound_asked c (Some m) = bound_of c (call.Module m)
 
-  abbrev pub bound_returned : PoolCore P → Option (Grant P) → ℕ
+  abbrev pub bound_returned : PoolCore P PlainHeap → Option (Grant P PlainHeap) → ℕ
   bound_returned c None = 1
   bound_returned c (Some grant) = bound_of c (call.GiveBack grant)
 
-  abbrev pub bound_purged : PoolCore P → Option ModuleAsked → ℕ
+  abbrev pub bound_purged : PoolCore P PlainHeap → Option ModuleAsked → ℕ
   bound_purged c None = 1
   bound_purged c (Some m) = bound_of c (call.Purge m.id)
 
-  abbrev pub bound_begun : List ModuleAsked → Act → PoolCore P → RunningParty P → ℕ
+  abbrev pub bound_begun : List ModuleAsked → Act → PoolCore P PlainHeap → RunningParty P → ℕ
   bound_begun modules (requests (an_instance number)) c p = bound_asked c (slice_get modules number)
   bound_begun modules (requests (a_component info)) c p = bound_of c (call.Component info)
   bound_begun modules (requests a_stack) c p = bound_of c call.Stack
+  bound_begun modules (requests (a_heap limits)) c p = bound_of c (call.Heap (heap_type limits))
   bound_begun modules (on_memory of k op) c p = 1
   bound_begun modules (on_table of k op) c p = 1
   bound_begun modules (drops of) c p = bound_returned c (slice_index_or p.live of None)
@@ -73,15 +75,15 @@ module _ {P : Type 0} where
   bound_begun modules releases c p = bound_of c call.Release
 
   -- the same of the party's next call; its stripe is drawn in one turn
-  abbrev pub bound_keyed : Bool → List ModuleAsked → Option Command → PoolCore P → RunningParty P → ℕ
+  abbrev pub bound_keyed : Bool → List ModuleAsked → Option Command → PoolCore P PlainHeap → RunningParty P → ℕ
   bound_keyed false modules next c p = 1
   bound_keyed true modules None c p = 1
   bound_keyed true modules (Some command) c p = bound_begun modules (act_of command) c p
 
-  abbrev pub bound_by : List ModuleAsked → List Command → PoolCore P → RunningParty P → ℕ
+  abbrev pub bound_by : List ModuleAsked → List Command → PoolCore P PlainHeap → RunningParty P → ℕ
   bound_by modules commands c p = bound_keyed p.keyed modules (slice_get commands p.done) c p
 
-  abbrev pub bound_next : List ModuleAsked → List Command → PoolCore P → Option (RunningParty P) → ℕ
+  abbrev pub bound_next : List ModuleAsked → List Command → PoolCore P PlainHeap → Option (RunningParty P) → ℕ
   bound_next modules commands c None = 1
   bound_next modules commands c (Some p) = bound_by modules commands c p
 

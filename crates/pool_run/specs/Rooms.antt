@@ -7,14 +7,14 @@ use Rattle.pool_limits.specs.Growth.{always}
 use Rattle.pool_slots.specs.declared.errors.AllocError.{AllocError}
 use Rattle.pool_slots.specs.declared.errors.AllocError.TheVariants as alloc
 use Rattle.pool_slots.specs.declared.errors.ConcurrencyKind.{ConcurrencyKind}
-use Rattle.pool_slots.specs.declared.errors.ConcurrencyKind.TheVariants.{MemoryStripe, Tables, CoreInstances}
-use Rattle.pool_run.specs.Private.{PrivateMemory, PrivateGrant, instance_grant, component_grant, PrivateState, PrivateStep, Grants, Terms, grant_at, memories_in_grant, tables_in_grant, stacks_in_grant, private_memories, Request, request_of, wants_of, stripe_slots, slots_asked, growth, StepsBy, with_grants, no_grants}
+use Rattle.pool_slots.specs.declared.errors.ConcurrencyKind.TheVariants.{MemoryStripe, Tables, GcHeaps, CoreInstances}
+use Rattle.pool_run.specs.Private.{PrivateMemory, PrivateGrant, instance_grant, component_grant, heap_grant, PrivateState, PrivateStep, Grants, Terms, grant_at, memories_in_grant, tables_in_grant, stacks_in_grant, private_memories, Request, request_of, wants_of, stripe_slots, slots_asked, growth, StepsBy, with_grants, no_grants}
 use Rattle.pool_run.specs.PrivateTables.{Host}
 use Rattle.pool_run.specs.Objects.{object_at}
-use Rattle.pool_run.specs.Acts.{MemoryOp, grows, Wanted, an_instance, a_component, a_stack, Act, requests, on_memory, act_of}
+use Rattle.pool_run.specs.Acts.{MemoryOp, grows, Wanted, an_instance, a_component, a_stack, a_heap, Act, requests, on_memory, act_of}
 use Rattle.pool_run.specs.declared.command.Command.{Command}
 use Rattle.pool_run.specs.declared.reply.Reply.{Reply}
-use Rattle.pool_run.specs.declared.reply.Reply.TheVariants.{Instance, Component, Stack, Refused}
+use Rattle.pool_run.specs.declared.reply.Reply.TheVariants.{Instance, Component, Stack, Heap, Refused}
 use Rattle.pool_run.specs.declared.reply.Refusal.TheVariants.{Alloc}
 
 -- how many memories are live, how many tables, and how many stacks
@@ -48,11 +48,23 @@ abbrev pub components_in : Option PrivateGrant → ℕ
 components_in (Some component_grant) = 1
 components_in _ = 0
 
+-- The slots of a grant's heaps: it is one heap, or has none. And how many heaps there are.
+abbrev pub heaps_in_grant : PrivateGrant → List ℕ
+heaps_in_grant (heap_grant slot m) = slot ∷ []
+heaps_in_grant _ = []
+
+abbrev pub heaps_in : Option PrivateGrant → ℕ
+heaps_in None = 0
+heaps_in (Some g) = length (heaps_in_grant g)
+
 abbrev pub instance_count : Grants → ℕ
 instance_count grants = sum_by instances_in grants
 
 abbrev pub component_count : Grants → ℕ
 component_count grants = sum_by components_in grants
+
+abbrev pub heap_count : Grants → ℕ
+heap_count grants = sum_by heaps_in grants
 
 -- what is the same for a whole run: the maker of the pool's regions, what the host answers each party, whether there is
 -- one party alone, and the terms of the party that is spoken of
@@ -64,7 +76,7 @@ pub record World : Type 0 where
 
 -- a host that allows everything
 abbrev pub open_host : Host
-open_host = record { rule = always; failing = [] }
+open_host = record { rule = always; failing = []; unmade = [] }
 
 -- the world of a party with this host, of one in this stripe, and that of party i in its stripe
 abbrev pub under : Host → World → World
@@ -76,7 +88,7 @@ in_stripe stripe w = record w { terms = record w.terms { stripe = stripe } }
 abbrev pub world_at : World → ℕ → ℕ → World
 world_at w i stripe = in_stripe stripe (under (slice_index_or w.hosts i open_host) w)
 
--- no live memory is in this slot, no live table in that one, and no live stack in the third
+-- no live memory is in this slot, no live table in that one, no live stack in the third, and no live heap in the last
 abbrev pub HasNoMemoryIn : ℕ → Grants → Type 0
 HasNoMemoryIn slot grants = (i : ℕ) → IfSome (grant_at grants i) (λ g. All (λ m. m.slot ≢ slot) (memories_in_grant g))
 
@@ -85,6 +97,9 @@ HasNoTableIn slot grants = (i : ℕ) → IfSome (grant_at grants i) (λ g. All (
 
 abbrev pub HasNoStackIn : ℕ → Grants → Type 0
 HasNoStackIn slot grants = (i : ℕ) → IfSome (grant_at grants i) (λ g. All (λ s. s.slot ≢ slot) (stacks_in_grant g))
+
+abbrev pub HasNoHeapIn : ℕ → Grants → Type 0
+HasNoHeapIn slot grants = (i : ℕ) → IfSome (grant_at grants i) (λ g. All (λ at. at ≢ slot) (heaps_in_grant g))
 
 -- no slot is named twice
 abbrev pub AllDiffer : List ℕ → Type 0
@@ -145,11 +160,35 @@ TellsStackRoom w grants (Stack slot) = AreFreeSlots w.terms.stacks.slots (stack_
 TellsStackRoom w grants (Refused (Alloc (alloc.Limit e))) = w.alone ≡ true → w.terms.stacks.slots ≤ stack_count grants
 TellsStackRoom w grants _ = Unit {0}
 
+-- A party that is alone is refused for room for a heap only where all slots of its stripe are its own memories', or all slots
+-- for heaps its own heaps'. A call on pages fails only on those of a slot that is free.
+abbrev pub IsHeapFull : World → Grants → ConcurrencyKind → Type 0
+IsHeapFull w grants (MemoryStripe s) = stripe_slots w.terms ≤ live_count grants
+IsHeapFull w grants GcHeaps = w.terms.heap_slots ≤ heap_count grants
+IsHeapFull w grants _ = ⊥
+
+abbrev pub IsForHeapRoom : World → Grants → AllocError → Type 0
+IsForHeapRoom w grants (alloc.Limit e) = w.alone ≡ true → IsHeapFull w grants e.kind
+IsForHeapRoom w grants (alloc.PageFault) = SomeMayFault w × (live_count grants < w.terms.slots)
+IsForHeapRoom w grants _ = Unit {0}
+
+-- a heap that is granted has a free slot, and its memory one, and the party's own grants leave room for both
+pub record HasHeapRoom (w : World) (grants : Grants) (heap memory : ℕ) : Type 0 where
+  pub memories : AreFreeSlots w.terms.slots (live_count grants) (λ slot. HasNoMemoryIn slot grants) (memory ∷ [])
+  pub heaps : AreFreeSlots w.terms.heap_slots (heap_count grants) (λ slot. HasNoHeapIn slot grants) (heap ∷ [])
+
+-- what the reply to a request for a heap tells of room
+abbrev pub TellsHeapRoom : World → Grants → Reply → Type 0
+TellsHeapRoom w grants (Heap heap memory) = HasHeapRoom w grants heap memory
+TellsHeapRoom w grants (Refused (Alloc e)) = IsForHeapRoom w grants e
+TellsHeapRoom w grants _ = Unit {0}
+
 -- what the reply to a request for this tells of room
 abbrev pub TellsRequest : World → Wanted → Grants → Reply → Type 0
 TellsRequest w (an_instance number) grants reply = TellsRoom w (request_of w.terms number) grants reply
 TellsRequest w (a_component info) grants reply = TellsComponentRoom w grants reply
 TellsRequest w a_stack grants reply = TellsStackRoom w grants reply
+TellsRequest w (a_heap limits) grants reply = TellsHeapRoom w grants reply
 
 -- A growth ends as its rules alone would have it, or a call on the pages of its memory's slot failed.
 abbrev pub TellsGrowth : World → ℕ → PrivateMemory → Reply → Type 0

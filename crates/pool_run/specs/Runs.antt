@@ -6,7 +6,7 @@ use Rattle.pool_pages.specs.Count.{rounded_up}
 use Rattle.pool_pages.specs.FaultPlans.{failing_maker, planned_faults}
 use Rattle.pool_pages.specs.MakerTold.{MakerTold, Planned, calls_of, fails_making, plan_for}
 use Rattle.pool_pages.specs.SettingsRules.{slab_stripes}
-use Rattle.pool_pages.specs.Told.{Rose}
+use Rattle.pool_pages.specs.Told.{Told, Rose}
 use Rattle.pool_pages.specs.declared.bad_config.BadConfig.{BadConfig as BrokenRule}
 use Rattle.pool_pages.specs.declared.pages.RegionName.{RegionName}
 use Rattle.pool_pages.specs.declared.pages.RegionName.TheVariants.{Memory as memory_region, Table as table_region, Stack as stack_region}
@@ -45,6 +45,7 @@ terms_of input maker host = record {
   settings = settings_of maker.page input.config input.tunables input.offered;
   slots = input.config.limits.total_memories;
   table_slots = input.config.limits.total_tables;
+  heap_slots = input.config.limits.total_gc_heaps;
   stripe = 0;
   stacks = record { slots = input.config.limits.total_stacks; size = rounded_up maker.page input.config.stack_size; zeroing = input.config.async_stack_zeroing };
   host = host;
@@ -179,24 +180,27 @@ pub record ModulesFault (tunables : Tunables) (page : ℕ) (ms : List ModuleInfo
 
 -- A region of the pool was made and given up, as the first call on it failed, which is one of those that make it. That is
 -- counted by the region, which is gone. Where it tells which calls on it fail, this is one.
-pub record IsGivenUp (maker : MakerTold) (m : Making) : Type 0 where
+pub record IsGivenUp {P : Type 0} (told : P → Told) (maker : MakerTold) (m : Making) : Type 0 where
   pub makes : list_any (λ n. n == 1) m.calls ≡ true
+  pub region : P
+  pub named : (told region).name ≡ m.region
+  pub counted : Rose 0 (told region).faults
   pub listed : IfSome (plan_for m.region maker) (λ calls. list_any (λ n. n == 1) calls ≡ true)
 
-abbrev pub GivesUp : Input → MakerTold → Type 0
-GivesUp input maker = Any (IsGivenUp maker) (makings_for input)
+abbrev pub GivesUp : {P : Type 0} → (P → Told) → Input → MakerTold → Type 0
+GivesUp told input maker = Any (IsGivenUp told maker) (makings_for input)
 
 -- No region or image could be made: the maker's count of faults rose, or a region was given up. Where none was, the maker's
 -- own list has a making for the input, or the maker behind it failed. And where the maker's plan is told, that lists a call
 -- that makes one.
-pub record FaultsInMaking (input : Input) (old new : MakerTold) : Type 0 where
-  pub rose : Rose old.faults new.faults ⊎ GivesUp input old
-  pub cause : ((making_listed input old.listed ≡ true) ⊎ Rose old.behind new.behind) ⊎ GivesUp input old
+pub record FaultsInMaking {P : Type 0} (told : P → Told) (input : Input) (old new : MakerTold) : Type 0 where
+  pub rose : Rose old.faults new.faults ⊎ GivesUp told input old
+  pub cause : ((making_listed input old.listed ≡ true) ⊎ Rose old.behind new.behind) ⊎ GivesUp told input old
   pub planned : IfSome old.plan (λ plan. start_listed input plan ≡ true)
 
 -- No region or image could be made by a maker with the input's faults before it: the input lists a making, the maker's own
 -- count of faults rose, or a region was given up. And where the maker with the input's faults tells its plan, that lists a
 -- call that makes one.
-pub record HasFaultedMaking (input : Input) (old new : MakerTold) : Type 0 where
-  pub cause : ((making_listed input (planned_faults input.faults) ≡ true) ⊎ Rose old.faults new.faults) ⊎ GivesUp input (with_faults input old)
+pub record HasFaultedMaking {P : Type 0} (told : P → Told) (input : Input) (old new : MakerTold) : Type 0 where
+  pub cause : ((making_listed input (planned_faults input.faults) ≡ true) ⊎ Rose old.faults new.faults) ⊎ GivesUp told input (with_faults input old)
   pub planned : IfSome (with_faults input old).plan (λ plan. start_listed input plan ≡ true)

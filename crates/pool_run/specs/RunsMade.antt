@@ -16,6 +16,7 @@ use Rattle.pool_run.specs.declared.input.PartyLimits.{PartyLimits}
 use Rattle.pool_run.specs.declared.reply.Reply.{Reply}
 use Rattle.pool_run.specs.declared.running_party.RunningParty.{RunningParty}
 use Rattle.pool_run.specs.declared.slot_lists.SlotLists.{SlotLists}
+use Rattle.pool_slots.specs.declared.listed_heaps.PlainHeap.{PlainHeap}
 
 -- the commands of each party
 abbrev pub commands_in : List Party → List (List Command)
@@ -51,18 +52,19 @@ is_drawing _ = false
 
 module _ {P : Type 0} where
   -- a party as it is made, with places for so many commands
-  abbrev pub party_made : ℕ → Option PartyLimits → List ℕ → Settings → ℕ → RunningParty P
-  party_made home limits failing s places = record {
+  abbrev pub party_made : ℕ → Option PartyLimits → List ℕ → List ℕ → Settings → ℕ → RunningParty P
+  party_made home limits failing unmade s places = record {
     frame = frame_made home s;
     limits = limits;
     store = record { failing = failing; made = 0; faults = 0 };
+    heaps = record { failing = unmade; made = 0; faults = 0 };
     keyed = false;
     done = 0;
     live = replicate places None;
   }
 
   abbrev pub party_made_for : Settings → Party → RunningParty P
-  party_made_for s p = party_made p.home p.limits p.gc_faults s (length p.commands)
+  party_made_for s p = party_made p.home p.limits p.gc_faults p.heap_faults s (length p.commands)
 
   abbrev pub parties_made : Settings → List Party → List (RunningParty P)
   parties_made s parties = map (party_made_for s) parties
@@ -73,7 +75,7 @@ module _ {P : Type 0} where
 
   -- Each slot and each region is in one place, the counters count what is granted or under way, and can count on, and no
   -- more instances are granted than there may be. No party is about to draw its stripe, since it does so in one turn.
-  pub record IsKept (c : PoolCore P) (parties : List (RunningParty P)) : Type 0 where
+  pub record IsKept (c : PoolCore P PlainHeap) (parties : List (RunningParty P)) : Type 0 where
     pub whole : IsPartitioned held_by_party c parties
     pub within : IsWithinCounts c parties
     pub few : places_in parties + 1 < 2 ^ 64

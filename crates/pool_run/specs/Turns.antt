@@ -1,5 +1,5 @@
 -- A turn of a party in a run: the next step of its call, or the first step of its next command.
-use Rattle.std.specs.Prelude.{◌≡◌, ℕ, ◌+◌, ◌*◌, List, [], ◌∷◌, ◌++◌, length, map, replicate, nat_le, nat_lt, slice_get, slice_index_or, slice_range, slice_set, ◌⊎◌, Bool, true, false, if◌then◌else◌, Option, Some, None, option_map}
+use Rattle.std.specs.Prelude.{◌≡◌, ℕ, ◌+◌, ◌*◌, ◌<◌, List, [], ◌∷◌, ◌++◌, length, map, replicate, ◌==◌, nat_le, nat_lt, slice_get, slice_index_or, slice_range, slice_set, ◌⊎◌, Bool, true, false, if◌then◌else◌, Option, Some, None, option_map}
 use Rattle.std.specs.List.{concat}
 use Rattle.pool_pages.specs.Told.{Told, overwritten, risen}
 use Rattle.pool_limits.specs.Growth.{GrowthRule}
@@ -7,15 +7,20 @@ use Rattle.pool_limits.specs.LimiterTold.{LimiterTold}
 use Rattle.pool_limits.specs.declared.errors.GrowError.TheVariants.{PageFault}
 use Rattle.pool_memory.specs.Growing.{InPlace, FailsInPlace, IsCallPlanned}
 use Rattle.pool_memory.specs.Memories.{MemoryState, bytes_of, memory_written}
+use Rattle.pool_slots.specs.HeapsTold.{HeapsTold, listed_heaps}
 use Rattle.pool_slots.specs.declared.errors.AllocError.TheVariants as alloc
+use Rattle.pool_slots.specs.declared.listed_heaps.ListedHeaps.{ListedHeaps}
 use Rattle.pool_table.specs.Elements.{ElementKind, Element, width, word, type_of}
 use Rattle.pool_table.specs.declared.gc_store.ListedStore.{ListedStore}
 use Rattle.pool_alloc.specs.Leases.{Lease, IsUsable}
+use Rattle.pool_alloc.specs.PartyTold.{PartyTold}
 use Rattle.pool_alloc.specs.TableLeases.{LeasedTable, LiesInRegion}
 use Rattle.pool_alloc.specs.Reserved.{no_room}
 use Rattle.pool_alloc.specs.StackLeases.{LeasedStack}
+use Rattle.pool_alloc.specs.HeapLeases.{LeasedHeap}
 use Rattle.pool_images.specs.Slots.{Slot}
-use Rattle.pool_slots.specs.PlainSlots.{plain_written}
+use Rattle.pool_slots.specs.PlainSlots.{StackState, plain_written}
+use Rattle.pool_slots.specs.declared.listed_heaps.PlainHeap.{PlainHeap}
 use Rattle.pool_alloc.specs.Calls.{begun_call}
 use Rattle.pool_alloc.specs.Turns.{After}
 use Rattle.pool_alloc.specs.Stepping.{StepsTo, is_idle}
@@ -25,19 +30,19 @@ use Rattle.pool_alloc.specs.Asked.{ModuleAsked}
 use Rattle.pool_alloc.specs.declared.frame.Call.{Call}
 use Rattle.pool_alloc.specs.declared.frame.Call.TheVariants as call
 use Rattle.pool_alloc.specs.declared.frame.Grant.{Grant}
-use Rattle.pool_alloc.specs.declared.frame.Grant.TheVariants.{Instance as instance, Component as component, Stack as stack}
+use Rattle.pool_alloc.specs.declared.frame.Grant.TheVariants.{Instance as instance, Component as component, Stack as stack, Heap as heap}
 use Rattle.pool_alloc.specs.declared.frame.Outcome.{Outcome}
 use Rattle.pool_alloc.specs.declared.frame.Outcome.TheVariants as answer
 use Rattle.pool_run.specs.PartyRules.{rule_of, host_of}
 use Rattle.pool_run.specs.PrivateStacks.{ReadsBytes, PrivateStack}
 use Rattle.pool_run.specs.PrivateTables.{Host, PrivateTable, StoredTable, TableMoves, elements_set}
 use Rattle.pool_run.specs.TableValues.{element_for}
-use Rattle.pool_run.specs.Private.{PrivateMemory, PrivateGrant, instance_grant, component_grant, stack_grant, Grants, IsRead, GrowthEnd, as_it_was, could_not, has_grown, growth, size_wanted, memory_grown}
+use Rattle.pool_run.specs.Private.{PrivateMemory, PrivateGrant, instance_grant, component_grant, stack_grant, heap_grant, Grants, IsRead, GrowthEnd, as_it_was, could_not, has_grown, growth, size_wanted, memory_grown}
 use Rattle.pool_run.specs.Objects.{Objects, MovesObject, object_at}
-use Rattle.pool_run.specs.Acts.{MemoryOp, reads, writes, fills, grows, asks_size, TableOp, sets, Act, requests, on_memory, on_table, drops, purges, releases, act_of, Wanted, an_instance, a_component, a_stack}
+use Rattle.pool_run.specs.Acts.{MemoryOp, reads, writes, fills, grows, asks_size, TableOp, sets, Act, requests, on_memory, on_table, drops, purges, releases, act_of, Wanted, an_instance, a_component, a_stack, a_heap, heap_type}
 use Rattle.pool_run.specs.declared.command.Command.{Command}
 use Rattle.pool_run.specs.declared.reply.Reply.{Reply}
-use Rattle.pool_run.specs.declared.reply.Reply.TheVariants.{Instance, Done, Size, Returned, Purged, Released, Refused, Trap as trapped, Component, Stack, Grown}
+use Rattle.pool_run.specs.declared.reply.Reply.TheVariants.{Instance, Done, Size, Returned, Purged, Released, Refused, Trap as trapped, Component, Stack, Heap, Grown}
 use Rattle.pool_limits.specs.declared.errors.Trap.TheVariants.{MemoryOutOfBounds}
 use Rattle.pool_run.specs.declared.reply.Refusal.TheVariants.{NoSuchGrant, GcStoreFault, Alloc}
 use Rattle.pool_run.specs.declared.running_party.RunningParty.{RunningParty}
@@ -87,23 +92,27 @@ LeaseMoves asks_size rule l new reply = (reply ≡ Size l.memory.linear.size) ×
 abbrev pub stack_bytes : Slot → Option (List ℕ)
 stack_bytes slot = option_map (λ c. slice_range c.bytes slot.base.bytes (slot.base.bytes + slot.static_size)) slot.region.contents
 
--- the stack in a slot, as the party sees it
+-- the stack as the party sees it
+abbrev pub seen_stack : StackState → PrivateStack
+seen_stack s = record { slot = s.index; size = s.slot.static_size; bytes = stack_bytes s.slot }
+
 abbrev pub private_stack : LeasedStack → PrivateStack
-private_stack l = record { slot = l.stack.index; size = l.stack.slot.static_size; bytes = stack_bytes l.stack.slot }
+private_stack l = seen_stack l.stack
 
 -- the stack after a write of these bytes, and the reply
-abbrev pub StackLeaseWrites : ℕ → List ℕ → LeasedStack → LeasedStack → Reply → Type 0
-StackLeaseWrites at bytes l new reply =
-    ◌≡◌ {A = LeasedStack × Reply} (new, reply)
-    (if nat_le (at + length bytes) l.stack.slot.static_size then (record l { stack = record l.stack { slot = plain_written at bytes l.stack.slot } }, Done) else (l, trapped MemoryOutOfBounds))
+abbrev pub StackStateWrites : ℕ → List ℕ → StackState → StackState → Reply → Type 0
+StackStateWrites at bytes s new reply = ◌≡◌ {A = StackState × Reply} (new, reply) (if nat_le (at + length bytes) s.slot.static_size then (record s { slot = plain_written at bytes s.slot }, Done) else (s, trapped MemoryOutOfBounds))
 
--- what an operation makes of a stack that was granted, and the reply
+-- what an operation makes of a stack, and the reply; and of a stack that was granted
+abbrev pub StackStateMoves : MemoryOp → StackState → StackState → Reply → Type 0
+StackStateMoves (reads at len) s new reply = ReadsBytes (seen_stack s).size (seen_stack s).bytes at len reply × (new ≡ s)
+StackStateMoves (writes at bytes) s new reply = StackStateWrites at bytes s new reply
+StackStateMoves (fills at len byte) s new reply = StackStateWrites at (replicate len byte) s new reply
+StackStateMoves (grows pages) s new reply = (reply ≡ Grown None) × (new ≡ s)
+StackStateMoves asks_size s new reply = (reply ≡ Size s.slot.static_size) × (new ≡ s)
+
 abbrev pub StackLeaseMoves : MemoryOp → LeasedStack → LeasedStack → Reply → Type 0
-StackLeaseMoves (reads at len) l new reply = ReadsBytes (private_stack l).size (private_stack l).bytes at len reply × (new ≡ l)
-StackLeaseMoves (writes at bytes) l new reply = StackLeaseWrites at bytes l new reply
-StackLeaseMoves (fills at len byte) l new reply = StackLeaseWrites at (replicate len byte) l new reply
-StackLeaseMoves (grows pages) l new reply = (reply ≡ Grown None) × (new ≡ l)
-StackLeaseMoves asks_size l new reply = (reply ≡ Size l.stack.slot.static_size) × (new ≡ l)
+StackLeaseMoves op l new reply = StackStateMoves op l.stack new.stack reply × (new ≡ record l { stack = new.stack })
 
 -- the table in a slot, as the party sees it
 abbrev pub private_table : LeasedTable → PrivateTable
@@ -126,6 +135,10 @@ region_left (sets first count value) failing t r =
     else region_set first (elements_set t.table.kind failing t.calls count) (element_for (type_of t.table.kind) value) t.table.kind r
 region_left _ failing t r = r
 
+-- what a maker of heaps with a list of failing makings tells
+abbrev pub heaps_told : ListedHeaps → HeapsTold
+heaps_told m = listed_heaps m.failing m.made m.faults
+
 -- the count of faults of a store after a reply
 abbrev pub faults_left : Reply → ℕ → ℕ
 faults_left (Refused GcStoreFault) faults = risen faults
@@ -135,7 +148,7 @@ faults_left _ faults = faults
 -- lies where it lay.
 pub record MovesTable (op : TableOp) (rule : GrowthRule) (before after : ListedStore) (l new : LeasedTable) (reply : Reply) : Type 0 where
   pub same : new ≡ record l { table = new.table }
-  pub move : TableMoves op (record { rule = rule; failing = before.failing }) (stored_as l before) (stored_as new after) reply
+  pub move : TableMoves op (record { rule = rule; failing = before.failing; unmade = [] }) (stored_as l before) (stored_as new after) reply
   pub region : new.table.region ≡ option_map (region_left op before.failing (stored_as l before)) l.table.region
   pub lies : (new.table ≡ l.table) ⊎ LiesInRegion new.table
   pub store : after ≡ record before { made = after.made; faults = faults_left reply before.faults }
@@ -151,7 +164,7 @@ with_reply (Some reply) before = before ++ reply ∷ []
 
 -- what a turn leaves, and the reply to the command that ends with it
 pub record Turned (P : Type 0) : Type 0 where
-  pub core : PoolCore P
+  pub core : PoolCore P PlainHeap
   pub party : RunningParty P
   pub reply : Option Reply
 
@@ -159,45 +172,53 @@ pub record Turned (P : Type 0) : Type 0 where
 -- live grants and this store; or a step of a call, from this frame and beside these live grants.
 pub data Opening (P : Type 0) : Type 0 where
   rests : Opening P
-  replies : Reply → List (Option (Grant P)) → ListedStore → Opening P
-  makes_step : Frame P → List (Option (Grant P)) → Opening P
+  replies : Reply → List (Option (Grant P PlainHeap)) → ListedStore → Opening P
+  makes_step : Frame P PlainHeap → List (Option (Grant P PlainHeap)) → Opening P
 
 module _ {P : Type 0} where
-  abbrev pub private_grant : Grant P → PrivateGrant
+  abbrev pub private_grant : Grant P PlainHeap → PrivateGrant
   private_grant (instance lease) = instance_grant (record { memories = map private_memory lease.memories.items; tables = map private_table lease.tables.items })
   private_grant component = component_grant
   private_grant (stack lease) = stack_grant (private_stack lease)
+  private_grant (heap lease memory) = heap_grant lease.index (private_memory memory)
 
-  abbrev pub grants_of : List (Option (Grant P)) → Grants
+  abbrev pub grants_of : List (Option (Grant P PlainHeap)) → Grants
   grants_of live = map (option_map private_grant) live
 
-  abbrev pub leases_of : Grant P → List Lease
+  abbrev pub leases_of : Grant P PlainHeap → List Lease
   leases_of (instance lease) = lease.memories.items
+  leases_of (heap lease memory) = memory ∷ []
   leases_of _ = []
 
-  abbrev pub tables_of : Grant P → List LeasedTable
+  abbrev pub tables_of : Grant P PlainHeap → List LeasedTable
   tables_of (instance lease) = lease.tables.items
   tables_of _ = []
 
+  -- the memories whose slots the reply to a request lists
+  abbrev pub leases_listed : Grant P PlainHeap → List Lease
+  leases_listed (instance lease) = lease.memories.items
+  leases_listed _ = []
+
   -- the command ends with this reply
-  abbrev pub ended_with : Reply → PoolCore P → RunningParty P → Turned P
+  abbrev pub ended_with : Reply → PoolCore P PlainHeap → RunningParty P → Turned P
   ended_with reply c p = record { core = c; party = record p { done = p.done + 1 }; reply = Some reply }
 
   -- its first step was its last
-  abbrev pub one_step : Frame P → Frame P
+  abbrev pub one_step : Frame P PlainHeap → Frame P PlainHeap
   one_step f = record f { step_count = 1 }
 
-  abbrev pub ended_at_once : Reply → PoolCore P → RunningParty P → Turned P
+  abbrev pub ended_at_once : Reply → PoolCore P PlainHeap → RunningParty P → Turned P
   ended_at_once reply c p = ended_with reply c (record p { frame = one_step p.frame })
 
   -- the reply to a request that was granted
-  abbrev pub granted_reply : Grant P → Reply
+  abbrev pub granted_reply : Grant P PlainHeap → Reply
   granted_reply (instance lease) = Instance (map (λ l. l.index) lease.memories.items) (map (λ l. l.index) lease.tables.items)
   granted_reply component = Component
   granted_reply (stack lease) = Stack lease.stack.index
+  granted_reply (heap lease memory) = Heap lease.index memory.index
 
   -- a call's answer, as the party takes it
-  abbrev pub answered : Option (Outcome P) → PoolCore P → RunningParty P → Turned P
+  abbrev pub answered : Option (Outcome P PlainHeap) → PoolCore P PlainHeap → RunningParty P → Turned P
   answered None c p = record { core = c; party = p; reply = None }
   answered (Some answer.Key) c p = record { core = c; party = record p { keyed = true }; reply = None }
   answered (Some (answer.Granted grant)) c p = ended_with (granted_reply grant) c (record p { live = slice_set p.live p.done (Some grant) })
@@ -207,62 +228,79 @@ module _ {P : Type 0} where
   answered (Some (answer.Refused e)) c p = ended_with (Refused (Alloc e)) c p
 
   -- the lists for the slots of what is asked for: its grant's reply takes them
-  abbrev pub slots_after : Option (Outcome P) → SlotLists → SlotLists
+  abbrev pub slots_after : Option (Outcome P PlainHeap) → SlotLists → SlotLists
   slots_after (Some (answer.Granted grant)) slots = no_lists
   slots_after _ slots = slots
 
-  abbrev pub after_step : After P → RunningParty P → Turned P
+  abbrev pub after_step : After P PlainHeap → RunningParty P → Turned P
   after_step a p = answered a.outcome a.core (record p { frame = a.frame })
 
-  -- a step of a call, where a limiter decides by this rule
-  abbrev pub StepsUnder : GrowthRule → PoolCore P → Frame P → After P → Type 0
-  StepsUnder rule c f a = (asked : LimiterTold) × (left : LimiterTold) × (asked.rule ≡ Some rule) × StepsTo asked left c f a
+  -- a step of a call, where a limiter decides by this rule, and whose maker of heaps was in one state before and is in the other
+  -- after
+  abbrev pub StepsUnder : GrowthRule → ListedHeaps → ListedHeaps → PoolCore P PlainHeap → Frame P PlainHeap → After P PlainHeap → Type 0
+  StepsUnder rule before after c f a =
+      (asked : PartyTold) × (left : PartyTold) × (asked.limiter.rule ≡ Some rule) × StepsTo asked left c f a × (asked.heaps ≡ heaps_told before) × (left.heaps ≡ heaps_told after)
 
   -- the party's call makes its next step
-  abbrev pub Steps : PoolCore P → RunningParty P → Turned P → Type 0
-  Steps c p t = (a : After P) × StepsUnder (rule_of p.limits) c p.frame a × (t ≡ after_step a p)
+  abbrev pub Steps : PoolCore P PlainHeap → RunningParty P → Turned P → Type 0
+  Steps c p t = (a : After P PlainHeap) × StepsUnder (rule_of p.limits) p.heaps t.party.heaps c p.frame a × (t ≡ after_step a (record p { heaps = t.party.heaps }))
 
   -- the leases of the tables of a grant
-  abbrev pub with_table_lease : ℕ → LeasedTable → Grant P → Grant P
+  abbrev pub with_table_lease : ℕ → LeasedTable → Grant P PlainHeap → Grant P PlainHeap
   with_table_lease k l (instance lease) = instance (record lease { tables = record lease.tables { items = slice_set lease.tables.items k l } })
   with_table_lease k l grant = grant
 
-  abbrev pub table_leases : Objects (Grant P) LeasedTable
+  abbrev pub table_leases : Objects (Grant P PlainHeap) LeasedTable
   table_leases = record { in_grant = tables_of; put_in = with_table_lease }
 
   -- what the host answers the party
   abbrev pub host_of_party : RunningParty P → Host
-  host_of_party p = host_of p.limits p.store.failing
+  host_of_party p = host_of p.limits p.store.failing p.heaps.failing
 
   -- the leases of the memories of a grant
-  abbrev pub with_lease : ℕ → Lease → Grant P → Grant P
+  abbrev pub with_lease : ℕ → Lease → Grant P PlainHeap → Grant P PlainHeap
   with_lease k l (instance lease) = instance (record lease { memories = record lease.memories { items = slice_set lease.memories.items k l } })
+  with_lease k l (heap lease old) = heap lease (if k == 0 then l else old)
   with_lease k l grant = grant
 
-  abbrev pub memory_leases : Objects (Grant P) Lease
+  abbrev pub memory_leases : Objects (Grant P PlainHeap) Lease
   memory_leases = record { in_grant = leases_of; put_in = with_lease }
 
-  -- a call that asks for no grant, and takes none of the party's along
-  abbrev pub IsPlain : Call P → Type 0
-  IsPlain call.Key = Unit {0}
-  IsPlain (call.Purge id) = Unit {0}
-  IsPlain call.Release = Unit {0}
-  IsPlain _ = ⊥
+  -- a call that takes none of the party's grants along, and the reply to which lists no slots; a heap's memory has pages of less
+  -- than 2 ^ 64 bytes
+  abbrev pub IsPlain : Call P PlainHeap → Type 0
+  IsPlain (call.Module m) = ⊥
+  IsPlain (call.GiveBack grant) = ⊥
+  IsPlain (call.Heap ty) = ty.page_size_log2 < 64
+  IsPlain _ = Unit {0}
+
+  -- it asks for a grant
+  abbrev pub asks_grant : Call P PlainHeap → Bool
+  asks_grant (call.Module m) = true
+  asks_grant (call.Component info) = true
+  asks_grant call.Stack = true
+  asks_grant (call.Heap ty) = true
+  asks_grant _ = false
 
   -- a stack is the only one of its grant
-  abbrev pub stack_of : Grant P → List LeasedStack
+  abbrev pub stack_of : Grant P PlainHeap → List LeasedStack
   stack_of (stack lease) = lease ∷ []
   stack_of _ = []
 
-  abbrev pub with_stack_lease : ℕ → LeasedStack → Grant P → Grant P
+  -- and so is a heap
+  abbrev pub heap_of : Grant P PlainHeap → List (LeasedHeap PlainHeap)
+  heap_of (heap lease memory) = lease ∷ []
+  heap_of _ = []
+
+  abbrev pub with_stack_lease : ℕ → LeasedStack → Grant P PlainHeap → Grant P PlainHeap
   with_stack_lease k l (stack lease) = stack l
   with_stack_lease k l grant = grant
 
-  abbrev pub stack_leases : Objects (Grant P) LeasedStack
+  abbrev pub stack_leases : Objects (Grant P PlainHeap) LeasedStack
   stack_leases = record { in_grant = stack_of; put_in = with_stack_lease }
 
   -- an operation on bytes of the grant of command `of`, where this is that grant
-  abbrev pub MovesLeasedBytes : MemoryOp → GrowthRule → Option (Grant P) → ℕ → ℕ → List (Option (Grant P)) → Reply → List (Option (Grant P)) → Type 0
+  abbrev pub MovesLeasedBytes : MemoryOp → GrowthRule → Option (Grant P PlainHeap) → ℕ → ℕ → List (Option (Grant P PlainHeap)) → Reply → List (Option (Grant P PlainHeap)) → Type 0
   MovesLeasedBytes op rule (Some (stack lease)) of k = MovesObject stack_leases (StackLeaseMoves op) of k
   MovesLeasedBytes op rule _ of k = MovesObject memory_leases (LeaseMoves op rule) of k
 
@@ -278,9 +316,10 @@ module _ {P : Type 0} where
   OpensWanted modules (an_instance number) p o = OpensRequest (slice_get modules number) p o
   OpensWanted modules (a_component info) p o = o ≡ makes_step (begun_call (call.Component info) p.frame) p.live
   OpensWanted modules a_stack p o = o ≡ makes_step (begun_call call.Stack p.frame) p.live
+  OpensWanted modules (a_heap limits) p o = o ≡ makes_step (begun_call (call.Heap (heap_type limits)) p.frame) p.live
 
   -- a grant that the party gives back is no longer one of its live ones
-  abbrev pub drop_opening : Option (Grant P) → ℕ → RunningParty P → Opening P
+  abbrev pub drop_opening : Option (Grant P PlainHeap) → ℕ → RunningParty P → Opening P
   drop_opening None of p = replies (Refused NoSuchGrant) p.live p.store
   drop_opening (Some grant) of p = makes_step (begun_call (call.GiveBack grant) p.frame) (slice_set p.live of None)
 
@@ -293,9 +332,9 @@ module _ {P : Type 0} where
   abbrev pub OpensAct : List ModuleAsked → Act → RunningParty P → Opening P → Type 0
   OpensAct modules (requests wanted) p o = OpensWanted modules wanted p o
   OpensAct modules (on_memory of k op) p o =
-      (reply : Reply) × (live : List (Option (Grant P))) × MovesLeasedBytes op (rule_of p.limits) (slice_index_or p.live of None) of k p.live reply live × (o ≡ replies reply live p.store)
+      (reply : Reply) × (live : List (Option (Grant P PlainHeap))) × MovesLeasedBytes op (rule_of p.limits) (slice_index_or p.live of None) of k p.live reply live × (o ≡ replies reply live p.store)
   OpensAct modules (on_table of k op) p o =
-      (reply : Reply) × (live : List (Option (Grant P))) × (store : ListedStore) × MovesObject table_leases (MovesTable op (rule_of p.limits) p.store store) of k p.live reply live
+      (reply : Reply) × (live : List (Option (Grant P PlainHeap))) × (store : ListedStore) × MovesObject table_leases (MovesTable op (rule_of p.limits) p.store store) of k p.live reply live
       × (object_at table_leases of k p.live ≡ None → store ≡ p.store) × (o ≡ replies reply live store)
   OpensAct modules (drops of) p o = o ≡ drop_opening (slice_index_or p.live of None) of p
   OpensAct modules (purges number) p o = OpensPurge (slice_get modules number) p o
@@ -313,14 +352,14 @@ module _ {P : Type 0} where
   OpensAt false modules commands p o = o ≡ makes_step p.frame p.live
 
   -- what a turn leaves that opens so
-  abbrev pub Leaves : Opening P → PoolCore P → RunningParty P → Turned P → Type 0
+  abbrev pub Leaves : Opening P → PoolCore P PlainHeap → RunningParty P → Turned P → Type 0
   Leaves rests c p t = t ≡ record { core = c; party = p; reply = None }
   Leaves (replies reply live store) c p t = t ≡ ended_at_once reply c (record p { live = live; store = store })
   Leaves (makes_step frame live) c p t = Steps c (record p { frame = frame; live = live }) t
 
-  abbrev pub TurnsFrom : (Opening P → Type 0) → PoolCore P → RunningParty P → Turned P → Type 0
+  abbrev pub TurnsFrom : (Opening P → Type 0) → PoolCore P PlainHeap → RunningParty P → Turned P → Type 0
   TurnsFrom Opens c p t = (o : Opening P) × Opens o × Leaves o c p t
 
   -- a turn of a party
-  abbrev pub Turns : List ModuleAsked → List Command → PoolCore P → RunningParty P → Turned P → Type 0
+  abbrev pub Turns : List ModuleAsked → List Command → PoolCore P PlainHeap → RunningParty P → Turned P → Type 0
   Turns modules commands c p t = TurnsFrom (OpensAt (is_idle p.frame.phase) modules commands p) c p t

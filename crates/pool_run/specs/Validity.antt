@@ -9,7 +9,7 @@ use Rattle.pool_pages.specs.declared.module_types.Part.{Part}
 use Rattle.pool_pages.specs.declared.table_type.TableType.{TableType}
 use Rattle.pool_alloc.specs.Refusals.{instance_size}
 use Rattle.pool_run.specs.TableValues.{is_value_of}
-use Rattle.pool_run.specs.Acts.{MemoryOp, reads, writes, TableOp, sets, Act, requests, on_memory, on_table, drops, purges, releases, act_of, act_at, grows, Wanted, an_instance, a_stack}
+use Rattle.pool_run.specs.Acts.{MemoryOp, reads, writes, TableOp, sets, Act, requests, on_memory, on_table, drops, purges, releases, act_of, act_at, grows, Wanted, an_instance, a_stack, a_heap}
 use Rattle.pool_run.specs.declared.command.Command.{Command}
 use Rattle.pool_run.specs.declared.input.Input.{Input}
 use Rattle.pool_run.specs.declared.input.Party.{Party}
@@ -66,10 +66,12 @@ abbrev pub is_on_stack : MemoryOp → ℕ → Bool
 is_on_stack (grows pages) place = false
 is_on_stack _ place = place == 0
 
--- Command `of` of the earlier ones requests a grant that has this memory, or a stack, on which the operation can be one.
+-- Command `of` of the earlier ones requests a grant that has this memory, or a stack, on which the operation can be one. A
+-- heap has one memory.
 abbrev pub grants_bytes : List ModuleInfo → MemoryOp → ℕ → Option Act → Bool
 grants_bytes modules op place (Some (requests (an_instance number))) = has_memory (slice_get modules number) place
 grants_bytes modules op place (Some (requests a_stack)) = is_on_stack op place
+grants_bytes modules op place (Some (requests (a_heap limits))) = place == 0
 grants_bytes modules op place _ = false
 
 abbrev pub names_memory : List ModuleInfo → List Command → MemoryOp → ℕ → ℕ → Bool
@@ -118,11 +120,13 @@ abbrev pub are_valid_after : List ModuleInfo → List Command → List Command �
 are_valid_after modules earlier [] = true
 are_valid_after modules earlier (command ∷ rest) = is_valid_act modules earlier (act_of command) && are_valid_after modules (earlier ++ command ∷ []) rest
 
--- its home is one of those that there are, the calls on its store are numbered from 1 on, and its commands are valid one
--- after another
+-- its home is one of those that there are, the calls on its store and its makings of heaps are numbered from 1 on, and its
+-- commands are valid one after another
 abbrev pub is_valid_party : List ModuleInfo → Party → Bool
 is_valid_party modules party =
-    list_all (nat_lt 0) party.gc_faults && (nat_lt party.home homes && (nat_le (length party.commands) most_commands && are_valid_after modules [] party.commands))
+    list_all (nat_lt 0) party.gc_faults
+    && (list_all (nat_lt 0) party.heap_faults
+    && (nat_lt party.home homes && (nat_le (length party.commands) most_commands && are_valid_after modules [] party.commands)))
 
 -- each step is one of a party that there is, of so many parties
 abbrev pub is_valid_schedule : ℕ → List ScheduleEntry → Bool

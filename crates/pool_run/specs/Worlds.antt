@@ -2,9 +2,12 @@
 -- for its memories and their images.
 use Rattle.std.specs.Prelude.{◌≡◌, ℕ, ◌+◌, ◌-◌, ◌*◌, ◌<◌, List, length, slice_get, true, Some, IfSome}
 use Rattle.std.specs.Int.{div_ceil}
-use Rattle.pool_hall.specs.declared.unit_name.SlotKind.TheVariants.{Table as table_kind, Stack as stack_kind}
+use Rattle.pool_hall.specs.declared.unit_name.SlotKind.{SlotKind}
+use Rattle.pool_hall.specs.declared.unit_name.SlotKind.TheVariants.{Table as table_kind, Stack as stack_kind, Heap as heap_kind}
 use Rattle.pool_slots.specs.Plans.{has_number}
+use Rattle.pool_slots.specs.SlotNames.{of_kind}
 use Rattle.pool_slots.specs.declared.plan.Plan.{Plan}
+use Rattle.pool_slots.specs.declared.listed_heaps.PlainHeap.{PlainHeap}
 use Rattle.pool_alloc.specs.Modules.{HasImages}
 use Rattle.pool_alloc.specs.Steps.{memories_wanted, images_wanted, memory_slots, stripe_allocator, allocator_of}
 use Rattle.pool_alloc.specs.Sound.{AreImagesOf}
@@ -28,14 +31,14 @@ pub record HasStripes (slots stripes : ℕ) (plan : Plan) : Type 0 where
   pub room : (s : ℕ) → s < stripes → (stripe_allocator plan s).capacity ≡ div_ceil (slots - s) stripes
   pub each : (s j : ℕ) → s < stripes → j < div_ceil (slots - s) stripes → has_number (stripe_allocator plan s) (s + j * stripes) ≡ true
 
--- and so many are all its slots for tables, which have one allocator
-pub record HasTables (slots : ℕ) (plan : Plan) : Type 0 where
-  pub total : slots ≡ plan.totals.table
-  pub room : (allocator_of plan table_kind 0).capacity ≡ slots
-  pub each : (slot : ℕ) → slot < slots → has_number (allocator_of plan table_kind 0) slot ≡ true
+-- and so many are all its slots of a kind other than a memory's, which have one allocator
+pub record HasSlots (kind : SlotKind) (slots : ℕ) (plan : Plan) : Type 0 where
+  pub total : slots ≡ of_kind kind plan.totals
+  pub room : (allocator_of plan kind 0).capacity ≡ slots
+  pub each : (slot : ℕ) → slot < slots → has_number (allocator_of plan kind 0) slot ≡ true
 
 -- its stacks are these, which have one allocator
-pub record HasStacks {P : Type 0} (t : StackTerms) (c : PoolCore P) : Type 0 where
+pub record HasStacks {P : Type 0} (t : StackTerms) (c : PoolCore P PlainHeap) : Type 0 where
   pub total : t.slots ≡ c.plan.totals.stack
   pub room : (allocator_of c.plan stack_kind 0).capacity ≡ t.slots
   pub each : (slot : ℕ) → slot < t.slots → has_number (allocator_of c.plan stack_kind 0) slot ≡ true
@@ -43,11 +46,12 @@ pub record HasStacks {P : Type 0} (t : StackTerms) (c : PoolCore P) : Type 0 whe
   pub zeroing : t.zeroing ≡ c.settings.stack_zeroing
 
 -- the pool has the settings and as many slots as the world says, in as many stripes
-pub record IsWorldOf {P : Type 0} (w : World) (c : PoolCore P) : Type 0 where
+pub record IsWorldOf {P : Type 0} (w : World) (c : PoolCore P PlainHeap) : Type 0 where
   pub tells : w.terms.tells ≡ w.maker.tells
   pub settings : w.terms.settings ≡ c.settings
   pub plan : HasStripes w.terms.slots w.terms.settings.num_stripes c.plan
-  pub tables : HasTables w.terms.table_slots c.plan
+  pub tables : HasSlots table_kind w.terms.table_slots c.plan
+  pub heaps : HasSlots heap_kind w.terms.heap_slots c.plan
   pub stacks : HasStacks w.terms.stacks c
 
 -- the images that are given are those of the module's memories

@@ -1,9 +1,9 @@
 ghost use Rattle.std.specs.Prelude.{◌≡◌};
-ghost use Rattle.pool_run.specs.Acts.{act_of};
+ghost use Rattle.pool_run.specs.Acts.{act_of, heap_type};
 ghost use Rattle.pool_run.specs.AtOnce.{given_act};
 
 use crate::command::{Command, TableValue};
-use pool_pages::ComponentInfo;
+use pool_pages::{ComponentInfo, IndexType, Limits, MemoryType};
 
 /// What a command does with a memory of a live grant.
 #[derive(Drop)]
@@ -39,6 +39,8 @@ pub(crate) enum Wanted {
     Instance { module: usize },
     Component(ComponentInfo),
     Stack,
+    /// A heap whose memory has so many pages of 64 KiB.
+    Heap(Limits),
 }
 
 /// What a command does: commands that do alike have one case.
@@ -70,6 +72,18 @@ pub(crate) enum Act<'a> {
     Release,
 }
 
+/// The type of a heap's memory with these limits, in pages of 64 KiB.
+pub(crate) fn heap_type(limits: Limits) -> MemoryType
+    ensures { result ≡ heap_type limits }
+{
+    MemoryType {
+        idx_type: IndexType::I32,
+        limits,
+        shared: false,
+        page_size_log2: 16,
+    }
+}
+
 /// What the command does.
 pub(crate) fn act_of(command: &Command) -> Act<'_>
     ensures { given_act result ≡ act_of command.now }
@@ -90,6 +104,10 @@ pub(crate) fn act_of(command: &Command) -> Act<'_>
             own_bytes: *own_bytes,
         })),
         Command::Stack => Act::Request(Wanted::Stack),
+        Command::Heap { min, max } => Act::Request(Wanted::Heap(Limits {
+            min: *min,
+            max: *max,
+        })),
         Command::Read {
             of,
             memory,

@@ -1,13 +1,13 @@
 ghost use Rattle.std.specs.Prelude.{◌≡◌, ◌+◌, ◌<◌, length, nat_le, replicate, slice_get, slice_index_or, None};
 ghost use Rattle.pool_alloc.specs.Leases.{IsChanged};
 ghost use Rattle.pool_alloc.specs.declared.frame.Grant.TheVariants.{Instance as instance};
-ghost use Rattle.pool_run.specs.AtOnce.{given_op, GrowsUnder, MovesGrantBytes, MovesStackBytes, MovesTakenBytes};
+ghost use Rattle.pool_run.specs.AtOnce.{given_op, GrowsUnder, MovesGrantBytes, MovesOnly, MovesTakenBytes};
 ghost use Rattle.pool_run.specs.PartyRules.{rule_of};
 ghost use Rattle.pool_run.specs.PrivateStacks.{ReadsBytes};
 ghost use Rattle.pool_run.specs.Objects.{MovesNamed};
 ghost use Rattle.pool_run.specs.Private.{IsRead};
 ghost use Rattle.pool_run.specs.declared.reply.Reply.TheVariants.{Size};
-ghost use Rattle.pool_run.specs.Turns.{LeaseMoves, with_lease, private_memory, private_stack, StackLeaseMoves, StackLeaseWrites, MovesLeasedBytes};
+ghost use Rattle.pool_run.specs.Turns.{LeaseMoves, with_lease, private_memory, seen_stack, StackStateMoves, StackStateWrites, MovesLeasedBytes};
 
 use crate::act::MemoryOp;
 use crate::copies::zeros;
@@ -16,10 +16,10 @@ use crate::leases::Leases;
 use crate::limiter::limiter_of;
 use crate::replies::{growth_reply, write_reply};
 use crate::reply::{Refusal, Reply};
-use pool_alloc::{Grant, InstanceLease, MemoryLease, ReservedList, StackLease};
+use pool_alloc::{Grant, InstanceLease, MemoryLease, ReservedList};
 use pool_limits::{GrowFault, Trap, Unlimited};
 use pool_pages::{ByteList, Pages};
-use pool_slots::AllocError as Cause;
+use pool_slots::{AllocError as Cause, PlainHeap, Stack};
 use std::alloc::Global;
 
 /// Does something with memory `memory` of the grant of command `of`, or with its stack, which is its memory 0. A memory grows
@@ -45,7 +45,7 @@ fn act_on_taken<P: Pages>(
     alloc: Global,
     live: &mut Leases<P>,
     of: usize,
-    grant: Grant<P>,
+    grant: Grant<P, PlainHeap>,
     memory: usize,
     op: &MemoryOp,
     limits: Option<PartyLimits>,
@@ -61,7 +61,7 @@ fn act_on_taken<P: Pages>(
 
 fn act_on_grant<P: Pages>(
     alloc: Global,
-    grant: &mut Grant<P>,
+    grant: &mut Grant<P, PlainHeap>,
     memory: usize,
     op: &MemoryOp,
     limits: Option<PartyLimits>,
@@ -71,33 +71,35 @@ fn act_on_grant<P: Pages>(
     match grant {
         Grant::Instance(lease) => act_on_instance(alloc, lease, memory, op, limits),
         Grant::Component => Reply::Refused(Refusal::NoSuchGrant),
-        Grant::Stack(lease) => act_on_stack(alloc, lease, memory, op),
+        Grant::Stack(lease) => act_on_stack(alloc, &mut lease.stack, memory, op),
+        Grant::Heap(_, lease) => act_on_heap(alloc, lease, memory, op, limits),
     }
 }
 
-fn act_on_stack<P: Pages>(
+// Does something with the bytes of a stack, which is memory 0 of its grant.
+pub(crate) fn act_on_stack<P: Pages>(
     alloc: Global,
-    lease: &mut StackLease<P>,
+    stack: &mut Stack<P>,
     memory: usize,
     op: &MemoryOp,
 ) -> Reply
-    ensures { MovesStackBytes (given_op op.now) memory lease.old result lease.new }
+    ensures { MovesOnly (StackStateMoves (given_op op.now)) memory stack.old result stack.new }
 {
     if memory > 0 {
         return Reply::Refused(Refusal::NoSuchGrant);
     }
-    act_on_its_bytes(alloc, lease, op)
+    act_on_its_bytes(alloc, stack, op)
 }
 
-fn act_on_its_bytes<P: Pages>(alloc: Global, lease: &mut StackLease<P>, op: &MemoryOp) -> Reply
-    ensures { StackLeaseMoves (given_op op.now) lease.old lease.new result }
+fn act_on_its_bytes<P: Pages>(alloc: Global, stack: &mut Stack<P>, op: &MemoryOp) -> Reply
+    ensures { StackStateMoves (given_op op.now) stack.old stack.new result }
 {
     match op {
-        MemoryOp::Read { at, len } => read_stack(alloc, lease, *at, *len),
-        MemoryOp::Write { at, bytes } => write_stack(lease, *at, bytes),
-        MemoryOp::Fill { at, len, byte } => fill_stack(lease, *at, *len, *byte),
+        MemoryOp::Read { at, len } => read_stack(alloc, stack, *at, *len),
+        MemoryOp::Write { at, bytes } => write_stack(stack, *at, bytes),
+        MemoryOp::Fill { at, len, byte } => fill_stack(stack, *at, *len, *byte),
         MemoryOp::Grow { pages: _ } => Reply::Grown(None),
-        MemoryOp::Size => Reply::Size(lease.len() as u64),
+        MemoryOp::Size => Reply::Size(stack.len() as u64),
     }
 }
 
@@ -108,37 +110,86 @@ fn is_inside(at: u64, len: u64, size: usize) -> bool
     at <= size as u64 && len <= size as u64 - at
 }
 
-fn read_stack<P: Pages>(alloc: Global, lease: &StackLease<P>, at: u64, len: usize) -> Reply
-    ensures { ReadsBytes (private_stack lease.now).size (private_stack lease.now).bytes at len result }
+fn read_stack<P: Pages>(alloc: Global, stack: &Stack<P>, at: u64, len: usize) -> Reply
+    ensures { ReadsBytes (seen_stack stack.now).size (seen_stack stack.now).bytes at len result }
 {
     let Ok(mut bytes) = zeros(alloc, len) else {
         return Reply::Refused(Refusal::Alloc(Cause::Memory));
     };
-    if !is_inside(at, len as u64, lease.len()) {
+    if !is_inside(at, len as u64, stack.len()) {
         return Reply::Trap(Trap::MemoryOutOfBounds);
     }
-    lease.read(at as usize, &mut bytes);
+    stack.read(at as usize, &mut bytes);
     Reply::Bytes(ByteList::from_vec(bytes))
 }
 
-fn write_stack<P: Pages>(lease: &mut StackLease<P>, at: u64, bytes: &[u8]) -> Reply
-    ensures { StackLeaseWrites at bytes.now lease.old lease.new result }
+fn write_stack<P: Pages>(stack: &mut Stack<P>, at: u64, bytes: &[u8]) -> Reply
+    ensures { StackStateWrites at bytes.now stack.old stack.new result }
 {
-    if !is_inside(at, bytes.len() as u64, lease.len()) {
+    if !is_inside(at, bytes.len() as u64, stack.len()) {
         return Reply::Trap(Trap::MemoryOutOfBounds);
     }
-    lease.write(at as usize, bytes);
+    stack.write(at as usize, bytes);
     Reply::Done
 }
 
-fn fill_stack<P: Pages>(lease: &mut StackLease<P>, at: u64, len: u64, byte: u8) -> Reply
-    ensures { StackLeaseWrites at (replicate len byte) lease.old lease.new result }
+fn fill_stack<P: Pages>(stack: &mut Stack<P>, at: u64, len: u64, byte: u8) -> Reply
+    ensures { StackStateWrites at (replicate len byte) stack.old stack.new result }
 {
-    if !is_inside(at, len, lease.len()) {
+    if !is_inside(at, len, stack.len()) {
         return Reply::Trap(Trap::MemoryOutOfBounds);
     }
-    lease.fill(at as usize, len as usize, byte);
+    stack.fill(at as usize, len as usize, byte);
     Reply::Done
+}
+
+fn act_on_heap<P: Pages>(
+    alloc: Global,
+    lease: &mut MemoryLease<P>,
+    memory: usize,
+    op: &MemoryOp,
+    limits: Option<PartyLimits>,
+) -> Reply
+    ensures { MovesOnly (LeaseMoves (given_op op.now) (rule_of limits)) memory lease.old result lease.new }
+{
+    if memory > 0 {
+        return Reply::Refused(Refusal::NoSuchGrant);
+    }
+    act_on_its_memory(alloc, lease, op, limits)
+}
+
+fn act_on_its_memory<P: Pages>(
+    alloc: Global,
+    lease: &mut MemoryLease<P>,
+    op: &MemoryOp,
+    limits: Option<PartyLimits>,
+) -> Reply
+    ensures { LeaseMoves (given_op op.now) (rule_of limits) lease.old lease.new result }
+{
+    match op {
+        MemoryOp::Read { at, len } => read(alloc, lease, *at, *len),
+        MemoryOp::Write { at, bytes } => write_reply(lease.write(*at, bytes)),
+        MemoryOp::Fill { at, len, byte } => write_reply(lease.fill(*at, *len, *byte)),
+        MemoryOp::Grow { pages } => growth_reply(grow_its(lease, *pages, limits)),
+        MemoryOp::Size => size(lease),
+    }
+}
+
+// Grows a heap's memory under these limits.
+fn grow_its<P: Pages>(
+    lease: &mut MemoryLease<P>,
+    pages: u64,
+    limits: Option<PartyLimits>,
+) -> Result<Option<usize>, GrowFault>
+    ensures { GrowsUnder (rule_of limits) pages lease.old lease.new result }
+{
+    match limits {
+        None => lease.grow(pages, &mut Unlimited),
+        Some(limits) => {
+            let mut limiter = limiter_of(limits);
+            lease.grow(pages, &mut limiter)
+        }
+    }
 }
 
 fn act_on_instance<P: Pages>(

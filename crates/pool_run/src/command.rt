@@ -11,7 +11,7 @@ pub enum TableValue {
 
 /// A command of a party. `of` is the number of an earlier command of that party which asked for a grant, and
 /// `memory` or `table` is a place in that grant. A stack is memory 0 of its grant, from its lowest usable byte on, and can't
-/// grow.
+/// grow. A heap's memory is memory 0 of its grant.
 #[derive(Debug, Drop)]
 pub enum Command {
     /// Asks for an instance of the module with this number.
@@ -30,6 +30,11 @@ pub enum Command {
     },
     /// Asks for a stack.
     Stack,
+    /// Asks for a heap for a collector. Its memory has `min` pages of 64 KiB, and at most `max`, and addresses of 32 bits.
+    Heap {
+        min: u64,
+        max: Option<u64>,
+    },
     /// Reads `len` bytes from `at` on.
     Read {
         of: usize,

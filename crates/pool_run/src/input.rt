@@ -13,13 +13,15 @@ pub struct PartyLimits {
 }
 
 /// One party: the number from which its home shard and its home queue follow, the limits on its growth, if there are
-/// any, which calls on its store fail, and what it commands, in order.
+/// any, which calls on its store and on its maker of heaps fail, and what it commands, in order.
 #[derive(Debug, Drop)]
 pub struct Party {
     pub home: u64,
     pub limits: Option<PartyLimits>,
     /// The numbers of the calls on the party's store of GC references that fail, from 1 on.
     pub gc_faults: PlainList<u64>,
+    /// The numbers of the heaps that can't be made for the party, from 1 on, in the order in which they are asked of its maker.
+    pub heap_faults: PlainList<u64>,
     pub commands: PlainList<Command>,
 }
 

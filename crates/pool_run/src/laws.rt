@@ -1,4 +1,6 @@
 ghost use Rattle.pool_run.specs.Agreeing.{RunsAgree};
+ghost use Rattle.pool_run.specs.HeapFaults.{HeapFaultsAreListed};
+ghost use Rattle.pool_run.specs.OnDemandAlike.{AllocatorsAgree};
 ghost use Rattle.pool_run.specs.Placed.{SlotsAreInOnePlace, UsedSlotsAreNotPicked};
 
 use pool_pages::Pages;
@@ -9,10 +11,22 @@ pub fn runs_agree<P: Pages>()
     ensures { RunsAgree P }
 {}
 
+/// A request for a heap is refused because the party's maker of heaps failed at most as often as its list says. It does
+/// nothing.
+pub fn heap_faults_are_listed()
+    ensures { HeapFaultsAreListed }
+{}
+
 /// Where the slots of the pool are between two turns. It does nothing.
 pub fn slots_have_places<P: Pages>()
     // Each is in one place.
     ensures one { SlotsAreInOnePlace P }
     // What a pick gives is free, in the shard where it is at home.
     ensures picked { UsedSlotsAreNotPicked P }
+{}
+
+/// A pool and an allocator on demand give the same replies to the commands on a grant that both gave, whose memories are whole
+/// pages and whose contents are told, where both grant its growths and have memory for the replies. It does nothing.
+pub fn allocators_agree()
+    ensures { AllocatorsAgree }
 {}

@@ -3,20 +3,22 @@ ghost use Rattle.pool_run.specs.Numbers.{with_grant};
 
 use pool_alloc::Grant;
 use pool_pages::{PageCalls, Pages};
+use pool_slots::PlainHeap;
 use std::alloc::{AllocError, Global};
 use std::marker::Model;
 
 /// A party's live grants, by the numbers of its commands.
 #[derive(Drop)]
 pub struct Leases<P: Pages> {
-    places: Vec<Option<Grant<P>>>,
+    places: Vec<Option<Grant<P, PlainHeap>>>,
 }
 
 impl<P: Pages> Model for Leases<P> {
     ghost use Rattle.std.specs.Prelude.{List, Option};
     ghost use Rattle.pool_alloc.specs.declared.frame.Grant.{Grant};
+    ghost use Rattle.pool_slots.specs.declared.listed_heaps.PlainHeap.{PlainHeap};
 
-    ghost Value = { List (Option (Grant P)) };
+    ghost Value = { List (Option (Grant P PlainHeap)) };
 
     ghost view = { λ l. l.places.items };
 }
@@ -40,7 +42,7 @@ impl<P: Pages> Leases<P> {
     }
 
     /// Takes out the grant of a command.
-    pub fn take(&mut self, of: usize) -> Option<Grant<P>>
+    pub fn take(&mut self, of: usize) -> Option<Grant<P, PlainHeap>>
         ensures value { result ≡ slice_index_or self.old of None }
         ensures rest { self.new ≡ slice_set self.old of None }
     {
@@ -52,7 +54,7 @@ impl<P: Pages> Leases<P> {
     }
 
     /// Puts a grant into the place of a command.
-    pub fn put(&mut self, of: usize, grant: Grant<P>)
+    pub fn put(&mut self, of: usize, grant: Grant<P, PlainHeap>)
         requires { of < length self.old }
         ensures { self.new ≡ slice_set self.old of (Some grant) }
     {
@@ -71,7 +73,7 @@ impl<P: Pages> Leases<P> {
     }
 }
 
-fn with_grant<P: Pages>(calls: PageCalls, place: &Option<Grant<P>>) -> PageCalls
+fn with_grant<P: Pages>(calls: PageCalls, place: &Option<Grant<P, PlainHeap>>) -> PageCalls
     ensures { result ≡ with_grant calls place.now }
 {
     match place {
@@ -79,5 +81,6 @@ fn with_grant<P: Pages>(calls: PageCalls, place: &Option<Grant<P>>) -> PageCalls
         Some(Grant::Instance(lease)) => calls.plus(lease.page_calls()),
         Some(Grant::Component) => calls,
         Some(Grant::Stack(lease)) => calls.plus(lease.page_calls()),
+        Some(Grant::Heap(_, memory)) => calls.plus(memory.page_calls()),
     }
 }

@@ -10,7 +10,7 @@ use crate::input::Input;
 use crate::output::RunFault;
 use pool_alloc::PoolCore;
 use pool_pages::{PageMaker, Pages};
-use pool_slots::PoolNewError;
+use pool_slots::{PlainHeap, PoolNewError};
 use std::alloc::Global;
 
 /// Makes a pool of the input's settings. Their rules are tested first.
@@ -18,7 +18,7 @@ pub(crate) fn make_pool<P: Pages, M: PageMaker<Region = P>>(
     alloc: Global,
     input: &Input,
     pages: &mut M,
-) -> Result<PoolCore<P>, RunFault>
+) -> Result<PoolCore<P, PlainHeap>, RunFault>
     requires page { (M.told pages.old).page ≡ input.now.page }
     ensures made { IfOk result (IsMadeCore (M.told pages.old) input.now.config input.now.tunables input.now.offered input.now.shards) }
     ensures core { IfOk result (IsCore (M.told pages.old)) }
@@ -29,7 +29,7 @@ pub(crate) fn make_pool<P: Pages, M: PageMaker<Region = P>>(
     ensures rules { OnOk result (broken_rule input.now ≡ None) }
     ensures refused { IfErr result (NamesRule (broken_rule input.now)) }
     ensures borrows { M.borrows pages.new ≡ M.borrows pages.old }
-    ensures fault { result ≡ Err RunFault.PageFault → FaultsInMaking input.now (M.told pages.old) (M.told pages.new) }
+    ensures fault { result ≡ Err RunFault.PageFault → FaultsInMaking P.told input.now (M.told pages.old) (M.told pages.new) }
 {
     let page = pages.page();
     match PoolCore::new(

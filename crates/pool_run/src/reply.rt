@@ -29,6 +29,11 @@ pub enum Reply {
     Component,
     /// Of a stack, its slot.
     Stack(u32),
+    /// The slot of a heap, and that of its memory.
+    Heap {
+        heap: u32,
+        memory: u32,
+    },
     Bytes(ByteList),
     Done,
     /// Of a memory in bytes, of a table in elements.

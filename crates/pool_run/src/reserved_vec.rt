@@ -38,6 +38,12 @@ impl<T> ReservedVec<T> {
         })
     }
 
+    pub(crate) fn len(&self) -> usize
+        ensures { result ≡ length self.now.items }
+    {
+        self.items.len()
+    }
+
     pub fn push(&mut self, item: T)
         requires { length self.old.items < self.old.room }
         ensures { self.new ≡ with_item item self.old }

@@ -19,12 +19,14 @@ use crate::leases::Leases;
 use crate::output::RunFault;
 use crate::pools::make_pool;
 use crate::reply::Reply;
-use crate::running_party::{RunningParty, store_for};
+use crate::running_party::{RunningParty, heaps_for, store_for};
 use crate::slot_lists::SlotLists;
 use crate::turn::{is_idle, turn_of};
 use crate::validity::is_valid;
 use pool_alloc::{Metrics, ModuleCall, PoolCore};
 use pool_pages::{PageCalls, PageMaker, Pages};
+use pool_slots::{ListedHeaps, PlainHeap};
+use pool_table::ListedStore;
 use std::alloc::{AllocError, Global};
 use std::marker::Model;
 
@@ -32,7 +34,7 @@ use std::marker::Model;
 /// and with lists for the slots of what it asks for.
 #[derive(Drop)]
 pub struct Run<P: Pages> {
-    core: PoolCore<P>,
+    core: PoolCore<P, PlainHeap>,
     modules: Vec<ModuleCall>,
     parties: Vec<RunningParty<P>>,
     slots: Vec<SlotLists>,
@@ -64,7 +66,7 @@ impl<P: Pages> Run<P> {
         ensures bad_input { (result ≡ Err RunFault.BadInput) ↔ (is_valid input.now ≡ false) }
         ensures bad_config { (e : BadConfig) → (result ≡ Err (RunFault.BadConfig e)) ↔ ((is_valid input.now ≡ true) × (broken_rule input.now ≡ Some e)) }
         ensures borrows { M.borrows pages.new ≡ M.borrows pages.old }
-        ensures fault { result ≡ Err RunFault.PageFault → FaultsInMaking input.now (M.told pages.old) (M.told pages.new) }
+        ensures fault { result ≡ Err RunFault.PageFault → FaultsInMaking P.told input.now (M.told pages.old) (M.told pages.new) }
     {
         if !is_valid(input) {
             return Err(RunFault::BadInput);
@@ -88,7 +90,7 @@ impl<P: Pages> Run<P> {
         ensures rules { OnOk result (broken_rule input.now ≡ None) }
         ensures refused { IfErr result (NamesRule (broken_rule input.now)) }
         ensures borrows { M.borrows pages.new ≡ M.borrows pages.old }
-        ensures fault { result ≡ Err RunFault.PageFault → FaultsInMaking input.now maker (M.told pages.new) }
+        ensures fault { result ≡ Err RunFault.PageFault → FaultsInMaking P.told input.now maker (M.told pages.new) }
     {
         let core = match make_pool(alloc, input, pages) {
             Ok(core) => core,
@@ -108,7 +110,7 @@ impl<P: Pages> Run<P> {
     // The run of these parties over a pool as it is made.
     fn over(
         alloc: Global,
-        core: PoolCore<P>,
+        core: PoolCore<P, PlainHeap>,
         modules: Vec<ModuleCall>,
         parties: &[Party],
     ) -> Result<Self, AllocError>
@@ -204,7 +206,7 @@ fn add_party<P: Pages>(calls: PageCalls, party: &RunningParty<P>) -> PageCalls
 
 fn make_parties<P: Pages>(
     alloc: Global,
-    core: &PoolCore<P>,
+    core: &PoolCore<P, PlainHeap>,
     parties: &[Party],
 ) -> Result<Vec<RunningParty<P>>, AllocError>
     requires batch { core.now.settings.batch ≤ 4096 }
@@ -222,21 +224,34 @@ fn make_parties<P: Pages>(
 
 fn make_party<P: Pages>(
     alloc: Global,
-    core: &PoolCore<P>,
+    core: &PoolCore<P, PlainHeap>,
     party: &Party,
 ) -> Result<RunningParty<P>, AllocError>
     requires batch { core.now.settings.batch ≤ 4096 }
     requires home { party.now.home < 2 ^ 32 }
     ensures { IfOk result (λ p. p ≡ party_made_for core.now.settings party.now) }
 {
+    let frame = core.frame(alloc, party.home as u32)?;
+    let live = Leases::new(alloc, party.commands.len())?;
+    let makers = makers_for(alloc, party)?;
     Ok(RunningParty {
-        frame: core.frame(alloc, party.home as u32)?,
+        frame,
         limits: party.limits,
-        store: store_for(alloc, party.gc_faults.as_slice())?,
+        store: makers.0,
+        heaps: makers.1,
         keyed: false,
         done: 0,
-        live: Leases::new(alloc, party.commands.len())?,
+        live,
     })
+}
+
+// A party's store and its maker of heaps.
+fn makers_for(alloc: Global, party: &Party) -> Result<(ListedStore, ListedHeaps), AllocError>
+    ensures store { IfOk result (λ m. m.0 ≡ record { failing = party.now.gc_faults; made = 0; faults = 0 }) }
+    ensures heaps { IfOk result (λ m. m.1 ≡ record { failing = party.now.heap_faults; made = 0; faults = 0 }) }
+{
+    let store = store_for(alloc, party.gc_faults.as_slice())?;
+    Ok((store, heaps_for(alloc, party.heap_faults.as_slice())?))
 }
 
 fn no_slots(alloc: Global, count: usize) -> Result<Vec<SlotLists>, AllocError>

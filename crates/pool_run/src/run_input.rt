@@ -19,7 +19,7 @@ use crate::run::Run;
 use crate::schedule::{finish, follow};
 use crate::told_run::ToldRun;
 use crate::validity::is_valid;
-use pool_pages::{FailingMaker, PageMaker, PageSize, Pages};
+use pool_pages::{Failing, FailingMaker, PageMaker, PageSize, Pages};
 use std::alloc::{AllocError, Global};
 
 // Makes the turns of the schedule, and where the input says so those of each party until it has nothing left.
@@ -101,7 +101,7 @@ fn run_by<P: Pages, M: PageMaker<Region = P>>(
     ensures ok { IfOk result (λ output. IsRun P input.now maker output) }
     ensures same { OnOk result (M.told pages.new ≡ maker) }
     ensures borrows { M.borrows pages.new ≡ M.borrows pages.old }
-    ensures fault { result ≡ Err RunFault.PageFault → FaultsInMaking input.now maker (M.told pages.new) }
+    ensures fault { result ≡ Err RunFault.PageFault → FaultsInMaking P.told input.now maker (M.told pages.new) }
     ensures rules { OnOk result (broken_rule input.now ≡ None) }
     ensures refused { IfErr result (NamesRule (broken_rule input.now)) }
 {
@@ -123,7 +123,7 @@ fn run_with<P: Pages, M: PageMaker<Region = P>>(
     ensures ok { IfOk result (λ output. IsRun P input.now (M.told pages.old) output) }
     ensures same { OnOk result (M.told pages.new ≡ M.told pages.old) }
     ensures borrows { M.borrows pages.new ≡ M.borrows pages.old }
-    ensures fault { result ≡ Err RunFault.PageFault → FaultsInMaking input.now (M.told pages.old) (M.told pages.new) }
+    ensures fault { result ≡ Err RunFault.PageFault → FaultsInMaking P.told input.now (M.told pages.old) (M.told pages.new) }
     ensures rules { OnOk result (broken_rule input.now ≡ None) }
     ensures refused { IfErr result (NamesRule (broken_rule input.now)) }
 {
@@ -150,7 +150,7 @@ pub fn run_schedule<M: PageMaker>(
     ensures throughout { OnOk result (HoldsFromStart (Failing M.Region) input.now (with_faults input.now (M.told pages.old))) }
     ensures bad_input { (result ≡ Err RunFault.BadInput) ↔ (is_valid input.now ≡ false) }
     ensures bad_config { (e : BadConfig) → (result ≡ Err (RunFault.BadConfig e)) ↔ ((is_valid input.now ≡ true) × (broken_rule input.now ≡ Some e)) }
-    ensures fault { result ≡ Err RunFault.PageFault → HasFaultedMaking input.now (M.told pages.old) (M.told pages.new) }
+    ensures fault { result ≡ Err RunFault.PageFault → HasFaultedMaking ⟦<Failing<M::Region> as Pages>⟧.told input.now (M.told pages.old) (M.told pages.new) }
     ensures faults { OnOk result ((M.told pages.new).faults ≡ (M.told pages.old).faults) }
 {
     if !is_valid(input) {

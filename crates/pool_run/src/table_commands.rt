@@ -19,6 +19,7 @@ use crate::table_values::element_for;
 use pool_alloc::{Grant, InstanceLease, ReservedList, TableLease};
 use pool_limits::{GrowFault, Unlimited};
 use pool_pages::Pages;
+use pool_slots::PlainHeap;
 use pool_table::ListedStore;
 
 /// Does something with table `table` of the grant of command `of`. It grows under these limits, and GC references are told
@@ -45,7 +46,7 @@ fn act_on_taken<P: Pages>(
     live: &mut Leases<P>,
     store: &mut ListedStore,
     of: usize,
-    grant: Grant<P>,
+    grant: Grant<P, PlainHeap>,
     table: usize,
     op: &TableOp,
     limits: Option<PartyLimits>,
@@ -61,7 +62,7 @@ fn act_on_taken<P: Pages>(
 }
 
 fn act_on_grant<P: Pages>(
-    grant: &mut Grant<P>,
+    grant: &mut Grant<P, PlainHeap>,
     store: &mut ListedStore,
     table: usize,
     op: &TableOp,
@@ -72,7 +73,9 @@ fn act_on_grant<P: Pages>(
 {
     match grant {
         Grant::Instance(lease) => act_on_instance(lease, store, table, op, limits),
-        Grant::Component | Grant::Stack(_) => Reply::Refused(Refusal::NoSuchGrant),
+        Grant::Component | Grant::Stack(_) | Grant::Heap(_, _) => Reply::Refused(
+            Refusal::NoSuchGrant,
+        ),
     }
 }
 

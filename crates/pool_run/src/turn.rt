@@ -1,4 +1,4 @@
-ghost use Rattle.std.specs.Prelude.{◌≡◌, ◌+◌, ◌^◌, ◌<◌, ◌≤◌, [], length, map, slice_get, slice_index_or, IfOk, None, Some};
+ghost use Rattle.std.specs.Prelude.{◌≡◌, ◌+◌, ◌^◌, ◌<◌, ◌≤◌, [], length, true, map, slice_get, slice_index_or, IfOk, None, Some};
 ghost use Rattle.pool_pages.specs.MakerTold.{MakerTold};
 ghost use Rattle.pool_alloc.specs.Calls.{IsIdle, IfGranted, begun_call};
 ghost use Rattle.pool_alloc.specs.Steps.{memories_wanted, tables_wanted};
@@ -8,10 +8,10 @@ ghost use Rattle.pool_run.specs.Acts.{requests};
 ghost use Rattle.pool_run.specs.AtOnce.{given_act, given_wanted};
 ghost use Rattle.pool_run.specs.PartyRules.{rule_of};
 ghost use Rattle.pool_run.specs.Ties.{CanTurn, IsReserved};
-ghost use Rattle.pool_run.specs.Turns.{leases_of, tables_of, granted_reply, answered, ended_at_once, slots_after, StepsUnder, Steps, makes_step, drop_opening, IsPlain, OpensRequest, OpensAct, OpensNext, TurnsFrom, Turns, OpensWanted};
+ghost use Rattle.pool_run.specs.Turns.{leases_listed, tables_of, granted_reply, answered, ended_at_once, slots_after, StepsUnder, Steps, makes_step, drop_opening, IsPlain, asks_grant, OpensRequest, OpensAct, OpensNext, TurnsFrom, Turns, OpensWanted};
 ghost use Rattle.pool_run.specs.Worlds.{IsFit, AreFit, NamesModule, NameModules};
 
-use crate::act::{Act, Wanted, act_of};
+use crate::act::{Act, Wanted, act_of, heap_type};
 use crate::at_once::act_on_bytes;
 use crate::command::Command;
 use crate::input::PartyLimits;
@@ -23,8 +23,8 @@ use crate::slot_lists::SlotLists;
 use crate::table_commands::act_on_table;
 use pool_alloc::{Call, Frame, Grant, InstanceLease, ModuleCall, Outcome, Phase, PoolCore};
 use pool_limits::Unlimited;
-use pool_pages::{ComponentInfo, Pages};
-use pool_slots::{AllocError as Cause, NoHeaps};
+use pool_pages::Pages;
+use pool_slots::{AllocError as Cause, ListedHeaps, PlainHeap};
 use std::alloc::{AllocError, Global};
 use std::mem;
 
@@ -33,7 +33,7 @@ use std::mem;
 /// reserved before the request begins, so that want of memory for it is the request's refusal.
 pub fn turn_of<P: Pages>(
     alloc: Global,
-    core: &mut PoolCore<P>,
+    core: &mut PoolCore<P, PlainHeap>,
     modules: &[ModuleCall],
     commands: &[Command],
     party: &mut RunningParty<P>,
@@ -58,7 +58,7 @@ pub fn turn_of<P: Pages>(
 }
 
 // Whether no call is under way.
-pub(crate) fn is_idle<P: Pages>(frame: &Frame<P>) -> bool
+pub(crate) fn is_idle<P: Pages>(frame: &Frame<P, PlainHeap>) -> bool
     ensures { result ≡ is_idle frame.now.phase }
 {
     matches!(&frame.phase, Phase::Idle)
@@ -67,7 +67,7 @@ pub(crate) fn is_idle<P: Pages>(frame: &Frame<P>) -> bool
 // Makes the next step of the call that is under way.
 fn step_call<P: Pages>(
     alloc: Global,
-    core: &mut PoolCore<P>,
+    core: &mut PoolCore<P, PlainHeap>,
     party: &mut RunningParty<P>,
     slots: &mut SlotLists,
 ) -> Option<Reply>
@@ -79,31 +79,32 @@ fn step_call<P: Pages>(
     ensures steps { Steps core.old party.old (record { core = core.new; party = party.new; reply = result }) }
     ensures reserved { IsReserved party.new.frame slots.new }
 {
-    let outcome = step_under(alloc, core, &mut party.frame, party.limits);
+    let heaps = &mut party.heaps;
+    let outcome = step_under(alloc, core, &mut party.frame, party.limits, heaps);
     answer(alloc, party, slots, outcome)
 }
 
-// A step of a call of a party with these limits, and without a maker of heaps.
+// A step of a call of a party with these limits and this maker of heaps.
 fn step_under<P: Pages>(
     alloc: Global,
-    core: &mut PoolCore<P>,
-    frame: &mut Frame<P>,
+    core: &mut PoolCore<P, PlainHeap>,
+    frame: &mut Frame<P, PlainHeap>,
     limits: Option<PartyLimits>,
-) -> Option<Outcome<P>>
+    heaps: &mut ListedHeaps,
+) -> Option<Outcome<P, PlainHeap>>
     ghost maker: { MakerTold }
     requires can { CanStep maker core.old frame.old }
     requires counts { CanCount core.old }
-    ensures { StepsUnder (rule_of limits) core.old frame.old (record { core = core.new; frame = frame.new; outcome = result }) }
+    ensures { StepsUnder (rule_of limits) heaps.old heaps.new core.old frame.old (record { core = core.new; frame = frame.new; outcome = result }) }
 {
-    let mut heaps = NoHeaps::new();
     match limits {
         None => {
             let nobody: Option<&mut Unlimited> = None;
-            core.step(alloc, frame, nobody, &mut heaps)
+            core.step(alloc, frame, nobody, heaps)
         }
         Some(limits) => {
             let mut limiter = limiter_of(limits);
-            core.step(alloc, frame, Some(&mut limiter), &mut heaps)
+            core.step(alloc, frame, Some(&mut limiter), heaps)
         }
     }
 }
@@ -113,14 +114,14 @@ fn answer<P: Pages>(
     alloc: Global,
     party: &mut RunningParty<P>,
     slots: &mut SlotLists,
-    outcome: Option<Outcome<P>>,
+    outcome: Option<Outcome<P, PlainHeap>>,
 ) -> Option<Reply>
     requires place { IfGranted (λ g. party.old.done < length party.old.live) outcome }
     requires small { party.old.done + 1 < 2 ^ 64 }
     requires empty { (slots.old.memories.items ≡ []) × (slots.old.tables.items ≡ []) }
-    requires memories { IfGranted (λ g. length (leases_of g) ≤ slots.old.memories.room) outcome }
+    requires memories { IfGranted (λ g. length (leases_listed g) ≤ slots.old.memories.room) outcome }
     requires tables { IfGranted (λ g. length (tables_of g) ≤ slots.old.tables.room) outcome }
-    ensures answered { (c : PoolCore P) → record { core = c; party = party.new; reply = result } ≡ answered outcome c party.old }
+    ensures answered { (c : PoolCore P PlainHeap) → record { core = c; party = party.new; reply = result } ≡ answered outcome c party.old }
     ensures slots { slots.new ≡ slots_after outcome slots.old }
 {
     match outcome {
@@ -157,9 +158,9 @@ fn answer<P: Pages>(
 
 // The reply to a request that was granted: the slots of an instance's memories and tables, in the lists that were reserved
 // for them.
-fn granted_reply<P: Pages>(slots: SlotLists, grant: &Grant<P>) -> Reply
+fn granted_reply<P: Pages>(slots: SlotLists, grant: &Grant<P, PlainHeap>) -> Reply
     requires empty { (slots.memories.items ≡ []) × (slots.tables.items ≡ []) }
-    requires memories { length (leases_of grant.now) ≤ slots.memories.room }
+    requires memories { length (leases_listed grant.now) ≤ slots.memories.room }
     requires tables { length (tables_of grant.now) ≤ slots.tables.room }
     ensures { result ≡ granted_reply grant.now }
 {
@@ -170,6 +171,10 @@ fn granted_reply<P: Pages>(slots: SlotLists, grant: &Grant<P>) -> Reply
         },
         Grant::Component => Reply::Component,
         Grant::Stack(lease) => Reply::Stack(lease.index()),
+        Grant::Heap(lease, memory) => Reply::Heap {
+            heap: lease.index().0,
+            memory: memory.index.0,
+        },
     }
 }
 
@@ -202,7 +207,7 @@ fn table_slots<P: Pages>(slots: ReservedVec<u32>, lease: &InstanceLease<P>) -> S
 // Makes the first step of the next command, or of the call that gives the party its stripe.
 fn begin_next<P: Pages>(
     alloc: Global,
-    core: &mut PoolCore<P>,
+    core: &mut PoolCore<P, PlainHeap>,
     modules: &[ModuleCall],
     commands: &[Command],
     party: &mut RunningParty<P>,
@@ -232,11 +237,11 @@ fn begin_next<P: Pages>(
     }
 }
 
-// Begins a call for which the party needs nothing: for its stripe, a purge or a release.
+// Begins a call to which the party brings nothing: for its stripe, for a component, a stack or a heap, a purge or a release.
 fn begin_plain<P: Pages>(
     alloc: Global,
-    core: &mut PoolCore<P>,
-    call: Call<P>,
+    core: &mut PoolCore<P, PlainHeap>,
+    call: Call<P, PlainHeap>,
     party: &mut RunningParty<P>,
     slots: &mut SlotLists,
 ) -> Option<Reply>
@@ -244,6 +249,7 @@ fn begin_plain<P: Pages>(
     requires plain { IsPlain call }
     requires can { CanTurn maker core.old party.old }
     requires counts { CanCount core.old }
+    requires place { asks_grant call ≡ true → party.old.done < length party.old.live }
     requires small { party.old.done + 1 < 2 ^ 64 }
     requires idle { IsIdle party.old.frame }
     requires reserved { IsReserved party.old.frame slots.old }
@@ -257,7 +263,7 @@ fn begin_plain<P: Pages>(
 // Makes the first step of a command that does this.
 fn begin<P: Pages>(
     alloc: Global,
-    core: &mut PoolCore<P>,
+    core: &mut PoolCore<P, PlainHeap>,
     modules: &[ModuleCall],
     act: &Act,
     party: &mut RunningParty<P>,
@@ -298,7 +304,7 @@ fn begin<P: Pages>(
 // Asks for what is wanted.
 fn request<P: Pages>(
     alloc: Global,
-    core: &mut PoolCore<P>,
+    core: &mut PoolCore<P, PlainHeap>,
     modules: &[ModuleCall],
     wanted: &Wanted,
     party: &mut RunningParty<P>,
@@ -318,58 +324,18 @@ fn request<P: Pages>(
 {
     match wanted {
         Wanted::Instance { module } => ask(alloc, core, &modules[*module], party, slots),
-        Wanted::Component(info) => ask_component(alloc, core, *info, party, slots),
-        Wanted::Stack => ask_stack(alloc, core, party, slots),
+        Wanted::Component(info) => begin_plain(alloc, core, Call::Component(*info), party, slots),
+        Wanted::Stack => begin_plain(alloc, core, Call::Stack, party, slots),
+        Wanted::Heap(limits) => {
+            begin_plain(alloc, core, Call::Heap(heap_type(*limits)), party, slots)
+        }
     }
-}
-
-// Asks for a component.
-fn ask_component<P: Pages>(
-    alloc: Global,
-    core: &mut PoolCore<P>,
-    info: ComponentInfo,
-    party: &mut RunningParty<P>,
-    slots: &mut SlotLists,
-) -> Option<Reply>
-    ghost maker: { MakerTold }
-    requires can { CanTurn maker core.old party.old }
-    requires counts { CanCount core.old }
-    requires place { party.old.done < length party.old.live }
-    requires small { party.old.done + 1 < 2 ^ 64 }
-    requires idle { IsIdle party.old.frame }
-    requires reserved { IsReserved party.old.frame slots.old }
-    ensures turn { TurnsFrom (λ o. o ≡ makes_step (begun_call (Call.Component info) party.old.frame) party.old.live) core.old party.old (record { core = core.new; party = party.new; reply = result }) }
-    ensures reserved { IsReserved party.new.frame slots.new }
-{
-    party.frame.begin(Call::Component(info));
-    step_call(alloc, core, party, slots)
-}
-
-// Asks for a stack.
-fn ask_stack<P: Pages>(
-    alloc: Global,
-    core: &mut PoolCore<P>,
-    party: &mut RunningParty<P>,
-    slots: &mut SlotLists,
-) -> Option<Reply>
-    ghost maker: { MakerTold }
-    requires can { CanTurn maker core.old party.old }
-    requires counts { CanCount core.old }
-    requires place { party.old.done < length party.old.live }
-    requires small { party.old.done + 1 < 2 ^ 64 }
-    requires idle { IsIdle party.old.frame }
-    requires reserved { IsReserved party.old.frame slots.old }
-    ensures turn { TurnsFrom (λ o. o ≡ makes_step (begun_call Call.Stack party.old.frame) party.old.live) core.old party.old (record { core = core.new; party = party.new; reply = result }) }
-    ensures reserved { IsReserved party.new.frame slots.new }
-{
-    party.frame.begin(Call::Stack);
-    step_call(alloc, core, party, slots)
 }
 
 // A command ends with its first step.
 fn end_at_once<P: Pages>(party: &mut RunningParty<P>, reply: Reply) -> Option<Reply>
     requires small { party.old.done + 1 < 2 ^ 64 }
-    ensures turn { (c : PoolCore P) → record { core = c; party = party.new; reply = result } ≡ ended_at_once reply c party.old }
+    ensures turn { (c : PoolCore P PlainHeap) → record { core = c; party = party.new; reply = result } ≡ ended_at_once reply c party.old }
     ensures reserved { (slots : SlotLists) → IsReserved party.old.frame slots → IsReserved party.new.frame slots }
 {
     party.frame.step_count = 1;
@@ -380,7 +346,7 @@ fn end_at_once<P: Pages>(party: &mut RunningParty<P>, reply: Reply) -> Option<Re
 // Asks for an instance of a module.
 fn ask<P: Pages>(
     alloc: Global,
-    core: &mut PoolCore<P>,
+    core: &mut PoolCore<P, PlainHeap>,
     kept: &ModuleCall,
     party: &mut RunningParty<P>,
     slots: &mut SlotLists,
@@ -439,7 +405,7 @@ fn share(kept: &ModuleCall) -> Result<ModuleCall, AllocError>
 // Gives the grant of a command back.
 fn give_back<P: Pages>(
     alloc: Global,
-    core: &mut PoolCore<P>,
+    core: &mut PoolCore<P, PlainHeap>,
     party: &mut RunningParty<P>,
     slots: &mut SlotLists,
     of: usize,

@@ -44,7 +44,12 @@ fn requests_grant(earlier: &[Command], of: usize) -> bool
 {
     matches!(
         earlier.get(of),
-        Some(Command::Instantiate { .. } | Command::Component { .. } | Command::Stack)
+        Some(
+            Command::Instantiate { .. }
+                | Command::Component { .. }
+                | Command::Stack
+                | Command::Heap { .. }
+        )
     )
 }
 
@@ -63,6 +68,7 @@ fn names_memory(
             None => false,
         },
         Some(Command::Stack) => is_on_stack(op, memory),
+        Some(Command::Heap { .. }) => memory == 0,
         _ => false,
     }
 }
@@ -163,6 +169,7 @@ fn is_valid_party(modules: &[ModuleInfo], party: &Party) -> bool
     ensures { result ≡ is_valid_party modules.now party.now }
 {
     are_call_numbers(party.gc_faults.as_slice())
+        && are_call_numbers(party.heap_faults.as_slice())
         && party.home < HOMES
         && party.commands.len() <= MOST_COMMANDS
         && are_valid(modules, party.commands.as_slice())

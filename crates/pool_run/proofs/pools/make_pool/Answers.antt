@@ -28,7 +28,7 @@ returns-clause-fault g c is =
       | in-Ok w ↦ absurd (ok_no_fault c.match-new.result _ w.result-is is)
       | in-Err-BadConfig w ↦ absurd (rule_no_fault c.match-new.result _ w.result-is is)
       | in-Err-PageFault w ↦
-          regions_fault c.args.input.now _ (g.M.PageMaker.told c.args.pages.now) (g.M.PageMaker.told c.new.new.maker)
+          regions_fault c.args.input.now g.P.Pages.told _ (g.M.PageMaker.told c.args.pages.now) (g.M.PageMaker.told c.new.new.maker)
           (record { same = c.page-page.ensures ∙ c.requires.page; rules = rw w.in-Err-PageFault.field-0-is at w.in-Err-PageFault.ensures.refused }) c.requires.page
           (rw w.in-Err-PageFault.field-0-is at w.in-Err-PageFault.ensures.faults)
           (rw w.in-Err-PageFault.field-0-is at w.in-Err-PageFault.ensures.behind)

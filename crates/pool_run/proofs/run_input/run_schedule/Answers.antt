@@ -15,7 +15,7 @@ returns-in-Ok-clause-fault g c is =
     c.new-maker.ensures.told
     ∙ ap (λ (page : ℕ). failing_maker maker page (planned_faults c.as_slice.result.now) maker.next maker.faults) c.in-Ok.ensures.ok
     ∙ ap (λ (fs : List Fault). failing_maker maker c.args.input.now.page (planned_faults fs) maker.next maker.faults) c.as_slice.ensures in
-    fault_of_run c.args.input.now maker _ _ _ before (c.run_with-answer.ensures.fault is) (search rules)
+    fault_of_run _ c.args.input.now maker _ _ _ before (c.run_with-answer.ensures.fault is) (search rules)
 
 pub returns-in-Err-clause-bad_config : goal.returns-in-Err-clause-bad_config
 returns-in-Err-clause-bad_config g c e = page_named c.args.input.now c.in-Err.rule e (sym c.if-not-is_valid.ensures) c.in-Err.ensures.err (λ sized. let wrong : false ≡ true = c.in-Err.ensures.valid.1 sized in absurd cc)

@@ -16,6 +16,7 @@ use Rattle.pool_run.specs.declared.slot_lists.SlotLists.{SlotLists}
 use Rattle.pool_run.proofs.Parties.{called_module}
 use Rattle.pool_run.proofs.TurnsMade.{ok_there}
 use Rattle.pool_run.proofs.turn.ask.Goals as goal
+use Rattle.pool_slots.specs.declared.listed_heaps.PlainHeap.{PlainHeap}
 
 pub returns-in-Err-clause-turn : goal.returns-in-Err-clause-turn
 returns-in-Err-clause-turn g c = (replies (Refused (Alloc Memory)) c.args.party.now.live c.args.party.now.store, inl refl, c.end_at_once.ensures.turn c.args.core.now)
@@ -26,9 +27,9 @@ returns-in-Ok-clause-turn g c =
     let p : RunningParty P = c.args.party.now in
     let kept : ModuleAsked = c.args.kept.now in
     let share : c.in-Ok.prepared.0 ≡ kept = ok_there (λ r. r.0 ≡ kept) _ c.in-Ok.prepared c.in-Ok.is c.prepare.ensures.share in
-    let Begun : ModuleAsked → Frame P = λ m. begun_call (call.Module m) p.frame in
+    let Begun : ModuleAsked → Frame P PlainHeap = λ m. begun_call (call.Module m) p.frame in
     let t : Turned P = record { core = c.step_call.new.core; party = c.step_call.new.party; reply = c.step_call.result } in
-    let S : Frame P → Type 0 = λ f. Steps c.args.core.now (record p { frame = f }) t in
+    let S : Frame P PlainHeap → Type 0 = λ f. Steps c.args.core.now (record p { frame = f }) t in
     (makes_step (begun_call (call.Module kept) p.frame) p.live, inr refl, subst S (c.begin.ensures.value ∙ ap Begun share) c.step_call.ensures.steps)
 
 pub returns-in-Err-clause-reserved : goal.returns-in-Err-clause-reserved
@@ -46,8 +47,8 @@ step_call-requires g c κs within =
     let memory_room : slots.memories.room ≡ length (memories_wanted (module_asked kept)) = ap (λ (x : Reserved ℕ). x.room) memories in
     let table_room : slots.tables.room ≡ length (tables_wanted (module_asked kept)) = ap (λ (x : Reserved ℕ). x.room) tables in
     let begun : c.begin.new.self ≡ begun_call (call.Module kept) p.frame = c.begin.ensures.value ∙ ap (λ (m : ModuleAsked). begun_call (call.Module m) p.frame) share in
-    let R : Frame P → Type 0 = λ f. IsReserved f slots in
-    let Can : Frame P → Type 0 = λ f. CanTurn g.maker c.args.core.now (record p { frame = f }) in
+    let R : Frame P PlainHeap → Type 0 = λ f. IsReserved f slots in
+    let Can : Frame P PlainHeap → Type 0 = λ f. CanTurn g.maker c.args.core.now (record p { frame = f }) in
     let reserved : R c.begin.new.self =
     subst R (sym begun) (record {
       memories = record { empty = ap (λ (x : Reserved ℕ). x.items) memories; room = λ is. omega (arith, memory_room) };

@@ -5,11 +5,12 @@ use Rattle.pool_run.specs.Turns.{Turned, replies, OpensAct, TurnsFrom}
 use Rattle.pool_run.specs.declared.act.Act.{Act}
 use Rattle.pool_run.specs.declared.running_party.RunningParty.{RunningParty}
 use Rattle.pool_run.proofs.turn.begin.Goals as goal
+use Rattle.pool_slots.specs.declared.listed_heaps.PlainHeap.{PlainHeap}
 
 pub returns-in-OnMemory-clause-turn : goal.returns-in-OnMemory-clause-turn
 returns-in-OnMemory-clause-turn g c =
     let P : Type 0 = g.row.P.Denot in
-    let core : PoolCore P = c.args.core.now in
+    let core : PoolCore P PlainHeap = c.args.core.now in
     let p : RunningParty P = c.args.party.now in
     let t : Turned P = record { core = core; party = c.end_at_once.new.party; reply = c.end_at_once.result } in
     let T : Act → Type 0 = λ act. TurnsFrom (OpensAct c.args.modules.now (given_act act) p) core p t in
@@ -18,7 +19,7 @@ returns-in-OnMemory-clause-turn g c =
 pub returns-in-OnTable-clause-turn : goal.returns-in-OnTable-clause-turn
 returns-in-OnTable-clause-turn g c =
     let P : Type 0 = g.row.P.Denot in
-    let core : PoolCore P = c.args.core.now in
+    let core : PoolCore P PlainHeap = c.args.core.now in
     let p : RunningParty P = c.args.party.now in
     let t : Turned P = record { core = core; party = c.end_at_once-in-OnTable.new.party; reply = c.end_at_once-in-OnTable.result } in
     let T : Act → Type 0 = λ act. TurnsFrom (OpensAct c.args.modules.now (given_act act) p) core p t in

@@ -3,8 +3,9 @@ use Rattle.pool_alloc.specs.Turns.{After}
 use Rattle.pool_run.proofs.Parties.{can_step}
 use Rattle.pool_run.proofs.Reserving.{memories_granted, tables_granted, step_reserved, reserved_there}
 use Rattle.pool_run.proofs.Stepped.{stepped}
-use Rattle.pool_run.proofs.TurnsMade.{place_for}
+use Rattle.pool_run.proofs.TurnsMade.{place_for, steps_made}
 use Rattle.pool_run.proofs.turn.step_call.Goals as goal
+use Rattle.pool_slots.specs.declared.listed_heaps.PlainHeap.{PlainHeap}
 
 pub step_under-outcome-requires : goal.step_under-outcome-requires
 step_under-outcome-requires g c κs within =
@@ -13,31 +14,31 @@ step_under-outcome-requires g c κs within =
 
 pub answer-requires-clause-place : goal.answer-requires-clause-place
 answer-requires-clause-place g c =
-    let a : After g.row.P.Denot = record { core = c.step_under-outcome.new.core; frame = c.step_under-outcome.new.frame; outcome = c.step_under-outcome.result } in
+    let a : After g.row.P.Denot PlainHeap = record { core = c.step_under-outcome.new.core; frame = c.step_under-outcome.new.frame; outcome = c.step_under-outcome.result } in
     let row = c.step_under-outcome.ensures in
     place_for g.maker c.args.core.now c.args.party.now a c.requires.1.0 (stepped g.maker row.0 row.1 c.args.core.now c.args.party.now.frame a (can_step g.maker c.args.core.now c.args.party.now c.requires.1.0) row.3)
 
 pub answer-requires-clause-memories : goal.answer-requires-clause-memories
 answer-requires-clause-memories g c =
-    let a : After g.row.P.Denot = record { core = c.step_under-outcome.new.core; frame = c.step_under-outcome.new.frame; outcome = c.step_under-outcome.result } in
+    let a : After g.row.P.Denot PlainHeap = record { core = c.step_under-outcome.new.core; frame = c.step_under-outcome.new.frame; outcome = c.step_under-outcome.result } in
     let row = c.step_under-outcome.ensures in
     memories_granted g.maker c.args.core.now c.args.party.now.frame a c.args.slots.now c.requires.1.1.1.1 (stepped g.maker row.0 row.1 c.args.core.now c.args.party.now.frame a (can_step g.maker c.args.core.now c.args.party.now c.requires.1.0) row.3)
 
 pub answer-requires-clause-tables : goal.answer-requires-clause-tables
 answer-requires-clause-tables g c =
-    let a : After g.row.P.Denot = record { core = c.step_under-outcome.new.core; frame = c.step_under-outcome.new.frame; outcome = c.step_under-outcome.result } in
+    let a : After g.row.P.Denot PlainHeap = record { core = c.step_under-outcome.new.core; frame = c.step_under-outcome.new.frame; outcome = c.step_under-outcome.result } in
     let row = c.step_under-outcome.ensures in
     tables_granted g.maker c.args.core.now c.args.party.now.frame a c.args.slots.now c.requires.1.1.1.1 (stepped g.maker row.0 row.1 c.args.core.now c.args.party.now.frame a (can_step g.maker c.args.core.now c.args.party.now c.requires.1.0) row.3)
 
 pub returns-clause-steps : goal.returns-clause-steps
 returns-clause-steps g c =
-    let a : After g.row.P.Denot = record { core = c.step_under-outcome.new.core; frame = c.step_under-outcome.new.frame; outcome = c.step_under-outcome.result } in
-    (a, c.step_under-outcome.ensures, c.answer.ensures.answered a.core)
+    let a : After g.row.P.Denot PlainHeap = record { core = c.step_under-outcome.new.core; frame = c.step_under-outcome.new.frame; outcome = c.step_under-outcome.result } in
+    steps_made c.step_under-outcome.new.heaps c.args.core.now c.args.party.now a _ c.step_under-outcome.ensures (c.answer.ensures.answered a.core)
 
 pub returns-clause-reserved : goal.returns-clause-reserved
 returns-clause-reserved g c =
     let P : Type 0 = g.row.P.Denot in
-    let a : After P = record { core = c.step_under-outcome.new.core; frame = c.step_under-outcome.new.frame; outcome = c.step_under-outcome.result } in
+    let a : After P PlainHeap = record { core = c.step_under-outcome.new.core; frame = c.step_under-outcome.new.frame; outcome = c.step_under-outcome.result } in
     let row = c.step_under-outcome.ensures in
-    reserved_there a.outcome a.core (record c.args.party.now { frame = a.frame }) c.answer.new.party c.answer.result c.answer.new.slots (c.answer.ensures.answered a.core)
+    reserved_there a.outcome a.core (record c.args.party.now { frame = a.frame; heaps = c.step_under-outcome.new.heaps }) c.answer.new.party c.answer.result c.answer.new.slots (c.answer.ensures.answered a.core)
     (step_reserved g.maker c.args.core.now c.args.party.now.frame a c.args.slots.now c.answer.new.slots c.requires.1.1.1.1 (stepped g.maker row.0 row.1 c.args.core.now c.args.party.now.frame a (can_step g.maker c.args.core.now c.args.party.now c.requires.1.0) row.3) c.answer.ensures.slots)

@@ -34,9 +34,9 @@ returns-in-Err-make_calls-clause-fault g c is =
     let fault : c.in-Err-make_calls.fault ≡ PageFault = cc in
     let told : g.M.PageMaker.told c.make_pool.new.pages ≡ g.maker = c.in-Ok.ensures.same ∙ c.requires.1.1.0 in
     let page : (g.M.PageMaker.told c.make_pool.new.pages).page ≡ c.args.input.now.page = ap (λ (m : MakerTold). m.page) c.in-Ok.ensures.same ∙ c.requires.1.1.1.1.1 in
-    let Faults : MakerTold → Type 0 = λ old. FaultsInMaking c.args.input.now old (g.M.PageMaker.told c.make_calls.new.maker) in
+    let Faults : MakerTold → Type 0 = λ old. FaultsInMaking g.P.Pages.told c.args.input.now old (g.M.PageMaker.told c.make_calls.new.maker) in
     subst Faults told
-    (images_fault c.args.input.now c.as_slice.result.now (g.M.PageMaker.told c.make_pool.new.pages).page (g.M.PageMaker.told c.make_pool.new.pages) (g.M.PageMaker.told c.make_calls.new.maker) c.as_slice.ensures page (c.in-Err-make_calls.ensures.fault (ap (λ e. Err e) fault)))
+    (images_fault g.P.Pages.told c.args.input.now c.as_slice.result.now (g.M.PageMaker.told c.make_pool.new.pages).page (g.M.PageMaker.told c.make_pool.new.pages) (g.M.PageMaker.told c.make_calls.new.maker) c.as_slice.ensures page (c.in-Err-make_calls.ensures.fault (ap (λ e. Err e) fault)))
 
 pub returns-in-Err-make_calls-clause-refused : goal.returns-in-Err-make_calls-clause-refused
 returns-in-Err-make_calls-clause-refused g c = names_none (broken_rule c.args.input.now) c.in-Err-make_calls.fault c.in-Ok.ensures.rules c.in-Err-make_calls.ensures.accepted

@@ -1,0 +1,21 @@
+use Rattle.std.proofs.Common.{rules, ◌≡◌, List, Err, true, sym, ap, ◌∙◌, subst}
+use Rattle.std.specs.List.{list_all}
+use Rattle.pool_pages.specs.declared.module_types.ModuleInfo.{ModuleInfo}
+use Rattle.pool_run.specs.Built.{is_built_module, broken_rule}
+use Rattle.pool_run.specs.Validity.{is_valid_module}
+use Rattle.pool_run.specs.declared.output.RunFault.TheVariants.{PageFault}
+use Rattle.pool_run.proofs.BuiltInputs.{built_modules}
+use Rattle.pool_run.proofs.OnDemandStarted.{images_fault_on_demand, is_on_demand}
+use Rattle.pool_run.proofs.RulesNamed.{names_none}
+use Rattle.pool_run.proofs.Valid.{valid_modules}
+use Rattle.pool_run.proofs.on_demand.run_in_seat.Goals as goal
+
+pub make_calls-requires-clause-valid : goal.make_calls-requires-clause-valid
+make_calls-requires-clause-valid g c =
+    let Valid : List ModuleInfo → Type 0 = λ modules. list_all is_valid_module modules ≡ true in
+    subst Valid (sym c.as_slice-modules.ensures) (valid_modules c.args.input.now c.requires.1.1.1.1.1)
+
+pub make_calls-requires-clause-built : goal.make_calls-requires-clause-built
+make_calls-requires-clause-built g c =
+    let Built : List ModuleInfo → Type 0 = λ modules. list_all is_built_module modules ≡ true in
+    subst Built (sym c.as_slice-modules.ensures) (built_modules c.args.input.now c.requires.1.1.1.1.0)

@@ -1,0 +1,36 @@
+use Rattle.std.proofs.Common.{◌≡◌, List, Option, Some, None, sym, ap, ◌∙◌, subst, arith, length}
+use Rattle.std.specs.Prelude.{slice_index_or}
+use Rattle.std.proofs.lemmas.List.{length-set}
+use Rattle.pool_run.specs.AtOnce.{given_op}
+use Rattle.pool_run.specs.OnDemandSeen.{AreLive}
+use Rattle.pool_run.specs.PartyRules.{rule_of}
+use Rattle.pool_run.proofs.OnDemandGrants.{bytes_none, bytes_taken}
+use Rattle.pool_run.proofs.OnDemandParties.{taken_below, live_at, live_without}
+use Rattle.pool_run.proofs.on_demand_act.act_on_demand.Goals as goal
+
+pub act_on_taken-requires-clause-place : goal.act_on_taken-requires-clause-place
+act_on_taken-requires-clause-place g c =
+    let live = c.args.live.now.items in
+    omega (arith, taken_below live c.args.of c.in-Some.grant (sym c.take_from.ensures.value ∙ c.in-Some.is), ap length c.take_from.ensures.rest, length-set live c.args.of None)
+
+pub act_on_taken-requires-clause-grant : goal.act_on_taken-requires-clause-grant
+act_on_taken-requires-clause-grant g c =
+    live_at (g.M.PageMaker.told c.args.maker.now).tells c.args.live.now.items c.args.of c.in-Some.grant c.requires.held (sym c.take_from.ensures.value ∙ c.in-Some.is)
+
+pub act_on_taken-requires-clause-held : goal.act_on_taken-requires-clause-held
+act_on_taken-requires-clause-held g c =
+    let tells = (g.M.PageMaker.told c.args.maker.now).tells in
+    subst (AreLive tells) (sym c.take_from.ensures.rest) (live_without tells c.args.live.now.items c.args.of c.requires.held)
+
+pub returns-in-None-clause-moves : goal.returns-in-None-clause-moves
+returns-in-None-clause-moves g c =
+    bytes_none (given_op c.args.op.now) (rule_of c.args.limits) c.args.memory (g.M.PageMaker.told c.args.maker.now).tells c.args.of c.args.live.now.items c.take_from.new.places.items (sym c.take_from.ensures.value ∙ c.in-None.is) c.take_from.ensures.rest
+
+pub returns-in-None-clause-held : goal.returns-in-None-clause-held
+returns-in-None-clause-held g c =
+    let tells = (g.M.PageMaker.told c.args.maker.now).tells in
+    subst (AreLive tells) (sym c.take_from.ensures.rest) (live_without tells c.args.live.now.items c.args.of c.requires.held)
+
+pub returns-in-Some-clause-moves : goal.returns-in-Some-clause-moves
+returns-in-Some-clause-moves g c =
+    bytes_taken (given_op c.args.op.now) (rule_of c.args.limits) c.args.memory (g.M.PageMaker.told c.args.maker.now).tells c.args.of c.args.live.now.items c.take_from.new.places.items c.act_on_taken.new.live.items c.act_on_taken.result c.in-Some.grant (sym c.take_from.ensures.value ∙ c.in-Some.is) c.take_from.ensures.rest c.act_on_taken.ensures.moves

@@ -1,0 +1,43 @@
+use Rattle.std.proofs.Common.{refl, sym, subst}
+use Rattle.pool_run.specs.AtOnce.{given_op}
+use Rattle.pool_run.specs.OnDemandSeen.{BytesOfGrant, IsHeldGrant, seen_grant, seen_lease}
+use Rattle.pool_run.specs.PartyRules.{rule_of}
+use Rattle.pool_run.specs.Private.{stack_grant, heap_grant}
+use Rattle.pool_run.specs.Turns.{seen_stack}
+use Rattle.pool_run.specs.declared.on_demand_grant.OnDemandGrant.TheVariants.{Instance}
+use Rattle.pool_run.proofs.OnDemandGrants.{instance_bytes, heap_bytes}
+use Rattle.pool_run.proofs.on_demand_act.act_on_grant.Goals as goal
+
+pub act_on_instance-instance-requires : goal.act_on_instance-instance-requires
+act_on_instance-instance-requires g c = record { held = subst (IsHeldGrant (g.M.PageMaker.told c.args.maker.now).tells) c.in-Instance.is c.requires.held }
+
+pub returns-in-Instance-clause-moves : goal.returns-in-Instance-clause-moves
+returns-in-Instance-clause-moves g c =
+    let tells = (g.M.PageMaker.told c.args.maker.now).tells in
+    let op = given_op c.args.op.now in
+    let rule = rule_of c.args.limits in
+    let k = c.args.memory in
+    let call = c.act_on_instance-instance in
+    subst (λ x. BytesOfGrant op rule k (seen_grant tells x) call.result.1 (seen_grant tells (Instance call.result.0))) (sym c.in-Instance.is) (instance_bytes op rule k tells c.in-Instance.instance call.result.0 call.result.1 call.ensures.moves)
+
+pub returns-in-Stack-clause-moves : goal.returns-in-Stack-clause-moves
+returns-in-Stack-clause-moves g c =
+    let tells = (g.M.PageMaker.told c.args.maker.now).tells in
+    let op = given_op c.args.op.now in
+    let rule = rule_of c.args.limits in
+    let k = c.args.memory in
+    let call = c.act_on_lease-lease in
+    subst (λ x. BytesOfGrant op rule k (seen_grant tells x) call.result.1 (stack_grant (seen_stack call.result.0.stack))) (sym c.in-Stack.is) (call.ensures rule)
+
+pub act_on_heap-lease-requires : goal.act_on_heap-lease-requires
+act_on_heap-lease-requires g c = record { held = subst (IsHeldGrant (g.M.PageMaker.told c.args.maker.now).tells) c.in-Heap.is c.requires.held }
+
+pub returns-in-Heap-clause-moves : goal.returns-in-Heap-clause-moves
+returns-in-Heap-clause-moves g c =
+    let tells = (g.M.PageMaker.told c.args.maker.now).tells in
+    let op = given_op c.args.op.now in
+    let rule = rule_of c.args.limits in
+    let k = c.args.memory in
+    let call = c.act_on_heap-lease in
+    let lease = c.in-Heap.heap in
+    subst (λ x. BytesOfGrant op rule k (seen_grant tells x) call.result.1 (heap_grant lease.index.0 (seen_lease tells call.result.0))) (sym c.in-Heap.is) (heap_bytes op rule k tells lease.index.0 c.in-Heap.lease call.result.0 call.result.1 call.ensures.moves)

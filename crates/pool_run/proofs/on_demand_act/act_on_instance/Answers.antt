@@ -1,0 +1,29 @@
+use Rattle.std.proofs.Common.{List, All, refl, sym, subst}
+use Rattle.std.specs.Prelude.{slice_get, slice_set}
+use Rattle.pool_memory.specs.MemoryStates.{state_of}
+use Rattle.pool_run.specs.AtOnce.{given_op}
+use Rattle.pool_run.specs.Objects.{MovesNamed}
+use Rattle.pool_run.specs.OnDemandSeen.{IsHeld, LeaseMovesOnDemand, with_memory}
+use Rattle.pool_run.specs.PartyRules.{rule_of}
+use Rattle.pool_run.proofs.Named.{named_under}
+use Rattle.pool_run.proofs.on_demand_act.act_on_instance.Goals as goal
+
+pub act_in_list-reply-requires : goal.act_in_list-reply-requires
+act_in_list-reply-requires g c = record { held = subst (All (λ l. IsHeld (g.M.PageMaker.told c.args.maker.now).tells (state_of l.memory))) (sym c.into_vec-memories.ensures) c.requires.held.memories }
+
+pub returns-clause-moves : goal.returns-clause-moves
+returns-clause-moves g c =
+    let k = c.args.memory in
+    let instance = c.args.instance in
+    let reply = c.act_in_list-reply.result in
+    let new = c.act_in_list-reply.new.memories.items in
+    let Move = LeaseMovesOnDemand (g.M.PageMaker.told c.args.maker.now).tells (given_op c.args.op.now) (rule_of c.args.limits) in
+    let moved = subst (λ xs. MovesNamed Move (slice_get xs k) (λ l ls. slice_set ls k l) xs reply new) c.into_vec-memories.ensures c.act_in_list-reply.ensures.moves in
+    let there = named_under Move (slice_get instance.memories k) (λ ms. record instance { memories = ms }) (λ l ls. slice_set ls k l) (with_memory k) (λ l ls. refl) instance.memories new reply moved in
+    subst (λ ms. MovesNamed Move (slice_get instance.memories k) (with_memory k) instance reply (record instance { memories = ms })) (sym c.from_vec.ensures) there
+
+pub returns-clause-held : goal.returns-clause-held
+returns-clause-held g c = record {
+  memories = subst (All (λ l. IsHeld (g.M.PageMaker.told c.args.maker.now).tells (state_of l.memory))) (sym c.from_vec.ensures) c.act_in_list-reply.ensures.held;
+  tables = c.requires.held.tables;
+}

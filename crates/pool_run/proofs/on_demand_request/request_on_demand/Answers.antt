@@ -1,0 +1,27 @@
+use Rattle.std.proofs.Common.{◌≡◌, ℕ, length, replicate, sym, ap, ◌∙◌, subst}
+use Rattle.pool_pages.specs.declared.module_types.ModuleInfo.{ModuleInfo}
+use Rattle.pool_alloc.specs.Asked.{ModuleAsked}
+use Rattle.pool_alloc.specs.OnDemandAnswers.{no_slot}
+use Rattle.pool_run.specs.OnDemand.{request_on_demand}
+use Rattle.pool_run.specs.OnDemandSeen.{AnswersOnDemand}
+use Rattle.pool_run.specs.declared.on_demand_grant.OnDemandGrant.TheVariants.{Instance}
+use Rattle.pool_run.proofs.OnDemandParties.{granted_makes, live_with}
+use Rattle.pool_run.proofs.OnDemandRequests.{memories_in_none, tables_in_none}
+use Rattle.pool_run.proofs.on_demand_request.request_on_demand.Goals as goal
+
+pub returns-in-Ok-request-clause-makes : goal.returns-in-Ok-request-clause-makes
+returns-in-Ok-request-clause-makes g c =
+    let t = g.terms in
+    let call = c.args.call.now in
+    let request = request_on_demand t call.id.0 in
+    let is = subst (AnswersOnDemand t request) c.in-Ok-request.is c.request.ensures.answer in
+    let info : c.deref.result.now ≡ call.info = c.deref.ensures ∙ ap (λ (k : ModuleAsked). k.info) c.call.view_is in
+    let memories = c.in-Ok.ensures.memories ∙ ap (λ (m : ModuleInfo). replicate (length m.memories) no_slot) info ∙ memories_in_none t c.args.tunables.now call c.requires.1.1.1.0 in
+    let tables = c.in-Ok.ensures.tables ∙ ap (λ (m : ModuleInfo). replicate (length m.tables) no_slot) info ∙ tables_in_none t c.args.tunables.now call c.requires.1.1.1.0 in
+    granted_makes t.tells t c.args.n request c.args.live.now.items c.in-Ok-request.grant c.in-Ok.memories c.in-Ok.tables is.0 is.1.0 memories tables
+
+pub returns-in-Ok-request-clause-held : goal.returns-in-Ok-request-clause-held
+returns-in-Ok-request-clause-held g c =
+    let t = g.terms in
+    let is = subst (AnswersOnDemand t (request_on_demand t c.args.call.now.id.0)) c.in-Ok-request.is c.request.ensures.answer in
+    live_with t.tells c.args.live.now.items c.args.n (Instance c.in-Ok-request.grant) is.1.1 c.requires.1.1.1.1.1.1

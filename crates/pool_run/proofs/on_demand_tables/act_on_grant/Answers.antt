@@ -1,0 +1,24 @@
+use Rattle.std.proofs.Common.{rules, ◌≡◌, None, refl, sym, ap, ◌∙◌, subst}
+use Rattle.std.specs.Prelude.{slice_get}
+use Rattle.pool_run.specs.AtOnce.{given_table_op}
+use Rattle.pool_run.specs.Objects.{MovesNamed}
+use Rattle.pool_run.specs.OnDemandSeen.{IsHeldGrant, TableLeaseMovesOnDemand, tables_of_grant, with_table, with_table_in}
+use Rattle.pool_run.specs.PartyRules.{rule_of}
+use Rattle.pool_run.specs.declared.on_demand_grant.OnDemandGrant.TheVariants.{Instance}
+use Rattle.pool_run.proofs.Named.{named_under}
+use Rattle.pool_run.proofs.on_demand_tables.act_on_grant.Goals as goal
+
+pub act_on_instance-instance-requires : goal.act_on_instance-instance-requires
+act_on_instance-instance-requires g c κs within = (search rules, (search rules, subst (IsHeldGrant g.tells) c.in-Instance.is c.requires.1.1))
+
+pub returns-in-Instance-clause-moves : goal.returns-in-Instance-clause-moves
+returns-in-Instance-clause-moves g c =
+    let k = c.args.table in
+    let call = c.act_on_instance-instance in
+    let instance = c.in-Instance.instance in
+    let Move = TableLeaseMovesOnDemand (given_table_op c.args.op.now) (rule_of c.args.limits) c.args.store.now call.new.store in
+    subst (λ x. MovesNamed Move (slice_get (tables_of_grant x) k) (with_table_in k) x call.result.1 (Instance call.result.0)) (sym c.in-Instance.is)
+    (named_under Move (slice_get instance.tables k) (λ i. Instance i) (with_table k) (with_table_in k) (λ l i. refl) instance call.result.0 call.result.1 call.ensures.moves)
+
+pub returns-in-Instance-clause-unasked : goal.returns-in-Instance-clause-unasked
+returns-in-Instance-clause-unasked g c none = c.act_on_instance-instance.ensures.unasked (ap (λ x. slice_get (tables_of_grant x) c.args.table) (sym c.in-Instance.is) ∙ none)

@@ -1,0 +1,34 @@
+use Rattle.std.proofs.Common.{rules, ◌≡◌, Option, Some, None, sym, ap, ◌∙◌, subst, arith, length}
+use Rattle.std.specs.Prelude.{slice_index_or, slice_get, slice_set}
+use Rattle.std.specs.Option.{option_and_then}
+use Rattle.std.proofs.lemmas.List.{length-set}
+use Rattle.pool_memory.specs.declared.creators.LinearMemory.{LinearMemory}
+use Rattle.pool_alloc.specs.declared.on_demand_lease.OnDemandInstance.{OnDemandInstance}
+use Rattle.pool_run.specs.AtOnce.{given_table_op}
+use Rattle.pool_run.specs.OnDemandSeen.{AreLive, TableLeaseMovesOnDemand, made_tables}
+use Rattle.pool_run.specs.PartyRules.{rule_of}
+use Rattle.pool_run.proofs.Named.{taken_moved}
+use Rattle.pool_run.proofs.OnDemandParties.{taken_below, live_at, live_without}
+use Rattle.pool_run.proofs.on_demand_tables.act_on_table_on_demand.Goals as goal
+
+pub act_on_taken-requires : goal.act_on_taken-requires
+act_on_taken-requires g c κs within =
+    let live = c.args.live.now.items in
+    let taken = sym c.take_from.ensures.value ∙ c.in-Some.is in (
+      search rules,
+      (
+        search rules,
+        (
+          omega (arith, taken_below live c.args.of c.in-Some.grant taken, ap length c.take_from.ensures.rest, length-set live c.args.of None),
+          (live_at g.tells live c.args.of c.in-Some.grant c.requires.1.1 taken, subst (AreLive g.tells) (sym c.take_from.ensures.rest) (live_without g.tells live c.args.of c.requires.1.1)),
+        ),
+      ),
+    )
+
+pub returns-in-Some-clause-moves : goal.returns-in-Some-clause-moves
+returns-in-Some-clause-moves g c =
+    taken_moved made_tables (TableLeaseMovesOnDemand (given_table_op c.args.op.now) (rule_of c.args.limits) c.args.store.now c.act_on_taken.new.store) c.args.of c.args.table c.args.live.now.items c.take_from.new.places.items c.act_on_taken.new.live.items c.act_on_taken.result c.in-Some.grant (sym c.take_from.ensures.value ∙ c.in-Some.is) c.take_from.ensures.rest c.act_on_taken.ensures.moves
+
+pub returns-in-Some-clause-unasked : goal.returns-in-Some-clause-unasked
+returns-in-Some-clause-unasked g c none =
+    c.act_on_taken.ensures.unasked (sym (ap (option_and_then (λ g. slice_get (made_tables.in_grant g) c.args.table)) (sym c.take_from.ensures.value ∙ c.in-Some.is)) ∙ none)

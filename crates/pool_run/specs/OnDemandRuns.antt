@@ -1,0 +1,104 @@
+-- What a run of an input is over an allocator that makes each memory, table, stack and heap for the request that asks for it.
+use Rattle.std.specs.Prelude.{◌≡◌, ℕ, ◌+◌, ◌<◌, ◌==◌, ◌⊎◌, List, length, count_by, min, slice_index_or, if◌then◌else◌, Bool, true, false, None, IfSome}
+use Rattle.pool_pages.specs.FaultPlans.{planned_faults}
+use Rattle.pool_pages.specs.MakerTold.{MakerTold, no_calls}
+use Rattle.pool_pages.specs.Told.{Rose}
+use Rattle.pool_alloc.specs.Asked.{ModuleAsked}
+use Rattle.pool_alloc.specs.declared.metrics.Metrics.{Metrics}
+use Rattle.pool_run.specs.Folds.{commands_of, replies_to}
+use Rattle.pool_run.specs.OnDemand.{IsRunOnDemand}
+use Rattle.pool_run.specs.Private.{Terms}
+use Rattle.pool_run.specs.OnDemandSeen.{AreCallsOnDemand, IsPartyOnDemand}
+use Rattle.pool_run.specs.Rooms.{World, under, open_host}
+use Rattle.pool_run.specs.Runs.{world_of, with_faults, images_listed}
+use Rattle.pool_run.specs.RunsMade.{commands_in}
+use Rattle.pool_run.specs.Schedules.{turns_of}
+use Rattle.pool_run.specs.Worlds.{NameModules}
+use Rattle.pool_run.specs.declared.on_demand_party.PartyOnDemand.{PartyOnDemand}
+use Rattle.pool_run.specs.declared.input.Input.{Input}
+use Rattle.pool_run.specs.declared.output.RunOutput.{RunOutput}
+use Rattle.pool_run.specs.declared.reply.Reply.{Reply}
+
+-- what the replies to party i depend on
+abbrev pub party_terms : World → ℕ → Terms
+party_terms w i = (under (slice_index_or w.hosts i open_host) w).terms
+
+-- how many of these steps are a party's, and how many the schedule gives it
+abbrev pub steps_in : List ℕ → ℕ → ℕ
+steps_in turns i = count_by (λ party. party == i) turns
+
+abbrev pub steps_given : Input → ℕ → ℕ
+steps_given input i = steps_in (turns_of input.schedule) i
+
+-- so many steps of one party
+abbrev pub steps_of : ℕ → ℕ → ℕ → ℕ
+steps_of party times i = if party == i then times else 0
+
+-- How many replies a party with so many steps and commands has: each command is one step, and with `finish` each is made.
+abbrev pub replies_due : Bool → ℕ → ℕ → ℕ
+replies_due true steps commands = commands
+replies_due false steps commands = min steps commands
+
+-- what is the same for a whole run: the calls are for the input's modules, which the commands name
+pub record IsBackground (w : World) (input : Input) (calls : List ModuleAsked) : Type 0 where
+  pub asked : AreCallsOnDemand w.terms input.tunables calls
+  pub named : (i : ℕ) → i < length input.parties → NameModules (length calls) (commands_of (commands_in input.parties) i)
+
+module _ {M P : Type 0} where
+  -- what holds of all parties between two steps
+  pub record ArePartiesOnDemand (w : World) (input : Input) (parties : List (PartyOnDemand M P)) : Type 0 where
+    pub count : length parties ≡ length input.parties
+    pub each : (i : ℕ) (d : PartyOnDemand M P) → i < length input.parties → IsPartyOnDemand (party_terms w i) (commands_of (commands_in input.parties) i) (slice_index_or parties i d)
+
+  -- how many replies a party has
+  abbrev pub replies_told : List (PartyOnDemand M P) → ℕ → PartyOnDemand M P → ℕ
+  replies_told parties i d = length (slice_index_or parties i d).told.items
+
+  -- Each party has as many replies more as it had steps, up to the number of its commands.
+  abbrev pub HaveStepped : Input → (ℕ → ℕ) → List (PartyOnDemand M P) → List (PartyOnDemand M P) → Type 0
+  HaveStepped input steps old new = (i : ℕ) (d : PartyOnDemand M P) → i < length input.parties → replies_told new i d ≡ min (replies_told old i d + steps i) (length (commands_of (commands_in input.parties) i))
+
+  -- no party has a reply, and each of the first so many parties has one for each of its commands
+  abbrev pub HaveNone : Input → List (PartyOnDemand M P) → Type 0
+  HaveNone input parties = (i : ℕ) (d : PartyOnDemand M P) → i < length input.parties → replies_told parties i d ≡ 0
+
+  abbrev pub HaveAll : Input → ℕ → List (PartyOnDemand M P) → Type 0
+  HaveAll input count parties = (i : ℕ) (d : PartyOnDemand M P) → i < count → replies_told parties i d ≡ length (commands_of (commands_in input.parties) i)
+
+-- the numbers of a pool, where there is none
+abbrev pub no_metrics : Metrics
+no_metrics = record {
+  core_instances = 0;
+  component_instances = 0;
+  memories = 0;
+  tables = 0;
+  stacks = 0;
+  gc_heaps = 0;
+  unused_warm_memories = 0;
+  unused_memory_bytes_resident = 0;
+  unused_warm_tables = 0;
+  unused_table_bytes_resident = 0;
+  unused_warm_stacks = 0;
+  unused_stack_bytes_resident = None;
+}
+
+-- What each party was told is a private run of its commands, with as many replies as are due.
+pub record AreToldOnDemand (input : Input) (maker : MakerTold) (replies : List (List Reply)) : Type 0 where
+  pub count : length replies ≡ length input.parties
+  pub told : (i : ℕ) → i < length input.parties → IsRunOnDemand (party_terms (world_of input maker) i) (commands_of (commands_in input.parties) i) (replies_to i replies)
+  pub due : (i : ℕ) → i < length input.parties → length (replies_to i replies) ≡ replies_due input.finish (steps_given input i) (length (commands_of (commands_in input.parties) i))
+
+-- The output is that of a run of the input: of its replies, and without numbers. No image of a module is one whose making
+-- fails, by the maker's own list or by its plan.
+pub record IsOnDemand (input : Input) (maker : MakerTold) (output : RunOutput) : Type 0 where
+  pub replies : AreToldOnDemand input maker output.replies
+  pub own : images_listed input.tunables input.page 0 maker.listed input.modules ≡ false
+  pub unlisted : IfSome maker.plan (λ plan. images_listed input.tunables input.page 0 plan input.modules ≡ false)
+  pub metrics : output.metrics ≡ no_metrics
+  pub calls : output.calls ≡ no_calls
+
+-- No image could be made by a maker with the input's faults before it: the input lists such a making, or the maker's own count
+-- of faults rose. And where the maker with the input's faults tells its plan, that lists one.
+pub record HasFaultedImages (input : Input) (old new : MakerTold) : Type 0 where
+  pub cause : (images_listed input.tunables input.page 0 (planned_faults input.faults) input.modules ≡ true) ⊎ Rose old.faults new.faults
+  pub planned : IfSome (with_faults input old).plan (λ plan. images_listed input.tunables input.page 0 plan input.modules ≡ true)
