@@ -2,38 +2,32 @@
 use Rattle.std.proofs.Common.{◌≡◌, ℕ, ◌<◌, ◌≤◌, Bool, true, false, List, length, Option, Some, None, Result, Err, cond, refl, sym, ap, ◌∙◌, subst, inl, inr, arith}
 use Rattle.std.specs.Prelude.{◌⊎◌, ◌↔◌, IfSome}
 use Rattle.pool_pages.specs.MakerTold.{MakerTold}
+use Rattle.pool_pages.specs.Told.{Told}
 use Rattle.pool_pages.specs.declared.bad_config.BadConfig.{BadConfig}
 use Rattle.pool_run.specs.declared.output.RunFault.{RunFault}
 use Rattle.pool_run.specs.declared.output.RunFault.TheVariants as fault
 use Rattle.pool_cli.specs.Reading.{Reading, not_built, invalid, accepted}
 use Rattle.pool_cli.specs.Lines.{line_of, status_of_failure}
 use Rattle.pool_cli.specs.Stages.{Ends, IsRunFailure, Refuses, WritesText}
-use Rattle.pool_cli.specs.Statuses.{Format, run_format, shared_format, HasRead, HasDone, HasReadInvalid, HasBadConfig, HasFaulted, Fails, FollowsBytes, IsHindrance, reads_input, status_of, status_of_limits}
+use Rattle.pool_cli.specs.Statuses.{Format, run_format, shared_format, HasRead, HasDone, HasReadInvalid, HasBadConfig, HasFaulted, BreaksRule, AsksForMore, Fails, FollowsBytes, IsHindrance, reads_input, status_of, status_of_limits}
 use Rattle.pool_cli.specs.Streams.{SourceTold, SinkTold, Wrote, most_input}
 use Rattle.pool_cli.specs.declared.failure.Failure.{Failure}
 use Rattle.pool_cli.specs.declared.failure.Failure.TheVariants as failure
 use Rattle.pool_cli.specs.declared.status.Status.{Status}
 use Rattle.pool_cli.specs.declared.status.Status.TheVariants.{Ok as Success, BadUsage, BadInput, BadConfig as BadSettings, PageFault, ReadFault, WriteFault, NoMemory, TooLong, NotBuilt}
 use Rattle.pool_cli.specs.declared.words.Task.{Task}
-use Rattle.pool_cli.specs.declared.words.Task.TheVariants.{Run, Shared, Later, Unknown}
+use Rattle.pool_cli.specs.declared.words.Task.TheVariants.{Run, RunOnDemand, Shared, Later, Unknown}
 
 -- settings that are refused are the cause of a failure of a task that reads an input
-refused_fails : (task : Task) (error : BadConfig) (cause : Failure) (so sn : SourceTold) (mo mn : MakerTold) → reads_input task ≡ true → HasBadConfig task error so sn → Refuses error cause → Fails task cause so sn mo mn
-refused_fails task error failure.BadUsage so sn mo mn reads broken is = absurd is
-refused_fails task error failure.BadInput so sn mo mn reads broken is = absurd is
-refused_fails task error (failure.BadConfig line) so sn mo mn reads broken is = (error, broken, is)
-refused_fails task error failure.PageFault so sn mo mn reads broken is = absurd is
-refused_fails task error failure.ReadFault so sn mo mn reads broken is = absurd is
-refused_fails task error failure.NoMemory so sn mo mn reads broken is = reads
-refused_fails task error failure.TooLong so sn mo mn reads broken is = absurd is
-refused_fails task error failure.NotBuilt so sn mo mn reads broken is = absurd is
-
--- a run that isn't made is the cause of a failure
-pub run_fails : (task : Task) (why : RunFault) (cause : Failure) (so sn : SourceTold) (mo mn : MakerTold) → reads_input task ≡ true → (why ≡ fault.BadInput → HasReadInvalid task so sn) → ((e : BadConfig) → why ≡ fault.BadConfig e → HasBadConfig task e so sn) → (why ≡ fault.PageFault → HasFaulted task so sn mo mn) → IsRunFailure why cause → Fails task cause so sn mo mn
-run_fails task fault.BadInput cause so sn mo mn reads bad broken faulted is = subst (λ (f : Failure). Fails task f so sn mo mn) (sym is) (bad refl)
-run_fails task (fault.BadConfig e) cause so sn mo mn reads bad broken faulted is = refused_fails task e cause so sn mo mn reads (broken e refl) is
-run_fails task fault.PageFault cause so sn mo mn reads bad broken faulted is = subst (λ (f : Failure). Fails task f so sn mo mn) (sym is) (faulted refl)
-run_fails task fault.Memory cause so sn mo mn reads bad broken faulted is = subst (λ (f : Failure). Fails task f so sn mo mn) (sym is) reads
+refused_fails : (faulted : Type 0) (task : Task) (error : BadConfig) (cause : Failure) (so sn : SourceTold) → reads_input task ≡ true → HasBadConfig task error so sn → Refuses error cause → Fails faulted task cause so sn
+refused_fails faulted task error failure.BadUsage so sn reads broken is = absurd is
+refused_fails faulted task error failure.BadInput so sn reads broken is = absurd is
+refused_fails faulted task error (failure.BadConfig line) so sn reads broken is = (error, broken, is)
+refused_fails faulted task error failure.PageFault so sn reads broken is = absurd is
+refused_fails faulted task error failure.ReadFault so sn reads broken is = absurd is
+refused_fails faulted task error failure.NoMemory so sn reads broken is = reads
+refused_fails faulted task error failure.TooLong so sn reads broken is = absurd is
+refused_fails faulted task error failure.NotBuilt so sn reads broken is = absurd is
 
 -- an input is valid or isn't
 is_either : (b : Bool) → (b ≡ true) ⊎ (b ≡ false)
@@ -68,6 +62,33 @@ pub no_limit : {A : Type 0} (o : Option BadConfig) (valid : Bool) (r : Result A 
 no_limit None valid r is exact none = refl
 no_limit (Some e) valid r is exact none = absurd (none e ((exact e).1 (is, refl)))
 
+-- a run that isn't made is the cause of a failure
+run_fails : (faulted : Type 0) (task : Task) (why : RunFault) (cause : Failure) (so sn : SourceTold) → reads_input task ≡ true → (why ≡ fault.BadInput → HasReadInvalid task so sn) → ((e : BadConfig) → why ≡ fault.BadConfig e → HasBadConfig task e so sn) → (why ≡ fault.PageFault → faulted) → IsRunFailure why cause → Fails faulted task cause so sn
+run_fails faulted task fault.BadInput cause so sn reads bad broken making is = subst (λ (f : Failure). Fails faulted task f so sn) (sym is) (bad refl)
+run_fails faulted task (fault.BadConfig e) cause so sn reads bad broken making is = refused_fails faulted task e cause so sn reads (broken e refl) is
+run_fails faulted task fault.PageFault cause so sn reads bad broken making is = subst (λ (f : Failure). Fails faulted task f so sn) (sym is) (making refl)
+run_fails faulted task fault.Memory cause so sn reads bad broken making is = subst (λ (f : Failure). Fails faulted task f so sn) (sym is) reads
+
+-- nothing was run, for this reason
+abbrev none_for : (A : Type 0) → RunFault → Result A RunFault
+none_for A why = Err why
+
+-- an input was read and nothing was run, which is the cause of a failure
+pub not_run : {X : Type 0} (A : Type 0) (f : Format X) (faulted : Type 0) (task : Task) (input : X) (valid : Bool) (why : RunFault) (cause : Failure) (so sn : SourceTold) → reads_input task ≡ true → (HasRead f invalid so sn → HasReadInvalid task so sn) → ((e : BadConfig) → BreaksRule f e so sn → HasBadConfig task e so sn) → (HasRead f (accepted input) so sn → f.broken input ≡ None → why ≡ fault.PageFault → faulted) → HasRead f (cond valid (accepted input) invalid) so sn → (none_for A why ≡ none_for A fault.BadInput) ↔ (valid ≡ false) → ((e : BadConfig) → (none_for A why ≡ none_for A (fault.BadConfig e)) ↔ ((valid ≡ true) × (f.broken input ≡ Some e))) → IsRunFailure why cause → Fails faulted task cause so sn
+not_run A f faulted task input valid why cause so sn reads invalid_is broken_is making read bad_input bad_config is =
+    run_fails faulted task why cause so sn reads
+    (λ bad. invalid_is (cannot_run f input valid so sn read (bad_input.0 (ap (none_for A) bad))))
+    (λ e bad. broken_is e (record {
+      input = input;
+      read = can_run f input valid (none_for A why) so sn read bad_input (λ x. cc);
+      broken = ((bad_config e).0 (ap (none_for A) bad)).1;
+    }))
+    (λ bad. making
+    (can_run f input valid (none_for A why) so sn read bad_input (λ x. cc))
+    (no_limit (f.broken input) valid (none_for A why) (is_valid_unless valid (none_for A why) bad_input (λ x. cc)) bad_config (λ e x. cc))
+    bad)
+    is
+
 some_of : {A : Type 0} (o : Option A) (P : A → Type 0) → ((x : A) → o ≡ Some x → P x) → IfSome o P
 some_of None P each = tt
 some_of (Some x) P each = each x refl
@@ -96,72 +117,74 @@ too_long f so rest told is =
     let more : most_input < length rest = at_some so.rest rest (λ r. most_input < length r) told is in
     record { short = λ h. absurd (omega (arith, h, more)); long = λ h. inl refl }
 
+-- what was done is of an input that can be run, and breaks no rule
+record HasDoneOne {X : Type 0} (f : Format X) (so sn : SourceTold) : Type 0 where
+  input : X
+  read : HasRead f (accepted input) so sn
+  limits : f.broken input ≡ None
+
 -- the bytes lead to the status, or something stands in the way
-run_follows : (P : Type 0) (status : Status) (so sn : SourceTold) (ko kn : SinkTold) (mo mn : MakerTold) (rest : List ℕ) → so.rest ≡ Some rest → Ends P Run status so sn ko kn mo mn → FollowsBytes run_format status rest
-run_follows P Success so sn ko kn mo mn rest told ends =
-    read_follows run_format (accepted ends.run.input) Success so sn rest told ends.run.read (limits_of run_format ends.run.input None Success ends.run.limits refl)
-run_follows P BadUsage so sn ko kn mo mn rest told ends = let is : Run ≡ Unknown = ends.0.0 in absurd cc
-run_follows P BadInput so sn ko kn mo mn rest told ends = read_follows run_format invalid BadInput so sn rest told ends.0 refl
-run_follows P BadSettings so sn ko kn mo mn rest told ends =
-    read_follows run_format (accepted ends.refused.input) BadSettings so sn rest told ends.refused.read (limits_of run_format ends.refused.input (Some ends.error) BadSettings ends.refused.broken refl)
-run_follows P PageFault so sn ko kn mo mn rest told ends = hindered run_format PageFault rest (inr (inr (inl refl)))
-run_follows P ReadFault so sn ko kn mo mn rest told ends = hindered run_format ReadFault rest (inl refl)
-run_follows P WriteFault so sn ko kn mo mn rest told ends = hindered run_format WriteFault rest (inr (inl refl))
-run_follows P NoMemory so sn ko kn mo mn rest told ends = hindered run_format NoMemory rest (inr (inr (inr refl)))
-run_follows P TooLong so sn ko kn mo mn rest told ends = too_long run_format so rest told ends.0.1.more
-run_follows P NotBuilt so sn ko kn mo mn rest told ends = read_follows run_format not_built NotBuilt so sn rest told ends.0 refl
+task_follows : {X : Type 0} (f : Format X) {P : Type 0} (told : P → Told) (task : Task) (status : Status) (so sn : SourceTold) (ko kn : SinkTold) (mo mn : MakerTold) (rest : List ℕ) → (task ≡ Unknown → ⊥) → ((text : List ℕ) → HasDone P task text so sn mo mn → HasDoneOne f so sn) → (HasReadInvalid task so sn → HasRead f invalid so sn) → ((e : BadConfig) → HasBadConfig task e so sn → BreaksRule f e so sn) → (AsksForMore task so sn → HasRead f not_built so sn) → so.rest ≡ Some rest → Ends told task status so sn ko kn mo mn → FollowsBytes f status rest
+task_follows f told task Success so sn ko kn mo mn rest known done bad broken more is ends =
+    let one = done ends.text ends.run in
+    read_follows f (accepted one.input) Success so sn rest is one.read (limits_of f one.input None Success one.limits refl)
+task_follows f told task BadUsage so sn ko kn mo mn rest known done bad broken more is ends = absurd (known ends.0.0)
+task_follows f told task BadInput so sn ko kn mo mn rest known done bad broken more is ends = read_follows f invalid BadInput so sn rest is (bad ends.0) refl
+task_follows f told task BadSettings so sn ko kn mo mn rest known done bad broken more is ends =
+    let rule = broken ends.error ends.refused in
+    read_follows f (accepted rule.input) BadSettings so sn rest is rule.read (limits_of f rule.input (Some ends.error) BadSettings rule.broken refl)
+task_follows f told task PageFault so sn ko kn mo mn rest known done bad broken more is ends = hindered f PageFault rest (inr (inr (inl refl)))
+task_follows f told task ReadFault so sn ko kn mo mn rest known done bad broken more is ends = hindered f ReadFault rest (inl refl)
+task_follows f told task WriteFault so sn ko kn mo mn rest known done bad broken more is ends = hindered f WriteFault rest (inr (inl refl))
+task_follows f told task NoMemory so sn ko kn mo mn rest known done bad broken more is ends = hindered f NoMemory rest (inr (inr (inr refl)))
+task_follows f told task TooLong so sn ko kn mo mn rest known done bad broken more is ends = too_long f so rest is ends.0.1.more
+task_follows f told task NotBuilt so sn ko kn mo mn rest known done bad broken more is ends = read_follows f not_built NotBuilt so sn rest is (more ends.0) refl
 
-shared_follows : (P : Type 0) (status : Status) (so sn : SourceTold) (ko kn : SinkTold) (mo mn : MakerTold) (rest : List ℕ) → so.rest ≡ Some rest → Ends P Shared status so sn ko kn mo mn → FollowsBytes shared_format status rest
-shared_follows P Success so sn ko kn mo mn rest told ends =
-    read_follows shared_format (accepted ends.run.input) Success so sn rest told ends.run.read (limits_of shared_format ends.run.input None Success ends.run.page refl)
-shared_follows P BadUsage so sn ko kn mo mn rest told ends = let is : Shared ≡ Unknown = ends.0.0 in absurd cc
-shared_follows P BadInput so sn ko kn mo mn rest told ends = read_follows shared_format invalid BadInput so sn rest told ends.0 refl
-shared_follows P BadSettings so sn ko kn mo mn rest told ends =
-    read_follows shared_format (accepted ends.refused.input) BadSettings so sn rest told ends.refused.read (limits_of shared_format ends.refused.input (Some ends.error) BadSettings ends.refused.broken refl)
-shared_follows P PageFault so sn ko kn mo mn rest told ends = hindered shared_format PageFault rest (inr (inr (inl refl)))
-shared_follows P ReadFault so sn ko kn mo mn rest told ends = hindered shared_format ReadFault rest (inl refl)
-shared_follows P WriteFault so sn ko kn mo mn rest told ends = hindered shared_format WriteFault rest (inr (inl refl))
-shared_follows P NoMemory so sn ko kn mo mn rest told ends = hindered shared_format NoMemory rest (inr (inr (inr refl)))
-shared_follows P TooLong so sn ko kn mo mn rest told ends = too_long shared_format so rest told ends.0.1.more
-shared_follows P NotBuilt so sn ko kn mo mn rest told ends = read_follows shared_format not_built NotBuilt so sn rest told ends.0 refl
+-- the same of what the words ask for, once they are known
+asked_follows : {X : Type 0} (f : Format X) {P : Type 0} (told : P → Told) (asked task : Task) (status : Status) (so sn : SourceTold) (ko kn : SinkTold) (mo mn : MakerTold) → (asked ≡ Unknown → ⊥) → ((text : List ℕ) → HasDone P asked text so sn mo mn → HasDoneOne f so sn) → (HasReadInvalid asked so sn → HasRead f invalid so sn) → ((e : BadConfig) → HasBadConfig asked e so sn → BreaksRule f e so sn) → (AsksForMore asked so sn → HasRead f not_built so sn) → Ends told task status so sn ko kn mo mn → task ≡ asked → IfSome so.rest (FollowsBytes f status)
+asked_follows f told asked task status so sn ko kn mo mn known done bad broken more ends is =
+    let E : Task → Type 0 = λ t. Ends told t status so sn ko kn mo mn in
+    some_of so.rest (FollowsBytes f status) (λ rest left. task_follows f told asked status so sn ko kn mo mn rest known done bad broken more left (subst E is ends))
 
-pub follows_run : (P : Type 0) (task : Task) (status : Status) (so sn : SourceTold) (ko kn : SinkTold) (mo mn : MakerTold) → Ends P task status so sn ko kn mo mn → task ≡ Run → IfSome so.rest (FollowsBytes run_format status)
-follows_run P task status so sn ko kn mo mn ends asked =
-    let E : Task → Type 0 = λ t. Ends P t status so sn ko kn mo mn in
-    some_of so.rest (FollowsBytes run_format status) (λ rest told. run_follows P status so sn ko kn mo mn rest told (subst E asked ends))
+pub follows_run : {P : Type 0} (told : P → Told) (task : Task) (status : Status) (so sn : SourceTold) (ko kn : SinkTold) (mo mn : MakerTold) → Ends told task status so sn ko kn mo mn → task ≡ Run → IfSome so.rest (FollowsBytes run_format status)
+follows_run told task status so sn ko kn mo mn ends is =
+    asked_follows run_format told Run task status so sn ko kn mo mn (λ x. cc) (λ text done. record { input = done.input; read = done.read; limits = done.limits }) (λ h. h) (λ e h. h) (λ h. h) ends is
 
-pub follows_shared : (P : Type 0) (task : Task) (status : Status) (so sn : SourceTold) (ko kn : SinkTold) (mo mn : MakerTold) → Ends P task status so sn ko kn mo mn → task ≡ Shared → IfSome so.rest (FollowsBytes shared_format status)
-follows_shared P task status so sn ko kn mo mn ends asked =
-    let E : Task → Type 0 = λ t. Ends P t status so sn ko kn mo mn in
-    some_of so.rest (FollowsBytes shared_format status) (λ rest told. shared_follows P status so sn ko kn mo mn rest told (subst E asked ends))
+pub follows_on_demand : {P : Type 0} (told : P → Told) (task : Task) (status : Status) (so sn : SourceTold) (ko kn : SinkTold) (mo mn : MakerTold) → Ends told task status so sn ko kn mo mn → task ≡ RunOnDemand → IfSome so.rest (FollowsBytes run_format status)
+follows_on_demand told task status so sn ko kn mo mn ends is =
+    asked_follows run_format told RunOnDemand task status so sn ko kn mo mn (λ x. cc) (λ text done. record { input = done.input; read = done.read; limits = done.limits }) (λ h. h) (λ e h. h) (λ h. h) ends is
+
+pub follows_shared : {P : Type 0} (told : P → Told) (task : Task) (status : Status) (so sn : SourceTold) (ko kn : SinkTold) (mo mn : MakerTold) → Ends told task status so sn ko kn mo mn → task ≡ Shared → IfSome so.rest (FollowsBytes shared_format status)
+follows_shared told task status so sn ko kn mo mn ends is =
+    asked_follows shared_format told Shared task status so sn ko kn mo mn (λ x. cc) (λ text done. record { input = done.input; read = done.read; limits = done.page }) (λ h. h) (λ e h. h) (λ h. h) ends is
 
 -- a run's text was to be written: all of it was, or a part
-pub ends_with_text : (P : Type 0) (task : Task) (text : List ℕ) (status : Status) (so sn : SourceTold) (ko kn : SinkTold) (mo mn : MakerTold) → HasDone P task text so sn mo mn → WritesText Success text ko kn status → Ends P task status so sn ko kn mo mn
-ends_with_text P task text status so sn ko kn mo mn run written =
-    let E : Status → Type 0 = λ s. Ends P task s so sn ko kn mo mn in
+pub ends_with_text : {P : Type 0} (told : P → Told) (task : Task) (text : List ℕ) (status : Status) (so sn : SourceTold) (ko kn : SinkTold) (mo mn : MakerTold) → HasDone P task text so sn mo mn → WritesText Success text ko kn status → Ends told task status so sn ko kn mo mn
+ends_with_text told task text status so sn ko kn mo mn run written =
+    let E : Status → Type 0 = λ s. Ends told task s so sn ko kn mo mn in
     elim written [
       | inl all ↦ subst E (sym all.0) (record { text = text; run = run; wrote = all.1 })
       | inr less ↦ subst E (sym less.0) (record { text = text; intended = inl run; wrote = less.1 })
     ]
 
 -- the line of a failure was written, all of it
-ends_by : (P : Type 0) (task : Task) (cause : Failure) (so sn : SourceTold) (ko kn : SinkTold) (mo mn : MakerTold) → Fails task cause so sn mo mn → Wrote (line_of cause) ko kn → Ends P task (status_of_failure cause) so sn ko kn mo mn
-ends_by P task failure.BadUsage so sn ko kn mo mn fails wrote = (fails, wrote)
-ends_by P task failure.BadInput so sn ko kn mo mn fails wrote = (fails, wrote)
-ends_by P task (failure.BadConfig line) so sn ko kn mo mn fails wrote =
+ends_by : {P : Type 0} (told : P → Told) (task : Task) (cause : Failure) (so sn : SourceTold) (ko kn : SinkTold) (mo mn : MakerTold) → Fails (HasFaulted told task so sn mo mn) task cause so sn → Wrote (line_of cause) ko kn → Ends told task (status_of_failure cause) so sn ko kn mo mn
+ends_by told task failure.BadUsage so sn ko kn mo mn fails wrote = (fails, wrote)
+ends_by told task failure.BadInput so sn ko kn mo mn fails wrote = (fails, wrote)
+ends_by told task (failure.BadConfig line) so sn ko kn mo mn fails wrote =
     let W : List ℕ → Type 0 = λ text. Wrote text ko kn in
     record { error = fails.0; refused = fails.1; wrote = subst W fails.2 wrote }
-ends_by P task failure.PageFault so sn ko kn mo mn fails wrote = (fails, wrote)
-ends_by P task failure.ReadFault so sn ko kn mo mn fails wrote = (fails, wrote)
-ends_by P task failure.NoMemory so sn ko kn mo mn fails wrote = (fails, wrote)
-ends_by P task failure.TooLong so sn ko kn mo mn fails wrote = (fails, wrote)
-ends_by P task failure.NotBuilt so sn ko kn mo mn fails wrote = (fails, wrote)
+ends_by told task failure.PageFault so sn ko kn mo mn fails wrote = (fails, wrote)
+ends_by told task failure.ReadFault so sn ko kn mo mn fails wrote = (fails, wrote)
+ends_by told task failure.NoMemory so sn ko kn mo mn fails wrote = (fails, wrote)
+ends_by told task failure.TooLong so sn ko kn mo mn fails wrote = (fails, wrote)
+ends_by told task failure.NotBuilt so sn ko kn mo mn fails wrote = (fails, wrote)
 
 -- it was to be written: all of it was, or a part
-pub ends_with_line : (P : Type 0) (task : Task) (cause : Failure) (status : Status) (so sn : SourceTold) (ko kn : SinkTold) (mo mn : MakerTold) → Fails task cause so sn mo mn → WritesText (status_of_failure cause) (line_of cause) ko kn status → Ends P task status so sn ko kn mo mn
-ends_with_line P task cause status so sn ko kn mo mn fails written =
-    let E : Status → Type 0 = λ s. Ends P task s so sn ko kn mo mn in
+pub ends_with_line : {P : Type 0} (told : P → Told) (task : Task) (cause : Failure) (status : Status) (so sn : SourceTold) (ko kn : SinkTold) (mo mn : MakerTold) → Fails (HasFaulted told task so sn mo mn) task cause so sn → WritesText (status_of_failure cause) (line_of cause) ko kn status → Ends told task status so sn ko kn mo mn
+ends_with_line told task cause status so sn ko kn mo mn fails written =
+    let E : Status → Type 0 = λ s. Ends told task s so sn ko kn mo mn in
     elim written [
-      | inl all ↦ subst E (sym all.0) (ends_by P task cause so sn ko kn mo mn fails all.1)
+      | inl all ↦ subst E (sym all.0) (ends_by told task cause so sn ko kn mo mn fails all.1)
       | inr less ↦ subst E (sym less.0) (record { text = line_of cause; intended = inr (cause, fails, refl); wrote = less.1 })
     ]

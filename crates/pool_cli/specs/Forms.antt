@@ -5,7 +5,7 @@ use Rattle.serde_json.specs.Data.{Data, Items, no_items, item}
 use Rattle.serde_json.specs.Find.{get, as_str, as_array, as_bool, as_null}
 use Rattle.pool_pages.specs.Config.{default_config, default_offered, default_tunables}
 use Rattle.pool_run.specs.declared.command.Command.{Command}
-use Rattle.pool_run.specs.declared.command.Command.TheVariants.{Instantiate, Read, Write, Fill, Grow, Size, Get, Set, TableFill, TableGrow, TableSize, Drop, Component, Stack, Purge, Release}
+use Rattle.pool_run.specs.declared.command.Command.TheVariants.{Instantiate, Read, Write, Fill, Grow, Size, Get, Set, TableFill, TableGrow, TableSize, Drop, Component, Stack, Heap, Purge, Release}
 use Rattle.pool_run.specs.declared.command.TableValue.{TableValue}
 use Rattle.pool_run.specs.declared.command.TableValue.TheVariants.{Null, Number, Continuation}
 use Rattle.pool_run.specs.declared.input.Input.{Input}
@@ -138,6 +138,13 @@ component_form value = do
   own_bytes ← optional 0 whole_number (get (codes "own_bytes") fields)
   Some (Component instances memories tables core_bytes own_bytes)
 
+unfoldable pub heap_form : Data → Option Command
+heap_form value = do
+  fields ← only (codes "do" ∷ codes "min" ∷ codes "max" ∷ []) value
+  min ← required whole_number (get (codes "min") fields)
+  max ← optional None (or_null whole_number) (get (codes "max") fields)
+  Some (Heap min max)
+
 unfoldable pub purge_form : Data → Option Command
 purge_form value = do
   fields ← only (codes "do" ∷ codes "module" ∷ []) value
@@ -153,6 +160,7 @@ abbrev pub form_without_grant : List ℕ → Data → Option Command
 form_without_grant name value =
     if bytes_eq name (codes "component") then component_form value
     else if bytes_eq name (codes "stack") then bare_form Stack value
+    else if bytes_eq name (codes "heap") then heap_form value
     else if bytes_eq name (codes "purge") then purge_form value
     else if bytes_eq name (codes "release") then bare_form Release value
     else None
@@ -194,7 +202,6 @@ limits_form value = do
   trap ← optional false as_bool (get (codes "trap_on_grow_failure") fields)
   Some (record { memory_size = size; table_elements = elements; trap_on_grow_failure = trap })
 
--- No command asks for a heap so far, so that no call on a maker of heaps can fail: which are to fail is read alone.
 unfoldable pub party_form : Data → Option Party
 party_form value = do
   fields ← only (codes "home" ∷ codes "limits" ∷ codes "gc_faults" ∷ codes "heap_faults" ∷ codes "commands" ∷ []) value
@@ -203,7 +210,7 @@ party_form value = do
   faults ← optional [] (list_of whole_number) (get (codes "gc_faults") fields)
   heap_faults ← optional [] (list_of whole_number) (get (codes "heap_faults") fields)
   commands ← optional [] (list_of command_form) (get (codes "commands") fields)
-  Some (record { home = home; limits = limits; gc_faults = faults; commands = commands })
+  Some (record { home = home; limits = limits; gc_faults = faults; heap_faults = heap_faults; commands = commands })
 
 -- the number of a party: one step of it
 unfoldable pub step_form : Data → Option ScheduleEntry

@@ -19,10 +19,12 @@ use Rattle.pool_run.specs.declared.output.RunOutput.{RunOutput}
 use Rattle.pool_run.specs.declared.reply.Refusal.{Refusal}
 use Rattle.pool_run.specs.declared.reply.Refusal.TheVariants.{NoSuchGrant, GcStoreFault, Alloc}
 use Rattle.pool_run.specs.declared.reply.Reply.{Reply}
-use Rattle.pool_run.specs.declared.reply.Reply.TheVariants.{Instance, Component, Stack, Bytes, Done, Size, Grown, Element as Told, Returned, Purged, Released, Refused, Trap as Trapped}
+use Rattle.pool_run.specs.declared.reply.Reply.TheVariants.{Instance, Component, Stack, Heap, Bytes, Done, Size, Grown, Element as Told, Returned, Purged, Released, Refused, Trap as Trapped}
 use Rattle.pool_table.specs.declared.element.VMContObj.{VMContObj}
 use Rattle.pool_alloc.specs.declared.table_element.Element.{Element}
 use Rattle.pool_alloc.specs.declared.table_element.Element.TheVariants.{Uninitialised, Func, Gc, Cont}
+use Rattle.pool_cli.specs.declared.print.Allocator.{Allocator}
+use Rattle.pool_cli.specs.declared.print.Allocator.TheVariants.{Pooling, OnDemand}
 use Rattle.pool_cli.specs.Fields.{◌>>=◌}
 
 -- the end of a line
@@ -54,22 +56,27 @@ abbrev pub denied_text : Bool → ℕ → List ℕ
 denied_text false min = codes "memory minimum size of " ++ decimal min ++ codes " pages exceeds memory limits"
 denied_text true min = codes "table minimum size of " ++ decimal min ++ codes " elements exceeds table limits"
 
--- why an allocation was refused; that a module is too large is told with its parts
-abbrev pub alloc_error_text : Option ModuleInfo → AllocError → List ℕ
-alloc_error_text info NoMemory = codes "NoMemory"
-alloc_error_text info (Unsupported u) = codes "Unsupported: " ++ one_line (whole_text u info)
-alloc_error_text info (Limit e) = codes "PoolConcurrencyLimitError: " ++ limit_text e
-alloc_error_text info StacksDisabled = codes "StacksDisabled: pooling allocator not configured to enable fiber stack allocation"
-alloc_error_text info HeapsDisabled = codes "HeapsDisabled: no GC collector is configured"
-alloc_error_text info (LimiterDenied table min) = codes "LimiterDenied: " ++ denied_text table min
-alloc_error_text info (LimiterFault e) = codes "LimiterFault: " ++ limiter_text e
-alloc_error_text info PageFault = codes "PageFault"
-alloc_error_text info HeapFault = codes "HeapFault"
+-- why an allocator has no stacks
+abbrev pub no_stacks_text : Allocator → List ℕ
+no_stacks_text Pooling = codes "pooling allocator not configured to enable fiber stack allocation"
+no_stacks_text OnDemand = codes "fiber stacks are not supported by the allocator"
 
-abbrev pub refusal_text : Option ModuleInfo → Refusal → List ℕ
-refusal_text info NoSuchGrant = codes "NoSuchGrant"
-refusal_text info GcStoreFault = codes "GcStoreFault"
-refusal_text info (Alloc e) = alloc_error_text info e
+-- why an allocation was refused; that a module is too large is told with its parts
+abbrev pub alloc_error_text : Allocator → Option ModuleInfo → AllocError → List ℕ
+alloc_error_text allocator info NoMemory = codes "NoMemory"
+alloc_error_text allocator info (Unsupported u) = codes "Unsupported: " ++ one_line (whole_text u info)
+alloc_error_text allocator info (Limit e) = codes "PoolConcurrencyLimitError: " ++ limit_text e
+alloc_error_text allocator info StacksDisabled = codes "StacksDisabled: " ++ no_stacks_text allocator
+alloc_error_text allocator info HeapsDisabled = codes "HeapsDisabled: no GC collector is configured"
+alloc_error_text allocator info (LimiterDenied table min) = codes "LimiterDenied: " ++ denied_text table min
+alloc_error_text allocator info (LimiterFault e) = codes "LimiterFault: " ++ limiter_text e
+alloc_error_text allocator info PageFault = codes "PageFault"
+alloc_error_text allocator info HeapFault = codes "HeapFault"
+
+abbrev pub refusal_text : Allocator → Option ModuleInfo → Refusal → List ℕ
+refusal_text allocator info NoSuchGrant = codes "NoSuchGrant"
+refusal_text allocator info GcStoreFault = codes "GcStoreFault"
+refusal_text allocator info (Alloc e) = alloc_error_text allocator info e
 
 abbrev pub trap_text : Trap → List ℕ
 trap_text MemoryOutOfBounds = codes "MemoryOutOfBounds"
@@ -95,21 +102,22 @@ element_text (Gc None) = codes "gc null"
 element_text (Gc (Some reference)) = codes "gc " ++ decimal reference
 element_text (Cont object) = cont_text object
 
--- a reply to a command that asks for an instance of this module, or for something else
-abbrev pub reply_text : Option ModuleInfo → Reply → List ℕ
-reply_text info (Instance memories tables) = codes "granted memories " ++ numbers_text memories ++ codes " tables " ++ numbers_text tables
-reply_text info Component = codes "granted component"
-reply_text info (Stack slot) = codes "granted stack " ++ decimal slot
-reply_text info (Bytes bytes) = codes "bytes " ++ bytes_text bytes
-reply_text info Done = codes "done"
-reply_text info (Size size) = codes "size " ++ decimal size
-reply_text info (Grown old) = grown_text old
-reply_text info (Told element) = element_text element
-reply_text info Returned = codes "returned"
-reply_text info (Purged slots) = codes "purged " ++ decimal slots
-reply_text info (Released bytes) = codes "released " ++ decimal bytes
-reply_text info (Refused refusal) = codes "refused " ++ refusal_text info refusal
-reply_text info (Trapped trap) = codes "trap " ++ trap_text trap
+-- an allocator's reply to a command that asks for an instance of this module, or for something else
+abbrev pub reply_text : Allocator → Option ModuleInfo → Reply → List ℕ
+reply_text allocator info (Instance memories tables) = codes "granted memories " ++ numbers_text memories ++ codes " tables " ++ numbers_text tables
+reply_text allocator info Component = codes "granted component"
+reply_text allocator info (Stack slot) = codes "granted stack " ++ decimal slot
+reply_text allocator info (Heap heap memory) = codes "granted heap " ++ decimal heap ++ codes " memory " ++ decimal memory
+reply_text allocator info (Bytes bytes) = codes "bytes " ++ bytes_text bytes
+reply_text allocator info Done = codes "done"
+reply_text allocator info (Size size) = codes "size " ++ decimal size
+reply_text allocator info (Grown old) = grown_text old
+reply_text allocator info (Told element) = element_text element
+reply_text allocator info Returned = codes "returned"
+reply_text allocator info (Purged slots) = codes "purged " ++ decimal slots
+reply_text allocator info (Released bytes) = codes "released " ++ decimal bytes
+reply_text allocator info (Refused refusal) = codes "refused " ++ refusal_text allocator info refusal
+reply_text allocator info (Trapped trap) = codes "trap " ++ trap_text trap
 
 -- the module of which a command asks for an instance
 abbrev pub module_of : List ModuleInfo → Command → Option ModuleInfo
@@ -121,18 +129,18 @@ abbrev pub module_asked : Input → ℕ → ℕ → Option ModuleInfo
 module_asked input party command = slice_get input.parties party >>= (λ p. slice_get p.commands command >>= module_of input.modules)
 
 -- the line of the reply to a command of a party
-abbrev pub reply_line : Input → ℕ → ℕ → Reply → List ℕ
-reply_line input party command reply = decimal party ++ codes "." ++ decimal command ++ codes ": " ++ reply_text (module_asked input party command) reply ++ line_feed
+abbrev pub reply_line : Allocator → Input → ℕ → ℕ → Reply → List ℕ
+reply_line allocator input party command reply = decimal party ++ codes "." ++ decimal command ++ codes ": " ++ reply_text allocator (module_asked input party command) reply ++ line_feed
 
 -- the lines of a party's replies, of which the first is to this command
-abbrev pub reply_lines : Input → ℕ → ℕ → List Reply → List ℕ
-reply_lines input party command [] = []
-reply_lines input party command (reply ∷ replies) = reply_line input party command reply ++ reply_lines input party (command + 1) replies
+abbrev pub reply_lines : Allocator → Input → ℕ → ℕ → List Reply → List ℕ
+reply_lines allocator input party command [] = []
+reply_lines allocator input party command (reply ∷ replies) = reply_line allocator input party command reply ++ reply_lines allocator input party (command + 1) replies
 
 -- the lines of the parties, of which the first has this number
-abbrev pub party_lines : Input → ℕ → List (List Reply) → List ℕ
-party_lines input party [] = []
-party_lines input party (replies ∷ parties) = reply_lines input party 0 replies ++ party_lines input (party + 1) parties
+abbrev pub party_lines : Allocator → Input → ℕ → List (List Reply) → List ℕ
+party_lines allocator input party [] = []
+party_lines allocator input party (replies ∷ parties) = reply_lines allocator input party 0 replies ++ party_lines allocator input (party + 1) parties
 
 -- a number with its name before it
 unfoldable pub named : List ℕ → ℕ → List ℕ
@@ -179,4 +187,8 @@ pages_line c =
 
 -- of a run of this input: a line for each reply, then the pool's numbers, then the calls on its regions
 abbrev pub output_text : Input → RunOutput → List ℕ
-output_text input output = party_lines input 0 output.replies ++ metrics_line output.metrics ++ pages_line output.calls
+output_text input output = party_lines Pooling input 0 output.replies ++ metrics_line output.metrics ++ pages_line output.calls
+
+-- of a run of it on demand: a line for each reply
+abbrev pub replies_text : Input → List (List Reply) → List ℕ
+replies_text input replies = party_lines OnDemand input 0 replies

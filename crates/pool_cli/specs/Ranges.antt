@@ -1,5 +1,5 @@
 -- Numbers that the types of their fields can hold.
-use Rattle.std.specs.Prelude.{ℕ, ◌^◌, List, codes, Bool, true, ◌&&◌, Option, not, Some}
+use Rattle.std.specs.Prelude.{ℕ, ◌^◌, List, codes, Bool, true, ◌&&◌, Option}
 use Rattle.std.specs.List.{list_all}
 use Rattle.std.specs.Option.{option_map_or}
 use Rattle.serde_json.specs.Data.{Data, Items, no_items, item}
@@ -36,13 +36,9 @@ shards_fit value = is_below (2 ^ 32) (get (codes "shards") value)
 abbrev pub byte_fits : Data → Bool
 byte_fits command = is_below 256 (get (codes "byte") command)
 
--- calls are numbered from 1
-abbrev pub is_call : Data → Bool
-is_call n = not (is_below 1 (Some n))
-
--- so it is with a party's commands, and with the calls on its maker of heaps that are to fail
-abbrev pub party_fits : Data → Bool
-party_fits party = each_passes byte_fits (get (codes "commands") party) && each_passes is_call (get (codes "heap_faults") party)
+-- so it is with each of a party's commands
+abbrev pub bytes_fit : Data → Bool
+bytes_fit party = each_passes byte_fits (get (codes "commands") party)
 
 -- the types of their fields can hold all numbers of an input
 abbrev pub numbers_fit : Data → Bool
@@ -50,4 +46,4 @@ numbers_fit value =
     shards_fit value
     && (counts_fit (get (codes "config") value)
     && (keys_fit (get (codes "offered") value)
-    && each_passes party_fits (get (codes "parties") value)))
+    && each_passes bytes_fit (get (codes "parties") value)))

@@ -3,10 +3,11 @@
 use Rattle.std.specs.Prelude.{◌≡◌, ℕ, List, ◌⊎◌, Result, Ok, Err, true, String, string_bytes}
 use Rattle.std.specs.declared.alloc.Global.{Global}
 use Rattle.pool_pages.specs.MakerTold.{MakerTold}
+use Rattle.pool_pages.specs.Told.{Told}
 use Rattle.pool_pages.specs.declared.bad_config.BadConfig.{BadConfig}
 use Rattle.pool_cli.specs.Lines.{config_line, line_of}
 use Rattle.pool_cli.specs.Reading.{Reading}
-use Rattle.pool_cli.specs.Statuses.{Format, HasRead, HasDone, Fails, WroteBadConfig, WroteLess, WroteOutput, reads_input}
+use Rattle.pool_cli.specs.Statuses.{Format, HasRead, HasDone, HasFaulted, Fails, WroteBadConfig, WroteLess, WroteOutput, reads_input}
 use Rattle.pool_cli.specs.Streams.{SourceTold, SinkTold, ReadWhole, Wrote, WrotePart}
 use Rattle.pool_run.specs.declared.output.RunFault.{RunFault}
 use Rattle.pool_run.specs.declared.output.RunFault.TheVariants as run
@@ -18,15 +19,15 @@ use Rattle.pool_cli.specs.declared.status.Status.{Status}
 use Rattle.pool_cli.specs.declared.status.Status.TheVariants.{Ok as Success, BadUsage, BadInput, BadConfig as BadSettings, PageFault, ReadFault, WriteFault, NoMemory, TooLong, NotBuilt}
 use Rattle.pool_cli.specs.declared.words.Task.{Task}
 
--- the bytes were read, or each task that reads an input fails, whatever its maker does
+-- the bytes were read, or each task that reads an input fails, and not for a making
 abbrev pub ReadsBytes : SourceTold → SourceTold → Result (List ℕ) Failure → Type 0
 ReadsBytes source_old source_new (Ok bytes) = ReadWhole bytes source_old source_new
-ReadsBytes source_old source_new (Err failure) = (task : Task) (maker_old maker_new : MakerTold) → reads_input task ≡ true → Fails task failure source_old source_new maker_old maker_new
+ReadsBytes source_old source_new (Err failure) = (task : Task) → reads_input task ≡ true → Fails ⊥ task failure source_old source_new
 
--- an input was read that fits, or the program fails whatever its maker does
+-- an input was read that fits, or the program fails, and not for a making
 abbrev pub ReadsInput : {X : Type 0} → Task → Format X → (X → Reading X) → SourceTold → SourceTold → Result X Failure → Type 0
 ReadsInput task f of_fit source_old source_new (Ok input) = HasRead f (of_fit input) source_old source_new
-ReadsInput task f of_fit source_old source_new (Err failure) = (maker_old maker_new : MakerTold) → Fails task failure source_old source_new maker_old maker_new
+ReadsInput task f of_fit source_old source_new (Err failure) = Fails ⊥ task failure source_old source_new
 
 -- settings are refused with this error, unless memory ran out
 abbrev pub Refuses : BadConfig → Failure → Type 0
@@ -53,28 +54,28 @@ IsRunFailure run.PageFault f = f ≡ failure.PageFault
 IsRunFailure run.Memory f = f ≡ failure.NoMemory
 
 -- the text of the output, or why there is none
-abbrev pub Prepares : Type 0 → Task → SourceTold → SourceTold → MakerTold → MakerTold → Result (String Global) Failure → Type 0
-Prepares P task source_old source_new maker_old maker_new (Ok text) = HasDone P task (string_bytes text) source_old source_new maker_old maker_new
-Prepares P task source_old source_new maker_old maker_new (Err failure) = Fails task failure source_old source_new maker_old maker_new
+abbrev pub Prepares : {P : Type 0} → (P → Told) → Task → SourceTold → SourceTold → MakerTold → MakerTold → Result (String Global) Failure → Type 0
+Prepares {P = P} told task source_old source_new maker_old maker_new (Ok text) = HasDone P task (string_bytes text) source_old source_new maker_old maker_new
+Prepares told task source_old source_new maker_old maker_new (Err failure) = Fails (HasFaulted told task source_old source_new maker_old maker_new) task failure source_old source_new
 
 -- the text was written and the status stays, or a write failed
 abbrev pub WritesText : Status → List ℕ → SinkTold → SinkTold → Status → Type 0
 WritesText status text sink_old sink_new result = ((result ≡ status) × Wrote text sink_old sink_new) ⊎ ((result ≡ WriteFault) × WrotePart text sink_old sink_new)
 
 -- there is no output for this cause, and its line was written, all of it
-abbrev pub WroteLine : Task → Failure → SourceTold → SourceTold → SinkTold → SinkTold → MakerTold → MakerTold → Type 0
-WroteLine task cause source_old source_new sink_old sink_new maker_old maker_new =
-    Fails task cause source_old source_new maker_old maker_new × Wrote (line_of cause) sink_old sink_new
+abbrev pub WroteLine : {P : Type 0} → (P → Told) → Task → Failure → SourceTold → SourceTold → SinkTold → SinkTold → MakerTold → MakerTold → Type 0
+WroteLine told task cause source_old source_new sink_old sink_new maker_old maker_new =
+    Fails (HasFaulted told task source_old source_new maker_old maker_new) task cause source_old source_new × Wrote (line_of cause) sink_old sink_new
 
 -- how the program ends
-abbrev pub Ends : Type 0 → Task → Status → SourceTold → SourceTold → SinkTold → SinkTold → MakerTold → MakerTold → Type 0
-Ends P task Success source_old source_new sink_old sink_new maker_old maker_new = WroteOutput P task source_old source_new sink_old sink_new maker_old maker_new
-Ends P task WriteFault source_old source_new sink_old sink_new maker_old maker_new = WroteLess P task source_old source_new sink_old sink_new maker_old maker_new
-Ends P task BadSettings source_old source_new sink_old sink_new maker_old maker_new = WroteBadConfig task source_old source_new sink_old sink_new
-Ends P task BadUsage source_old source_new sink_old sink_new maker_old maker_new = WroteLine task failure.BadUsage source_old source_new sink_old sink_new maker_old maker_new
-Ends P task BadInput source_old source_new sink_old sink_new maker_old maker_new = WroteLine task failure.BadInput source_old source_new sink_old sink_new maker_old maker_new
-Ends P task PageFault source_old source_new sink_old sink_new maker_old maker_new = WroteLine task failure.PageFault source_old source_new sink_old sink_new maker_old maker_new
-Ends P task ReadFault source_old source_new sink_old sink_new maker_old maker_new = WroteLine task failure.ReadFault source_old source_new sink_old sink_new maker_old maker_new
-Ends P task NoMemory source_old source_new sink_old sink_new maker_old maker_new = WroteLine task failure.NoMemory source_old source_new sink_old sink_new maker_old maker_new
-Ends P task TooLong source_old source_new sink_old sink_new maker_old maker_new = WroteLine task failure.TooLong source_old source_new sink_old sink_new maker_old maker_new
-Ends P task NotBuilt source_old source_new sink_old sink_new maker_old maker_new = WroteLine task failure.NotBuilt source_old source_new sink_old sink_new maker_old maker_new
+abbrev pub Ends : {P : Type 0} → (P → Told) → Task → Status → SourceTold → SourceTold → SinkTold → SinkTold → MakerTold → MakerTold → Type 0
+Ends {P = P} told task Success source_old source_new sink_old sink_new maker_old maker_new = WroteOutput P task source_old source_new sink_old sink_new maker_old maker_new
+Ends told task WriteFault source_old source_new sink_old sink_new maker_old maker_new = WroteLess told task source_old source_new sink_old sink_new maker_old maker_new
+Ends told task BadSettings source_old source_new sink_old sink_new maker_old maker_new = WroteBadConfig task source_old source_new sink_old sink_new
+Ends told task BadUsage source_old source_new sink_old sink_new maker_old maker_new = WroteLine told task failure.BadUsage source_old source_new sink_old sink_new maker_old maker_new
+Ends told task BadInput source_old source_new sink_old sink_new maker_old maker_new = WroteLine told task failure.BadInput source_old source_new sink_old sink_new maker_old maker_new
+Ends told task PageFault source_old source_new sink_old sink_new maker_old maker_new = WroteLine told task failure.PageFault source_old source_new sink_old sink_new maker_old maker_new
+Ends told task ReadFault source_old source_new sink_old sink_new maker_old maker_new = WroteLine told task failure.ReadFault source_old source_new sink_old sink_new maker_old maker_new
+Ends told task NoMemory source_old source_new sink_old sink_new maker_old maker_new = WroteLine told task failure.NoMemory source_old source_new sink_old sink_new maker_old maker_new
+Ends told task TooLong source_old source_new sink_old sink_new maker_old maker_new = WroteLine told task failure.TooLong source_old source_new sink_old sink_new maker_old maker_new
+Ends told task NotBuilt source_old source_new sink_old sink_new maker_old maker_new = WroteLine told task failure.NotBuilt source_old source_new sink_old sink_new maker_old maker_new

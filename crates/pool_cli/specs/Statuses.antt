@@ -2,10 +2,12 @@
 use Rattle.std.specs.Prelude.{◌≡◌, ℕ, ◌≤◌, ◌<◌, List, length, ◌⊎◌, Bool, true, false, Option, Some, None, string_bytes}
 use Rattle.pool_pages.specs.declared.bad_config.BadConfig.{BadConfig}
 use Rattle.pool_pages.specs.declared.failing.Failing.{Failing}
+use Rattle.pool_pages.specs.FailingTold.{failing_told}
 use Rattle.pool_pages.specs.MakerTold.{MakerTold}
-use Rattle.pool_pages.specs.Told.{Rose}
+use Rattle.pool_pages.specs.Told.{Told, Rose}
 use Rattle.pool_run.specs.Agreeing.{IsOnlyRun}
 use Rattle.pool_run.specs.Built.{broken_rule}
+use Rattle.pool_run.specs.OnDemandRuns.{IsOnDemand, HasFaultedImages}
 use Rattle.pool_run.specs.Runs.{IsRun, HoldsFromStart, HasFaultedMaking, with_faults}
 use Rattle.pool_run.specs.SharedRuns.{IsSharedRun, HasNoShared, with_page, broken_page}
 use Rattle.pool_run.specs.declared.input.Input.{Input}
@@ -13,7 +15,7 @@ use Rattle.pool_run.specs.declared.output.RunOutput.{RunOutput}
 use Rattle.pool_run.specs.declared.shared_input.SharedInput.{SharedInput}
 use Rattle.pool_run.specs.declared.shared_reply.SharedReply.{SharedReply}
 use Rattle.pool_cli.specs.Lines.{config_line, line_of}
-use Rattle.pool_cli.specs.Output.{output_text}
+use Rattle.pool_cli.specs.Output.{output_text, replies_text}
 use Rattle.pool_cli.specs.Reading.{Reading, not_built, invalid, accepted, reading, shared_reading}
 use Rattle.pool_cli.specs.SharedOutput.{shared_text}
 use Rattle.pool_cli.specs.Streams.{SourceTold, SinkTold, ReadWhole, ReadTooMuch, Wrote, WrotePart, most_input}
@@ -22,7 +24,7 @@ use Rattle.pool_cli.specs.declared.failure.Failure.TheVariants as failure
 use Rattle.pool_cli.specs.declared.status.Status.{Status}
 use Rattle.pool_cli.specs.declared.status.Status.TheVariants.{Ok as Success, BadInput, BadConfig as BadSettings, PageFault, ReadFault, WriteFault, NoMemory, TooLong, NotBuilt}
 use Rattle.pool_cli.specs.declared.words.Task.{Task}
-use Rattle.pool_cli.specs.declared.words.Task.TheVariants.{Run, Shared, Later, Unknown}
+use Rattle.pool_cli.specs.declared.words.Task.TheVariants.{Run, RunOnDemand, Shared, Later, Unknown}
 
 -- how the bytes for a task are read, and which rule of its settings an input breaks
 pub record Format (X : Type 0) : Type 0 where
@@ -55,6 +57,16 @@ pub record HasRun (P : Type 0) (text : List ℕ) (source_old source_new : Source
   pub makings : maker_new.faults ≡ maker_old.faults
   pub text_is : text ≡ output_text input output
 
+-- The same of a run on demand, which makes each memory and each table for the request that asks for it: the text is that of
+-- the replies alone.
+pub record HasRunOnDemand (text : List ℕ) (source_old source_new : SourceTold) (maker_old : MakerTold) : Type 0 where
+  pub input : Input
+  pub output : RunOutput
+  pub read : HasRead run_format (accepted input) source_old source_new
+  pub limits : broken_rule input ≡ None
+  pub run : IsOnDemand input (with_faults input maker_old) output
+  pub text_is : text ≡ replies_text input output.replies
+
 -- The same of a run of events on a shared memory: the text is that of the replies to them.
 pub record HasRunShared (text : List ℕ) (source_old source_new : SourceTold) (maker_old : MakerTold) : Type 0 where
   pub input : SharedInput
@@ -67,18 +79,21 @@ pub record HasRunShared (text : List ℕ) (source_old source_new : SourceTold) (
 -- what the words ask for was run, and this is the text of its output
 abbrev pub HasDone : Type 0 → Task → List ℕ → SourceTold → SourceTold → MakerTold → MakerTold → Type 0
 HasDone P Run text source_old source_new maker_old maker_new = HasRun P text source_old source_new maker_old maker_new
+HasDone P RunOnDemand text source_old source_new maker_old maker_new = HasRunOnDemand text source_old source_new maker_old
 HasDone P Shared text source_old source_new maker_old maker_new = HasRunShared text source_old source_new maker_old
 HasDone P _ text source_old source_new maker_old maker_new = ⊥
 
 -- the words ask for a run, of which the input is read
 abbrev pub reads_input : Task → Bool
 reads_input Run = true
+reads_input RunOnDemand = true
 reads_input Shared = true
 reads_input _ = false
 
 -- the bytes read are no JSON, or an input that breaks a limit or names what isn't there
 abbrev pub HasReadInvalid : Task → SourceTold → SourceTold → Type 0
 HasReadInvalid Run source_old source_new = HasRead run_format invalid source_old source_new
+HasReadInvalid RunOnDemand source_old source_new = HasRead run_format invalid source_old source_new
 HasReadInvalid Shared source_old source_new = HasRead shared_format invalid source_old source_new
 HasReadInvalid _ source_old source_new = ⊥
 
@@ -91,17 +106,29 @@ pub record BreaksRule {X : Type 0} (f : Format X) (error : BadConfig) (source_ol
 
 abbrev pub HasBadConfig : Task → BadConfig → SourceTold → SourceTold → Type 0
 HasBadConfig Run error source_old source_new = BreaksRule run_format error source_old source_new
+HasBadConfig RunOnDemand error source_old source_new = BreaksRule run_format error source_old source_new
 HasBadConfig Shared error source_old source_new = BreaksRule shared_format error source_old source_new
 HasBadConfig _ error source_old source_new = ⊥
+
+-- what a region tells with the input's faults before it, by what it tells itself
+abbrev pub with_failing : {P : Type 0} → (P → Told) → Failing P → Told
+with_failing told f = failing_told (told f.region) f.plan f.counts
 
 -- The source was read to its end, the bytes read are an input that can be run, no rule of its settings is broken, and
 -- a making, or the first call on a region, failed as its pool was made: the input lists one, or the maker's own count of
 -- faults rose.
-pub record HasNoPool (source_old source_new : SourceTold) (maker_old maker_new : MakerTold) : Type 0 where
+pub record HasNoPool {P : Type 0} (told : P → Told) (source_old source_new : SourceTold) (maker_old maker_new : MakerTold) : Type 0 where
   pub input : Input
   pub read : HasRead run_format (accepted input) source_old source_new
   pub limits : broken_rule input ≡ None
-  pub making : HasFaultedMaking input maker_old maker_new
+  pub making : HasFaultedMaking (with_failing told) input maker_old maker_new
+
+-- the same of the images of modules, which are all that a run on demand makes before its first step
+pub record HasNoImages (source_old source_new : SourceTold) (maker_old maker_new : MakerTold) : Type 0 where
+  pub input : Input
+  pub read : HasRead run_format (accepted input) source_old source_new
+  pub limits : broken_rule input ≡ None
+  pub making : HasFaultedImages input maker_old maker_new
 
 -- the same of the region of a shared memory
 pub record HasNoRegion (source_old source_new : SourceTold) (maker_old maker_new : MakerTold) : Type 0 where
@@ -111,10 +138,11 @@ pub record HasNoRegion (source_old source_new : SourceTold) (maker_old maker_new
   pub making : HasNoShared input (with_page input maker_old) maker_new
 
 -- a making failed before anything was run
-abbrev pub HasFaulted : Task → SourceTold → SourceTold → MakerTold → MakerTold → Type 0
-HasFaulted Run source_old source_new maker_old maker_new = HasNoPool source_old source_new maker_old maker_new
-HasFaulted Shared source_old source_new maker_old maker_new = HasNoRegion source_old source_new maker_old maker_new
-HasFaulted _ source_old source_new maker_old maker_new = ⊥
+abbrev pub HasFaulted : {P : Type 0} → (P → Told) → Task → SourceTold → SourceTold → MakerTold → MakerTold → Type 0
+HasFaulted told Run source_old source_new maker_old maker_new = HasNoPool told source_old source_new maker_old maker_new
+HasFaulted told RunOnDemand source_old source_new maker_old maker_new = HasNoImages source_old source_new maker_old maker_new
+HasFaulted told Shared source_old source_new maker_old maker_new = HasNoRegion source_old source_new maker_old maker_new
+HasFaulted told _ source_old source_new maker_old maker_new = ⊥
 
 -- nothing was read
 abbrev pub Unread : SourceTold → SourceTold → Type 0
@@ -124,26 +152,27 @@ Unread source_old source_new = source_new ≡ source_old
 -- form that is not accepted so far, or an input that asks for what is not built yet.
 abbrev pub AsksForMore : Task → SourceTold → SourceTold → Type 0
 AsksForMore Run source_old source_new = HasRead run_format not_built source_old source_new
+AsksForMore RunOnDemand source_old source_new = HasRead run_format not_built source_old source_new
 AsksForMore Shared source_old source_new = HasRead shared_format not_built source_old source_new
 AsksForMore Later source_old source_new = Unread source_old source_new
 AsksForMore Unknown source_old source_new = ⊥
 
--- why there is no output
-abbrev pub Fails : Task → Failure → SourceTold → SourceTold → MakerTold → MakerTold → Type 0
-Fails task failure.BadUsage source_old source_new maker_old maker_new = (task ≡ Unknown) × Unread source_old source_new
-Fails task failure.BadInput source_old source_new maker_old maker_new = HasReadInvalid task source_old source_new
-Fails task (failure.BadConfig line) source_old source_new maker_old maker_new = (error : BadConfig) × HasBadConfig task error source_old source_new × (string_bytes line ≡ config_line error)
-Fails task failure.PageFault source_old source_new maker_old maker_new = HasFaulted task source_old source_new maker_old maker_new
-Fails task failure.ReadFault source_old source_new maker_old maker_new = (reads_input task ≡ true) × Rose source_old.faults source_new.faults
-Fails task failure.NoMemory source_old source_new maker_old maker_new = reads_input task ≡ true
-Fails task failure.TooLong source_old source_new maker_old maker_new = (reads_input task ≡ true) × ReadTooMuch source_old source_new
-Fails task failure.NotBuilt source_old source_new maker_old maker_new = AsksForMore task source_old source_new
+-- why there is no output, where this says that a making failed before anything was run
+abbrev pub Fails : Type 0 → Task → Failure → SourceTold → SourceTold → Type 0
+Fails faulted task failure.BadUsage source_old source_new = (task ≡ Unknown) × Unread source_old source_new
+Fails faulted task failure.BadInput source_old source_new = HasReadInvalid task source_old source_new
+Fails faulted task (failure.BadConfig line) source_old source_new = (error : BadConfig) × HasBadConfig task error source_old source_new × (string_bytes line ≡ config_line error)
+Fails faulted task failure.PageFault source_old source_new = faulted
+Fails faulted task failure.ReadFault source_old source_new = (reads_input task ≡ true) × Rose source_old.faults source_new.faults
+Fails faulted task failure.NoMemory source_old source_new = reads_input task ≡ true
+Fails faulted task failure.TooLong source_old source_new = (reads_input task ≡ true) × ReadTooMuch source_old source_new
+Fails faulted task failure.NotBuilt source_old source_new = AsksForMore task source_old source_new
 
 -- what is to be written, and why: the text of an output, or the line of a failure
-abbrev pub IsToWrite : Type 0 → Task → List ℕ → SourceTold → SourceTold → MakerTold → MakerTold → Type 0
-IsToWrite P task text source_old source_new maker_old maker_new =
+abbrev pub IsToWrite : {P : Type 0} → (P → Told) → Task → List ℕ → SourceTold → SourceTold → MakerTold → MakerTold → Type 0
+IsToWrite {P = P} told task text source_old source_new maker_old maker_new =
     HasDone P task text source_old source_new maker_old maker_new
-    ⊎ ((cause : Failure) × Fails task cause source_old source_new maker_old maker_new × (text ≡ line_of cause))
+    ⊎ ((cause : Failure) × Fails (HasFaulted told task source_old source_new maker_old maker_new) task cause source_old source_new × (text ≡ line_of cause))
 
 -- the output of a run was written, all of it
 pub record WroteOutput (P : Type 0) (task : Task) (source_old source_new : SourceTold) (sink_old sink_new : SinkTold) (maker_old maker_new : MakerTold) : Type 0 where
@@ -158,9 +187,9 @@ pub record WroteBadConfig (task : Task) (source_old source_new : SourceTold) (si
   pub wrote : Wrote (config_line error) sink_old sink_new
 
 -- a write failed, after a part of what was to be written
-pub record WroteLess (P : Type 0) (task : Task) (source_old source_new : SourceTold) (sink_old sink_new : SinkTold) (maker_old maker_new : MakerTold) : Type 0 where
+pub record WroteLess {P : Type 0} (told : P → Told) (task : Task) (source_old source_new : SourceTold) (sink_old sink_new : SinkTold) (maker_old maker_new : MakerTold) : Type 0 where
   pub text : List ℕ
-  pub intended : IsToWrite P task text source_old source_new maker_old maker_new
+  pub intended : IsToWrite told task text source_old source_new maker_old maker_new
   pub wrote : WrotePart text sink_old sink_new
 
 -- a fault of the source, of the sink or of a making, or want of memory, stands in the way

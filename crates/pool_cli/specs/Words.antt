@@ -5,7 +5,7 @@ use Rattle.std.specs.Char.{is_ascii_digit}
 use Rattle.std.specs.List.{list_all}
 use Rattle.std.specs.Str.{bytes_eq}
 use Rattle.pool_cli.specs.declared.words.Task.{Task}
-use Rattle.pool_cli.specs.declared.words.Task.TheVariants.{Run, Shared, Later, Unknown}
+use Rattle.pool_cli.specs.declared.words.Task.TheVariants.{Run, RunOnDemand, Shared, Later, Unknown}
 
 -- the number that decimal digits write after those of n
 abbrev pub number_after : ℕ → List ℕ → ℕ
@@ -25,10 +25,11 @@ one_word word =
 
 abbrev pub two_words : List ℕ → List ℕ → Task
 two_words first second =
-    if bytes_eq first (codes "run") && bytes_eq second (codes "on-demand") || bytes_eq first (codes "load") && is_number second then Later
+    if bytes_eq first (codes "run") && bytes_eq second (codes "on-demand") then RunOnDemand
+    else if bytes_eq first (codes "load") && is_number second then Later
     else Unknown
 
--- `run` and `shared` are built; `run on-demand`, `threads` and `load` with a number are not yet; there is nothing else
+-- `run`, `run on-demand` and `shared` are built; `threads` and `load` with a number are not yet; there is nothing else
 abbrev pub task_of : List (String Global) → Task
 task_of [] = Unknown
 task_of (word ∷ []) = one_word (string_bytes word)

@@ -1,5 +1,5 @@
 use crate::status::Status;
-use crate::tests::ended;
+use crate::tests::assert_ended;
 use std::test::Fail;
 
 const TOO_LARGE: &str =
@@ -27,9 +27,7 @@ pages expose=0 hide=0 map_image=0 remap_zeros=0 erase=0 recolour=0 decommit=0\n"
 #[test]
 fn components(rt: HostRuntime) -> Result<(), Fail> {
     for (input, written) in [(TOO_LARGE, TOO_LARGE_OUTPUT), (ONE, ONE_OUTPUT)] {
-        let (ends, sink) = ended(rt.alloc(), "run", input, 0, 0)?;
-        assert_eq!(rt; ends, Status::Ok, "at {input}");
-        assert_eq!(rt; sink.taken(), written.as_bytes(), "at {input}");
+        assert_ended(&rt, rt.alloc(), "run", input, Status::Ok, written)?;
     }
     Ok(())
 }

@@ -7,7 +7,6 @@ use crate::fields::{flag_or, has_only, number_or, number_or_none, number_pair};
 use crate::form_fault::FormFault;
 use crate::from_json::{FromJson, list_or_empty};
 use crate::settings::{config, count_or, offered, tunables};
-use pool_pages::PlainList;
 use pool_run::{Input, Party, PartyLimits, ScheduleEntry};
 use serde_json::Value;
 use std::alloc::Global;
@@ -65,12 +64,13 @@ impl FromJson for Party {
         let home = number_or(0, value.get("home")).ok_or(FormFault::OtherForm)?;
         let limits = limits(value.get("limits")).ok_or(FormFault::OtherForm)?;
         let gc_faults = list_or_empty(alloc, value.get("gc_faults"))?;
-        let _heap_faults: PlainList<u64> = list_or_empty(alloc, value.get("heap_faults"))?;
+        let heap_faults = list_or_empty(alloc, value.get("heap_faults"))?;
         let commands = list_or_empty(alloc, value.get("commands"))?;
         Ok(Party {
             home,
             limits,
             gc_faults,
+            heap_faults,
             commands,
         })
     }

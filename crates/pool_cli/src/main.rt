@@ -1,6 +1,8 @@
 //! The program.
 #![tactic(auto)]
 
+#[cfg(test)]
+mod closing_tests;
 mod commands;
 #[cfg(test)]
 mod component_tests;
@@ -9,10 +11,14 @@ mod failure;
 mod fields;
 mod form_fault;
 mod from_json;
+#[cfg(test)]
+mod heap_tests;
 mod input;
 mod json_input;
 mod memory_streams;
 mod modules;
+#[cfg(test)]
+mod on_demand_tests;
 mod other_commands;
 mod pool_main;
 mod print;

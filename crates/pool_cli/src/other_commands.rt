@@ -1,8 +1,8 @@
 ghost use Rattle.std.specs.Prelude.{◌≡◌};
 ghost use Rattle.serde_json.specs.View.{view};
-ghost use Rattle.pool_cli.specs.Forms.{component_form, purge_form, bare_form, form_without_grant};
+ghost use Rattle.pool_cli.specs.Forms.{component_form, heap_form, purge_form, bare_form, form_without_grant};
 
-use crate::fields::{has_only, number, number_or};
+use crate::fields::{has_only, number, number_or, number_or_none};
 use pool_run::Command;
 use serde_json::Value;
 
@@ -37,6 +37,18 @@ fn component(value: &Value) -> Option<Command>
     })
 }
 
+#[tactic(auto, unfolding(crate::specs::Forms::heap_form))]
+fn heap(value: &Value) -> Option<Command>
+    ensures { result ≡ heap_form (view value.now) }
+{
+    if !has_only(value, &["do", "min", "max"]) {
+        return None;
+    }
+    let min = number(value.get("min"))?;
+    let max = number_or_none(value.get("max"))?;
+    Some(Command::Heap { min, max })
+}
+
 #[tactic(auto, unfolding(crate::specs::Forms::purge_form))]
 fn purge(value: &Value) -> Option<Command>
     ensures { result ≡ purge_form (view value.now) }
@@ -68,6 +80,8 @@ pub fn command_without_grant(name: &str, value: &Value) -> Option<Command>
         component(value)
     } else if name == "stack" {
         bare(Command::Stack, value)
+    } else if name == "heap" {
+        heap(value)
     } else if name == "purge" {
         purge(value)
     } else if name == "release" {

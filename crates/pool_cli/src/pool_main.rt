@@ -6,7 +6,7 @@ ghost use Rattle.pool_cli.specs.Stages.{Ends};
 ghost use Rattle.pool_cli.specs.declared.failure.Failure.TheVariants as failure;
 ghost use Rattle.pool_cli.specs.Streams.{ReadTooMuch, Wrote};
 ghost use Rattle.pool_cli.specs.Words.{task_of};
-ghost use Rattle.pool_cli.specs.declared.words.Task.TheVariants.{Run, Shared, Later, Unknown};
+ghost use Rattle.pool_cli.specs.declared.words.Task.TheVariants.{Run, RunOnDemand, Shared, Later, Unknown};
 
 use crate::stages::{finish, prepare};
 use crate::status::Status;
@@ -21,7 +21,7 @@ fn go<S: Source, K: Sink, M: PageMaker>(
     sink: &mut K,
     pages: &mut M,
 ) -> Status
-    ensures { Ends M.Region (task_of words.now) result (S.told source.old) (S.told source.new) (K.told sink.old) (K.told sink.new) (M.told pages.old) (M.told pages.new) }
+    ensures { Ends M.Region.told (task_of words.now) result (S.told source.old) (S.told source.new) (K.told sink.old) (K.told sink.new) (M.told pages.old) (M.told pages.new) }
 {
     match prepare(alloc, words, source, pages) {
         Ok(text) => finish(sink, text.as_str(), Status::Ok),
@@ -46,9 +46,9 @@ pub fn pool_main<S: Source, K: Sink, M: PageMaker>(
     ensures bad_input { result ≡ Status.BadInput → HasReadInvalid (task_of words.now) (S.told source.old) (S.told source.new) × Wrote (line_of failure.BadInput) (K.told sink.old) (K.told sink.new) }
     // The source was read to its end, the bytes read are an input that can be run but for its settings, and the line written says which of their rules is the first that is broken.
     ensures bad_config { result ≡ Status.BadConfig → WroteBadConfig (task_of words.now) (S.told source.old) (S.told source.new) (K.told sink.old) (K.told sink.new) }
-    ensures page_fault { result ≡ Status.PageFault → HasFaulted (task_of words.now) (S.told source.old) (S.told source.new) (M.told pages.old) (M.told pages.new) × Wrote (line_of failure.PageFault) (K.told sink.old) (K.told sink.new) }
+    ensures page_fault { result ≡ Status.PageFault → HasFaulted M.Region.told (task_of words.now) (S.told source.old) (S.told source.new) (M.told pages.old) (M.told pages.new) × Wrote (line_of failure.PageFault) (K.told sink.old) (K.told sink.new) }
     ensures read_fault { result ≡ Status.ReadFault → (reads_input (task_of words.now) ≡ true) × Rose (S.told source.old).faults (S.told source.new).faults × Wrote (line_of failure.ReadFault) (K.told sink.old) (K.told sink.new) }
-    ensures write_fault { result ≡ Status.WriteFault → WroteLess M.Region (task_of words.now) (S.told source.old) (S.told source.new) (K.told sink.old) (K.told sink.new) (M.told pages.old) (M.told pages.new) }
+    ensures write_fault { result ≡ Status.WriteFault → WroteLess M.Region.told (task_of words.now) (S.told source.old) (S.told source.new) (K.told sink.old) (K.told sink.new) (M.told pages.old) (M.told pages.new) }
     ensures no_memory { result ≡ Status.NoMemory → (reads_input (task_of words.now) ≡ true) × Wrote (line_of failure.NoMemory) (K.told sink.old) (K.told sink.new) }
     ensures too_long { result ≡ Status.TooLong → (reads_input (task_of words.now) ≡ true) × ReadTooMuch (S.told source.old) (S.told source.new) × Wrote (line_of failure.TooLong) (K.told sink.old) (K.told sink.new) }
     ensures not_built { result ≡ Status.NotBuilt → AsksForMore (task_of words.now) (S.told source.old) (S.told source.new) × Wrote (line_of failure.NotBuilt) (K.told sink.old) (K.told sink.new) }
@@ -58,6 +58,7 @@ pub fn pool_main<S: Source, K: Sink, M: PageMaker>(
     ensures unknown_words { task_of words.now ≡ Unknown → (result ≡ Status.BadUsage) ⊎ (result ≡ Status.WriteFault) }
     ensures later_words { task_of words.now ≡ Later → (result ≡ Status.NotBuilt) ⊎ (result ≡ Status.WriteFault) }
     ensures by_bytes { task_of words.now ≡ Run → IfSome (S.told source.old).rest (FollowsBytes run_format result) }
+    ensures by_bytes_on_demand { task_of words.now ≡ RunOnDemand → IfSome (S.told source.old).rest (FollowsBytes run_format result) }
     ensures by_shared_bytes { task_of words.now ≡ Shared → IfSome (S.told source.old).rest (FollowsBytes shared_format result) }
 {
     go(alloc, words, source, sink, pages)

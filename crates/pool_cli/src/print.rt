@@ -1,6 +1,6 @@
 ghost use Rattle.std.specs.Prelude.{◌≡◌, ◌++◌, Some, codes, IfOk, OnOk, option_map, string_bytes};
 ghost use Rattle.pool_pages.specs.UnsupportedTexts.{whole_text};
-ghost use Rattle.pool_cli.specs.Output.{numbers_text, bytes_text, one_line, refusal_text, alloc_error_text, denied_text, trap_text, grown_text, cont_text, element_text, reply_text, module_of, module_asked, reply_line, reply_lines, party_lines, named, named_or_none, live_text, warm_text, metrics_line, pages_line, output_text};
+ghost use Rattle.pool_cli.specs.Output.{numbers_text, bytes_text, one_line, refusal_text, no_stacks_text, alloc_error_text, denied_text, trap_text, grown_text, cont_text, element_text, reply_text, module_of, module_asked, reply_line, reply_lines, party_lines, named, named_or_none, live_text, warm_text, metrics_line, pages_line, output_text, replies_text};
 
 use pool_alloc::{Element, Metrics};
 use pool_limits::Trap;
@@ -10,6 +10,13 @@ use pool_slots::AllocError as Refused;
 use pool_table::VMContObj;
 use std::alloc::{AllocError, Global};
 use std::fmt::Write;
+
+/// Which allocator gives the replies.
+#[derive(Clone, Copy, Debug, PartialEq, Eq)]
+pub enum Allocator {
+    Pooling,
+    OnDemand,
+}
 
 /// Adds the numbers, with commas between them, or a dash where there is none.
 fn push_numbers(out: &mut String, numbers: &[u32]) -> Result<(), AllocError>
@@ -39,15 +46,16 @@ pub(crate) fn push_bytes(alloc: Global, out: &mut String, bytes: &[u8]) -> Resul
 fn push_refusal(
     alloc: Global,
     out: &mut String,
+    allocator: Allocator,
     info: Option<&ModuleInfo>,
     refusal: Refusal,
 ) -> Result<(), AllocError>
-    ensures { OnOk result (string_bytes out.new ≡ string_bytes out.old ++ refusal_text (option_map (λ i. i.now) info.entry) refusal) }
+    ensures { OnOk result (string_bytes out.new ≡ string_bytes out.old ++ refusal_text allocator (option_map (λ i. i.now) info.entry) refusal) }
 {
     match refusal {
         Refusal::NoSuchGrant => out.push_str("NoSuchGrant"),
         Refusal::GcStoreFault => out.push_str("GcStoreFault"),
-        Refusal::Alloc(error) => push_alloc_error(alloc, out, info, error),
+        Refusal::Alloc(error) => push_alloc_error(alloc, out, allocator, info, error),
     }
 }
 
@@ -108,18 +116,17 @@ fn push_unsupported(
 fn push_alloc_error(
     alloc: Global,
     out: &mut String,
+    allocator: Allocator,
     info: Option<&ModuleInfo>,
     error: Refused,
 ) -> Result<(), AllocError>
-    ensures { OnOk result (string_bytes out.new ≡ string_bytes out.old ++ alloc_error_text (option_map (λ i. i.now) info.entry) error) }
+    ensures { OnOk result (string_bytes out.new ≡ string_bytes out.old ++ alloc_error_text allocator (option_map (λ i. i.now) info.entry) error) }
 {
     match error {
         Refused::Memory => out.push_str("NoMemory"),
         Refused::Unsupported(rule) => push_unsupported(alloc, out, rule, info),
         Refused::Limit(limit) => write!(out, "PoolConcurrencyLimitError: {limit}"),
-        Refused::StacksDisabled => out.push_str(
-            "StacksDisabled: pooling allocator not configured to enable fiber stack allocation",
-        ),
+        Refused::StacksDisabled => push_no_stacks(out, allocator),
         Refused::HeapsDisabled => out.push_str("HeapsDisabled: no GC collector is configured"),
         Refused::LimiterDenied { table, min } => {
             out.push_str("LimiterDenied: ")?;
@@ -128,6 +135,19 @@ fn push_alloc_error(
         Refused::LimiterFault(fault) => write!(out, "LimiterFault: {fault}"),
         Refused::PageFault => out.push_str("PageFault"),
         Refused::HeapFault => out.push_str("HeapFault"),
+    }
+}
+
+fn push_no_stacks(out: &mut String, allocator: Allocator) -> Result<(), AllocError>
+    ensures { OnOk result (string_bytes out.new ≡ string_bytes out.old ++ (codes "StacksDisabled: " ++ no_stacks_text allocator)) }
+{
+    match allocator {
+        Allocator::Pooling => out.push_str(
+            "StacksDisabled: pooling allocator not configured to enable fiber stack allocation",
+        ),
+        Allocator::OnDemand => {
+            out.push_str("StacksDisabled: fiber stacks are not supported by the allocator")
+        }
     }
 }
 
@@ -192,10 +212,11 @@ fn push_continuation(out: &mut String, object: VMContObj) -> Result<(), AllocErr
 fn push_reply(
     alloc: Global,
     out: &mut String,
+    allocator: Allocator,
     info: Option<&ModuleInfo>,
     reply: &Reply,
 ) -> Result<(), AllocError>
-    ensures { OnOk result (string_bytes out.new ≡ string_bytes out.old ++ reply_text (option_map (λ i. i.now) info.entry) reply.now) }
+    ensures { OnOk result (string_bytes out.new ≡ string_bytes out.old ++ reply_text allocator (option_map (λ i. i.now) info.entry) reply.now) }
 {
     match reply {
         Reply::Instance { memories, tables } => {
@@ -206,6 +227,7 @@ fn push_reply(
         }
         Reply::Component => out.push_str("granted component"),
         Reply::Stack(slot) => write!(out, "granted stack {slot}"),
+        Reply::Heap { heap, memory } => write!(out, "granted heap {heap} memory {memory}"),
         Reply::Bytes(bytes) => {
             out.push_str("bytes ")?;
             push_bytes(alloc, out, bytes.as_slice())
@@ -219,7 +241,7 @@ fn push_reply(
         Reply::Released(bytes) => write!(out, "released {bytes}"),
         Reply::Refused(refusal) => {
             out.push_str("refused ")?;
-            push_refusal(alloc, out, info, *refusal)
+            push_refusal(alloc, out, allocator, info, *refusal)
         }
         Reply::Trap(trap) => {
             out.push_str("trap ")?;
@@ -250,29 +272,37 @@ fn module_asked(input: &Input, party: usize, command: usize) -> Option<&ModuleIn
 fn push_reply_line(
     alloc: Global,
     out: &mut String,
+    allocator: Allocator,
     input: &Input,
     party: usize,
     command: usize,
     reply: &Reply,
 ) -> Result<(), AllocError>
-    ensures { OnOk result (string_bytes out.new ≡ string_bytes out.old ++ reply_line input.now party command reply.now) }
+    ensures { OnOk result (string_bytes out.new ≡ string_bytes out.old ++ reply_line allocator input.now party command reply.now) }
 {
     write!(out, "{party}.{command}: ")?;
-    push_reply(alloc, out, module_asked(input, party, command), reply)?;
+    push_reply(
+        alloc,
+        out,
+        allocator,
+        module_asked(input, party, command),
+        reply,
+    )?;
     out.push_str("\n")
 }
 
 fn push_reply_lines(
     alloc: Global,
     out: &mut String,
+    allocator: Allocator,
     input: &Input,
     party: usize,
     replies: &ReplyList,
 ) -> Result<(), AllocError>
-    ensures { OnOk result (string_bytes out.new ≡ string_bytes out.old ++ reply_lines input.now party 0 replies.now) }
+    ensures { OnOk result (string_bytes out.new ≡ string_bytes out.old ++ reply_lines allocator input.now party 0 replies.now) }
 {
     for (command, reply) in replies.as_slice().iter().enumerate() {
-        push_reply_line(alloc, out, input, party, command, reply)?;
+        push_reply_line(alloc, out, allocator, input, party, command, reply)?;
     }
     Ok(())
 }
@@ -280,13 +310,14 @@ fn push_reply_lines(
 fn push_party_lines(
     alloc: Global,
     out: &mut String,
+    allocator: Allocator,
     input: &Input,
     parties: &[ReplyList],
 ) -> Result<(), AllocError>
-    ensures { OnOk result (string_bytes out.new ≡ string_bytes out.old ++ party_lines input.now 0 parties.now) }
+    ensures { OnOk result (string_bytes out.new ≡ string_bytes out.old ++ party_lines allocator input.now 0 parties.now) }
 {
     for (party, replies) in parties.iter().enumerate() {
-        push_reply_lines(alloc, out, input, party, replies)?;
+        push_reply_lines(alloc, out, allocator, input, party, replies)?;
     }
     Ok(())
 }
@@ -366,8 +397,27 @@ pub fn output_text(alloc: Global, input: &Input, output: &RunOutput) -> Result<S
     ensures { IfOk result (λ text. string_bytes text ≡ output_text input.now output.now) }
 {
     let mut out = String::new(alloc);
-    push_party_lines(alloc, &mut out, input, output.replies.as_slice())?;
+    push_party_lines(
+        alloc,
+        &mut out,
+        Allocator::Pooling,
+        input,
+        output.replies.as_slice(),
+    )?;
     push_metrics(&mut out, &output.metrics)?;
     push_pages(&mut out, &output.calls)?;
+    Ok(out)
+}
+
+/// The text of the replies of a run of this input on demand.
+pub fn replies_text(
+    alloc: Global,
+    input: &Input,
+    replies: &[ReplyList],
+) -> Result<String, AllocError>
+    ensures { IfOk result (λ text. string_bytes text ≡ replies_text input.now replies.now) }
+{
+    let mut out = String::new(alloc);
+    push_party_lines(alloc, &mut out, Allocator::OnDemand, input, replies)?;
     Ok(out)
 }

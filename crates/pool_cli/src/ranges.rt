@@ -2,7 +2,7 @@ ghost use Rattle.std.specs.Prelude.{◌≡◌, option_map};
 ghost use Rattle.std.specs.List.{list_all};
 ghost use Rattle.serde_json.specs.View.{view, items_view};
 ghost use Rattle.pool_cli.specs.SettingsForms.{count_fields};
-ghost use Rattle.pool_cli.specs.Ranges.{all_pass, each_passes, count_fits, counts_fit, keys_fit, shards_fit, byte_fits, is_call, party_fits, numbers_fit};
+ghost use Rattle.pool_cli.specs.Ranges.{all_pass, each_passes, count_fits, counts_fit, keys_fit, shards_fit, byte_fits, bytes_fit, numbers_fit};
 
 use crate::fields::is_below;
 use serde_json::Value;
@@ -91,56 +91,26 @@ fn commands_fit(field: Option<&Value>) -> bool
     }
 }
 
-fn is_call(number: &Value) -> bool
-    ensures { result ≡ is_call (view number.now) }
+fn bytes_fit(party: &Value) -> bool
+    ensures { result ≡ bytes_fit (view party.now) }
 {
-    !is_below(1, Some(number))
-}
-
-fn each_is_a_call(numbers: &[Value]) -> bool
-    ensures { result ≡ list_all (λ n. is_call (view n)) numbers.now }
-{
-    numbers.iter().all(|number| is_call(number))
-}
-
-fn all_are_calls(numbers: &[Value]) -> bool
-    ensures { result ≡ all_pass is_call (items_view numbers.now) }
-{
-    each_is_a_call(numbers)
-}
-
-fn calls_fit(field: Option<&Value>) -> bool
-    ensures { result ≡ each_passes is_call (option_map (λ v. view v.now) field.entry) }
-{
-    match field {
-        None => true,
-        Some(value) => match value.as_array() {
-            Some(numbers) => all_are_calls(numbers.as_slice()),
-            None => true,
-        },
-    }
-}
-
-fn party_fits(party: &Value) -> bool
-    ensures { result ≡ party_fits (view party.now) }
-{
-    commands_fit(party.get("commands")) && calls_fit(party.get("heap_faults"))
+    commands_fit(party.get("commands"))
 }
 
 fn each_party_fits(parties: &[Value]) -> bool
-    ensures { result ≡ list_all (λ party. party_fits (view party)) parties.now }
+    ensures { result ≡ list_all (λ party. bytes_fit (view party)) parties.now }
 {
-    parties.iter().all(|party| party_fits(party))
+    parties.iter().all(|party| bytes_fit(party))
 }
 
 fn all_parties_fit(parties: &[Value]) -> bool
-    ensures { result ≡ all_pass party_fits (items_view parties.now) }
+    ensures { result ≡ all_pass bytes_fit (items_view parties.now) }
 {
     each_party_fits(parties)
 }
 
 fn parties_fit(field: Option<&Value>) -> bool
-    ensures { result ≡ each_passes party_fits (option_map (λ v. view v.now) field.entry) }
+    ensures { result ≡ each_passes bytes_fit (option_map (λ v. view v.now) field.entry) }
 {
     match field {
         None => true,

@@ -1,5 +1,5 @@
 use crate::status::Status;
-use crate::tests::{ended, ended_over, page};
+use crate::tests::{assert_ended, ended, ended_over, page};
 use crate::untold_pages::UntoldPages;
 use std::test::Fail;
 
@@ -171,9 +171,7 @@ fn runs_by_a_schedule(rt: HostRuntime) -> Result<(), Fail> {
         (STOPPED_LATER, STOPPED_LATER_OUTPUT),
         (TWO_PARTIES, TWO_PARTIES_OUTPUT),
     ] {
-        let (ends, sink) = ended(rt.alloc(), "run", input, 0, 0)?;
-        assert_eq!(rt; ends, Status::Ok, "at {input}");
-        assert_eq!(rt; sink.taken(), written.as_bytes(), "at {input}");
+        assert_ended(&rt, rt.alloc(), "run", input, Status::Ok, written)?;
     }
     Ok(())
 }
@@ -267,9 +265,7 @@ fn runs_of_sizes_limits_and_faults(rt: HostRuntime) -> Result<(), Fail> {
         (LIMITED, Status::Ok, LIMITED_OUTPUT),
         (FAULTY, Status::Ok, FAULTY_OUTPUT),
     ] {
-        let (ends, sink) = ended(rt.alloc(), "run", input, 0, 0)?;
-        assert_eq!(rt; ends, status, "at {input}");
-        assert_eq!(rt; sink.taken(), written.as_bytes(), "at {input}");
+        assert_ended(&rt, rt.alloc(), "run", input, status, written)?;
     }
     Ok(())
 }
@@ -325,9 +321,7 @@ fn makings_that_are_listed(rt: HostRuntime) -> Result<(), Fail> {
             IMAGE_PAST_THE_END_OUTPUT,
         ),
     ] {
-        let (ends, sink) = ended(rt.alloc(), "run", input, 0, 0)?;
-        assert_eq!(rt; ends, status, "at {input}");
-        assert_eq!(rt; sink.taken(), written.as_bytes(), "at {input}");
+        assert_ended(&rt, rt.alloc(), "run", input, status, written)?;
     }
     Ok(())
 }
@@ -358,8 +352,12 @@ pages expose=2 hide=0 map_image=0 remap_zeros=0 erase=0 recolour=0 decommit=2\n"
 // Of two free slots each module gets the one that it had.
 #[test]
 fn a_module_gets_its_slot_again(rt: HostRuntime) -> Result<(), Fail> {
-    let (ends, sink) = ended(rt.alloc(), "run", TWO_MODULES, 0, 0)?;
-    assert_eq!(rt; ends, Status::Ok);
-    assert_eq!(rt; sink.taken(), TWO_MODULES_OUTPUT.as_bytes());
-    Ok(())
+    assert_ended(
+        &rt,
+        rt.alloc(),
+        "run",
+        TWO_MODULES,
+        Status::Ok,
+        TWO_MODULES_OUTPUT,
+    )
 }

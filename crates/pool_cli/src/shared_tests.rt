@@ -1,7 +1,7 @@
 //! The program on events on a shared memory.
 
 use crate::status::Status;
-use crate::tests::ended;
+use crate::tests::assert_ended;
 use std::test::Fail;
 
 const EVENTS: &str =
@@ -32,9 +32,7 @@ fn events_on_a_shared_memory(rt: HostRuntime) -> Result<(), Fail> {
             "error BadConfig: page size 15 is not a power of two from 16 to 65536\n",
         ),
     ] {
-        let (ends, sink) = ended(rt.alloc(), "shared", input, 0, 0)?;
-        assert_eq!(rt; ends, status, "at {input}");
-        assert_eq!(rt; sink.taken(), written.as_bytes(), "at {input}");
+        assert_ended(&rt, rt.alloc(), "shared", input, status, written)?;
     }
     Ok(())
 }

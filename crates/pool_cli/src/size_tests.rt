@@ -1,5 +1,5 @@
 use crate::status::Status;
-use crate::tests::ended;
+use crate::tests::assert_ended;
 use std::test::Fail;
 
 const TOO_LARGE: &str =
@@ -37,9 +37,7 @@ fn sizes_of_instances(rt: HostRuntime) -> Result<(), Fail> {
             "error NotBuilt\n",
         ),
     ] {
-        let (ends, sink) = ended(rt.alloc(), "run", input, 0, 0)?;
-        assert_eq!(rt; ends, status, "at {input}");
-        assert_eq!(rt; sink.taken(), written.as_bytes(), "at {input}");
+        assert_ended(&rt, rt.alloc(), "run", input, status, written)?;
     }
     Ok(())
 }

@@ -1,5 +1,6 @@
 use crate::status::Status;
-use crate::tests::ended;
+use crate::tests::assert_ended;
+use std::alloc::{AllocError, Global};
 use std::test::Fail;
 
 const ZEROED: &str =
@@ -87,9 +88,73 @@ fn stacks_of_one_slot(rt: HostRuntime) -> Result<(), Fail> {
         (DISABLED, DISABLED_OUTPUT),
         (PAST_ITS_END, PAST_ITS_END_OUTPUT),
     ] {
-        let (ends, sink) = ended(rt.alloc(), "run", input, 0, 0)?;
-        assert_eq!(rt; ends, Status::Ok, "at {input}");
-        assert_eq!(rt; sink.taken(), written.as_bytes(), "at {input}");
+        assert_ended(&rt, rt.alloc(), "run", input, Status::Ok, written)?;
+    }
+    Ok(())
+}
+
+// How often the only stack is asked for and given back: once for each byte but 0.
+const ROUNDS: u32 = 255;
+
+// In each round the last byte of the stack is read, and the number of the round is written there.
+fn rounds(alloc: Global, zeroing: bool) -> Result<String, AllocError> {
+    let mut input = format!(in alloc;
+        "{{\"config\":{{\"total_stacks\":1,\"stack_size\":128,\"async_stack_zeroing\":{zeroing}}},\"parties\":[{{\"commands\":["
+    )?;
+    for round in 0..ROUNDS {
+        if round > 0 {
+            input.push_str(",")?;
+        }
+        let of = 4 * round;
+        let byte = round + 1;
+        write!(
+            input,
+            "{{\"do\":\"stack\"}},{{\"do\":\"read\",\"of\":{of},\"at\":4095,\"len\":1}},{{\"do\":\"write\",\"of\":{of},\"at\":4095,\"hex\":\"{byte:02x}\"}},{{\"do\":\"drop\",\"of\":{of}}}"
+        )?;
+    }
+    input.push_str("]}]}")?;
+    Ok(input)
+}
+
+// With zeroing each round begins with 0, and without it with what the one before wrote.
+fn output_of_rounds(alloc: Global, zeroing: bool) -> Result<String, AllocError> {
+    let mut output = String::new(alloc);
+    for round in 0..ROUNDS {
+        let (granted, read, done, returned) = (
+            4 * round,
+            4 * round + 1,
+            4 * round + 2,
+            4 * round + 3,
+        );
+        let found = if zeroing { 0 } else { round };
+        write!(
+            output,
+            "0.{granted}: granted stack 0\n0.{read}: bytes {found:02x}\n0.{done}: done\n0.{returned}: returned\n"
+        )?;
+    }
+    let (resident, decommits) = if zeroing { ("0", ROUNDS) } else { ("none", 0) };
+    write!(
+        output,
+        "metrics core=0 component=0 memories=0 tables=0 stacks=0 heaps=0 warm_memories=0 memory_resident=0 warm_tables=0 table_resident=0 warm_stacks=1 stack_resident={resident}\n\
+pages expose=0 hide=1 map_image=0 remap_zeros=0 erase=0 recolour=0 decommit={decommits}\n"
+    )?;
+    Ok(output)
+}
+
+// One slot serves all rounds.
+#[test]
+fn rounds_of_one_stack(rt: HostRuntime) -> Result<(), Fail> {
+    for zeroing in [true, false] {
+        let input = rounds(rt.alloc(), zeroing)?;
+        let written = output_of_rounds(rt.alloc(), zeroing)?;
+        assert_ended(
+            &rt,
+            rt.alloc(),
+            "run",
+            input.as_str(),
+            Status::Ok,
+            written.as_str(),
+        )?;
     }
     Ok(())
 }
@@ -101,9 +166,14 @@ fn stacks_that_are_not_made(rt: HostRuntime) -> Result<(), Fail> {
         "{\"config\":{\"total_stacks\":1,\"stack_size\":128},\"faults\":[{\"kind\":\"stack\",\"slot\":0,\"call\":0}]}",
         "{\"config\":{\"total_stacks\":1,\"stack_size\":128},\"faults\":[{\"kind\":\"stack\",\"slot\":0,\"call\":1}]}",
     ] {
-        let (ends, sink) = ended(rt.alloc(), "run", input, 0, 0)?;
-        assert_eq!(rt; ends, Status::PageFault, "at {input}");
-        assert_eq!(rt; sink.taken(), "error PageFault\n".as_bytes(), "at {input}");
+        assert_ended(
+            &rt,
+            rt.alloc(),
+            "run",
+            input,
+            Status::PageFault,
+            "error PageFault\n",
+        )?;
     }
     Ok(())
 }
@@ -118,9 +188,14 @@ fn what_a_stack_has_not(rt: HostRuntime) -> Result<(), Fail> {
         "{\"parties\":[{\"commands\":[{\"do\":\"component\"},{\"do\":\"size\",\"of\":0}]}]}",
         "{\"parties\":[{\"commands\":[{\"do\":\"release\"},{\"do\":\"drop\",\"of\":0}]}]}",
     ] {
-        let (ends, sink) = ended(rt.alloc(), "run", input, 0, 0)?;
-        assert_eq!(rt; ends, Status::BadInput, "at {input}");
-        assert_eq!(rt; sink.taken(), "error BadInput\n".as_bytes(), "at {input}");
+        assert_ended(
+            &rt,
+            rt.alloc(),
+            "run",
+            input,
+            Status::BadInput,
+            "error BadInput\n",
+        )?;
     }
     Ok(())
 }

@@ -6,18 +6,18 @@ ghost use Rattle.pool_cli.specs.Reading.{reading_of_fit, shared_reading_of_fit};
 ghost use Rattle.pool_cli.specs.Stages.{ReadsBytes, ReadsInput, Prepares, WritesText, Refuses, IsRunFailure, input_failure};
 ghost use Rattle.pool_cli.specs.Statuses.{run_format, shared_format};
 ghost use Rattle.pool_cli.specs.Words.{task_of};
-ghost use Rattle.pool_cli.specs.declared.words.Task.TheVariants.{Run, Shared};
+ghost use Rattle.pool_cli.specs.declared.words.Task.TheVariants.{Run, RunOnDemand, Shared};
 
 use crate::failure::{Failure, config_line};
 use crate::json_input::{InputFault, read_input, read_shared};
-use crate::print::output_text;
+use crate::print::{output_text, replies_text};
 use crate::print_shared::shared_text;
 use crate::status::Status;
 use crate::streams::{Sink, Source};
 use crate::transfers::{ReadFault, read_all, write_all};
 use crate::words::{Task, task_of};
 use pool_pages::{BadConfig, ByteList, PageMaker};
-use pool_run::{Input, RunFault, SharedInput, run_schedule, run_shared};
+use pool_run::{Input, RunFault, SharedInput, run_on_demand, run_schedule, run_shared};
 use std::alloc::Global;
 
 /// Reads all that the source has.
@@ -46,6 +46,7 @@ fn input_failure(fault: InputFault) -> Failure
 /// Reads the input of a run. Whether it is valid isn't tested.
 fn input_from<S: Source>(alloc: Global, source: &mut S) -> Result<Input, Failure>
     ensures reads { ReadsInput Run run_format reading_of_fit (S.told source.old) (S.told source.new) result }
+    ensures on_demand { ReadsInput RunOnDemand run_format reading_of_fit (S.told source.old) (S.told source.new) result }
     ensures ready { IfOk result (λ input. is_built input ≡ true) }
 {
     let bytes = bytes_from(alloc, source)?;
@@ -94,7 +95,7 @@ fn run<S: Source, M: PageMaker>(
     source: &mut S,
     pages: &mut M,
 ) -> Result<String, Failure>
-    ensures { Prepares M.Region Run (S.told source.old) (S.told source.new) (M.told pages.old) (M.told pages.new) result }
+    ensures { Prepares M.Region.told Run (S.told source.old) (S.told source.new) (M.told pages.old) (M.told pages.new) result }
 {
     let input = input_from(alloc, source)?;
     let output = match run_schedule(alloc, &input, pages) {
@@ -107,13 +108,32 @@ fn run<S: Source, M: PageMaker>(
     }
 }
 
+/// Reads the input, runs it on demand, and makes the text of the replies.
+fn on_demand<S: Source, M: PageMaker>(
+    alloc: Global,
+    source: &mut S,
+    pages: &mut M,
+) -> Result<String, Failure>
+    ensures { Prepares M.Region.told RunOnDemand (S.told source.old) (S.told source.new) (M.told pages.old) (M.told pages.new) result }
+{
+    let input = input_from(alloc, source)?;
+    let output = match run_on_demand(alloc, &input, pages) {
+        Ok(output) => output,
+        Err(fault) => return Err(run_failure(alloc, fault)),
+    };
+    match replies_text(alloc, &input, output.replies.as_slice()) {
+        Ok(text) => Ok(text),
+        Err(_) => Err(Failure::NoMemory),
+    }
+}
+
 /// Reads the input, has its events happen, and makes the text of the replies.
 fn shared<S: Source, M: PageMaker>(
     alloc: Global,
     source: &mut S,
     pages: &mut M,
 ) -> Result<String, Failure>
-    ensures { Prepares M.Region Shared (S.told source.old) (S.told source.new) (M.told pages.old) (M.told pages.new) result }
+    ensures { Prepares M.Region.told Shared (S.told source.old) (S.told source.new) (M.told pages.old) (M.told pages.new) result }
 {
     let input = shared_from(alloc, source)?;
     let replies = match run_shared(alloc, &input, pages) {
@@ -133,10 +153,11 @@ pub fn prepare<S: Source, M: PageMaker>(
     source: &mut S,
     pages: &mut M,
 ) -> Result<String, Failure>
-    ensures { Prepares M.Region (task_of words.now) (S.told source.old) (S.told source.new) (M.told pages.old) (M.told pages.new) result }
+    ensures { Prepares M.Region.told (task_of words.now) (S.told source.old) (S.told source.new) (M.told pages.old) (M.told pages.new) result }
 {
     match task_of(words) {
         Task::Run => run(alloc, source, pages),
+        Task::RunOnDemand => on_demand(alloc, source, pages),
         Task::Shared => shared(alloc, source, pages),
         Task::Later => Err(Failure::NotBuilt),
         Task::Unknown => Err(Failure::BadUsage),

@@ -1,5 +1,5 @@
 use crate::status::Status;
-use crate::tests::ended;
+use crate::tests::assert_ended;
 use std::test::Fail;
 
 const PURGED: &str =
@@ -40,9 +40,7 @@ fn stripes_purges_and_releases(rt: HostRuntime) -> Result<(), Fail> {
         (RELEASED, RELEASED_OUTPUT),
         (KEYS, KEYS_OUTPUT),
     ] {
-        let (ends, sink) = ended(rt.alloc(), "run", input, 0, 0)?;
-        assert_eq!(rt; ends, Status::Ok, "at {input}");
-        assert_eq!(rt; sink.taken(), written.as_bytes(), "at {input}");
+        assert_ended(&rt, rt.alloc(), "run", input, Status::Ok, written)?;
     }
     Ok(())
 }

@@ -1,5 +1,5 @@
 use crate::status::Status;
-use crate::tests::ended;
+use crate::tests::assert_ended;
 use std::test::Fail;
 
 const TOO_LONG_FOR_ITS_SLOT: &str =
@@ -139,9 +139,7 @@ fn runs_of_tables(rt: HostRuntime) -> Result<(), Fail> {
         (FEWER_ELEMENTS, FEWER_ELEMENTS_OUTPUT),
         (NO_MORE_ELEMENTS, NO_MORE_ELEMENTS_OUTPUT),
     ] {
-        let (ends, sink) = ended(rt.alloc(), "run", input, 0, 0)?;
-        assert_eq!(rt; ends, Status::Ok, "at {input}");
-        assert_eq!(rt; sink.taken(), written.as_bytes(), "at {input}");
+        assert_ended(&rt, rt.alloc(), "run", input, Status::Ok, written)?;
     }
     Ok(())
 }
@@ -158,9 +156,7 @@ fn tables_that_are_not_run(rt: HostRuntime) -> Result<(), Fail> {
         (TOO_MANY_TABLES, Status::BadInput, BAD_INPUT),
         (NO_SUCH_KIND, Status::NotBuilt, "error NotBuilt\n"),
     ] {
-        let (ends, sink) = ended(rt.alloc(), "run", input, 0, 0)?;
-        assert_eq!(rt; ends, status, "at {input}");
-        assert_eq!(rt; sink.taken(), written.as_bytes(), "at {input}");
+        assert_ended(&rt, rt.alloc(), "run", input, status, written)?;
     }
     Ok(())
 }

@@ -11,6 +11,7 @@ use pool_pages::{
 use pool_run::{Command, Input, Party, Refusal, Reply, ReplyList, RunOutput};
 use pool_slots::{AllocError as Refused, ConcurrencyKind, PoolConcurrencyLimitError};
 use std::alloc::{AllocError, Global};
+use std::process::Abort;
 use std::test::Fail;
 
 fn one(alloc: Global, number: u64) -> Result<PlainList<u64>, AllocError> {
@@ -31,6 +32,21 @@ pub(crate) fn ended(
     write: u64,
 ) -> Result<(Status, MemorySink), AllocError> {
     ended_over(alloc, words, input, read, write, MemoryPages::new(page()?))
+}
+
+/// The program on these words and this input, of which no read and no write fails, ends so and writes this.
+pub(crate) fn assert_ended(
+    rt: &impl Abort,
+    alloc: Global,
+    words: &str,
+    input: &str,
+    status: Status,
+    written: &str,
+) -> Result<(), Fail> {
+    let (ends, sink) = ended(alloc, words, input, 0, 0)?;
+    assert_eq!(*rt; ends, status, "at {input}");
+    assert_eq!(*rt; sink.taken(), written.as_bytes(), "at {input}");
+    Ok(())
 }
 
 pub(crate) fn page() -> Result<PageSize, AllocError> {
@@ -79,7 +95,8 @@ fn statuses_of_words(rt: HostRuntime) -> Result<(), Fail> {
             Status::NotBuilt,
             NOT_BUILT,
         ),
-        ("run on-demand", 1, Status::NotBuilt, NOT_BUILT),
+        ("run on-demand", 1, Status::ReadFault, ""),
+        ("run on demand", 1, Status::BadUsage, USAGE),
     ] {
         let (ends, sink) = ended(rt.alloc(), words, "", read, 0)?;
         assert_eq!(rt; ends, status, "at {words}");
@@ -167,6 +184,7 @@ fn asks_for_parts(alloc: Global) -> Result<Input, AllocError> {
             home: 0,
             limits: None,
             gc_faults: PlainList::new(alloc),
+            heap_faults: PlainList::new(alloc),
             commands: PlainList::from_vec(commands),
         })?;
     }
@@ -215,6 +233,10 @@ fn replies(alloc: Global) -> Result<ReplyList, AllocError> {
     }
     all.push(Reply::Refused(Refusal::NoSuchGrant))?;
     all.push(Reply::Trap(Trap::MemoryOutOfBounds))?;
+    all.push(Reply::Heap {
+        heap: 3,
+        memory: 12,
+    })?;
     Ok(PlainList::from_vec(all))
 }
 
@@ -234,6 +256,7 @@ const OUTPUT: &str = "0.0: granted memories 0,12 tables -\n\
 0.13: refused HeapFault\n\
 0.14: refused NoSuchGrant\n\
 0.15: trap MemoryOutOfBounds\n\
+0.16: granted heap 3 memory 12\n\
 2.0: refused Unsupported: instance allocation for this module requires 32 bytes which exceeds the configured maximum of 16 bytes; breakdown of allocation requirement:\\n\\n * 96.87% - 31 bytes - imports\\n\n\
 metrics core=1 component=0 memories=1 tables=0 stacks=0 heaps=0 warm_memories=0 memory_resident=0 warm_tables=0 table_resident=0 warm_stacks=0 stack_resident=none\n\
 pages expose=1 hide=0 map_image=1 remap_zeros=0 erase=0 recolour=0 decommit=1\n";

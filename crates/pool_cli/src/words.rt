@@ -6,8 +6,10 @@ ghost use Rattle.pool_cli.specs.Words.{is_number, one_word, two_words, task_of};
 /// What the program is asked for.
 #[derive(Clone, Copy, Debug, PartialEq, Eq)]
 pub enum Task {
-    /// A run of the schedule.
+    /// A run of the schedule in a pool.
     Run,
+    /// A run of it on demand.
+    RunOnDemand,
     /// A run of events on a shared memory.
     Shared,
     /// What is not built yet.
@@ -48,7 +50,9 @@ fn one_word(word: &str) -> Task
 fn two_words(first: &str, second: &str) -> Task
     ensures { result ≡ two_words first.now second.now }
 {
-    if first == "run" && second == "on-demand" || first == "load" && is_number(second) {
+    if first == "run" && second == "on-demand" {
+        Task::RunOnDemand
+    } else if first == "load" && is_number(second) {
         Task::Later
     } else {
         Task::Unknown

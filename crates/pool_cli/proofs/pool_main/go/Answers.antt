@@ -5,7 +5,7 @@ use Rattle.pool_cli.proofs.pool_main.go.Goals as goal
 
 pub returns-in-Ok : goal.returns-in-Ok
 returns-in-Ok g c =
-    ends_with_text g.row.M-Region.Denot (task_of c.args.words.now) (string_bytes c.in-Ok.text) c.finish.result
+    ends_with_text _ (task_of c.args.words.now) (string_bytes c.in-Ok.text) c.finish.result
     (g.S.Source.told c.args.source.now) (g.S.Source.told c.prepare.new.source)
     (g.K.Sink.told c.args.sink.now) (g.K.Sink.told c.finish.new.sink)
     (g.M.PageMaker.told c.args.pages.now) (g.M.PageMaker.told c.prepare.new.pages)
@@ -13,7 +13,7 @@ returns-in-Ok g c =
 
 pub returns-in-Err : goal.returns-in-Err
 returns-in-Err g c =
-    ends_with_line g.row.M-Region.Denot (task_of c.args.words.now) c.in-Err.failure c.finish-in-Err.result
+    ends_with_line _ (task_of c.args.words.now) c.in-Err.failure c.finish-in-Err.result
     (g.S.Source.told c.args.source.now) (g.S.Source.told c.prepare.new.source)
     (g.K.Sink.told c.args.sink.now) (g.K.Sink.told c.finish-in-Err.new.sink)
     (g.M.PageMaker.told c.args.pages.now) (g.M.PageMaker.told c.prepare.new.pages)

@@ -3,4 +3,4 @@ use Rattle.pool_cli.specs.Output.{party_lines}
 use Rattle.pool_cli.proofs.print.push_party_lines.Given as goal
 
 abbrev pub invariant-loop-party : goal.invariant-loop-party
-invariant-loop-party l = string_bytes l.out ++ party_lines l.input l.party (drop l.party l.parties) ≡ string_bytes l.fn.out ++ party_lines l.fn.input 0 l.parties
+invariant-loop-party l = string_bytes l.out ++ party_lines l.allocator l.input l.party (drop l.party l.parties) ≡ string_bytes l.fn.out ++ party_lines l.fn.allocator l.fn.input 0 l.parties

@@ -3,26 +3,15 @@ use Rattle.pool_run.specs.Built.{broken_rule}
 use Rattle.pool_run.specs.Validity.{is_valid}
 use Rattle.pool_cli.specs.Statuses.{run_format}
 use Rattle.pool_cli.specs.declared.words.Task.TheVariants.{Run}
-use Rattle.pool_cli.proofs.Endings.{can_run, cannot_run, is_valid_unless, no_limit, run_fails}
+use Rattle.pool_cli.proofs.Endings.{can_run, is_valid_unless, no_limit, not_run}
 use Rattle.pool_cli.proofs.stages.run.Goals as goal
 
 pub returns-in-Err : goal.returns-in-Err
 returns-in-Err g c =
     let input = c.in_ok-input.input in
-    run_fails Run c.in-Err.fault c.run_failure.result _ _ _ _ refl
-    (λ is. cannot_run run_format input (is_valid input) _ _ c.in_ok-input.ensures.reads (c.in-Err.ensures.bad_input.0 (ap Err is)))
-    (λ e is. record {
-      input = input;
-      read = can_run run_format input (is_valid input) (Err c.in-Err.fault) _ _ c.in_ok-input.ensures.reads c.in-Err.ensures.bad_input (λ x. cc);
-      broken = ((c.in-Err.ensures.bad_config e).0 (ap Err is)).1;
-    })
-    (λ is. record {
-      input = input;
-      read = can_run run_format input (is_valid input) (Err c.in-Err.fault) _ _ c.in_ok-input.ensures.reads c.in-Err.ensures.bad_input (λ x. cc);
-      limits = no_limit (broken_rule input) (is_valid input) (Err c.in-Err.fault) (is_valid_unless (is_valid input) (Err c.in-Err.fault) c.in-Err.ensures.bad_input (λ x. cc)) c.in-Err.ensures.bad_config (λ e x. cc);
-      making = c.in-Err.ensures.fault (ap Err is);
-    })
-    c.run_failure.ensures
+    not_run _ run_format _ Run input (is_valid input) c.in-Err.fault c.run_failure.result _ _ refl (λ h. h) (λ e h. h)
+    (λ read limits is. record { input = input; read = read; limits = limits; making = c.in-Err.ensures.fault (ap Err is) })
+    c.in_ok-input.ensures.reads c.in-Err.ensures.bad_input c.in-Err.ensures.bad_config c.run_failure.ensures
 
 pub returns-in-Ok-output_text : goal.returns-in-Ok-output_text
 returns-in-Ok-output_text g c =
