@@ -7,8 +7,8 @@ use pool_pages::{
     PageSize, Pages,
 };
 use pool_slots::{
-    ImageSlot, OfKinds, PartSettings, PoolNewError, PoolPart, RegionCell, StripedPlanSettings,
-    make_parts, make_striped_plan,
+    ImageSlot, OfKinds, PartSettings, PlainHeap, PoolNewError, PoolPart, RegionCell,
+    StripedPlanSettings, make_parts, make_striped_plan,
 };
 use std::alloc::Global;
 use std::test::Fail;
@@ -59,7 +59,9 @@ fn made<M: PageMaker>(
     };
     let plan = make_striped_plan(alloc, &numbers)?;
     let mut found = Vec::new(alloc);
-    let mut parts = match make_parts(alloc, maker, &plan, &numbers, &settings) {
+    let mut parts: Vec<PoolPart<M::Region, PlainHeap>> = match make_parts(
+        alloc, maker, &plan, &numbers, &settings,
+    ) {
         Ok(parts) => parts,
         Err(PoolNewError::PageFault) => return Ok((0, found)),
         Err(_) => return Err(Fail::new("no memory")),
@@ -70,7 +72,7 @@ fn made<M: PageMaker>(
             PoolPart::Memory(cell) | PoolPart::Table(cell) | PoolPart::Stack(cell) => {
                 found.push(colours(cell))?;
             }
-            PoolPart::Shard(_) | PoolPart::Queue(_) => {}
+            PoolPart::Shard(_) | PoolPart::Queue(_) | PoolPart::Heaps(_) => {}
         }
     }
     Ok((count, found))
