@@ -196,6 +196,7 @@ malloc_grows m size is more =
       bytes = λ _. ap (λ (l : List ℕ). Some l) (sym bytes);
       moves = refl;
       extra = refl;
+      place = refl;
       moved = λ past. record { bytes = bytes; told = refl; room = moved_room16 m size is past };
       in_place = λ within. in_place16 m size is within;
       planned = λ _. tt;

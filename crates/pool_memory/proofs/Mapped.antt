@@ -198,6 +198,7 @@ mapped_grows m n t fits is known kept more within is_limited planned =
       bytes = λ _. grows.bytes within;
       moves = refl;
       extra = refl;
+      place = refl;
       moved = λ past. absurd (let room : m.slot.static_size < n = subst (λ (b : Bool). Cap b m.slot.static_size < n) known past in omega arith);
       in_place = λ _. ap (λ (c : ℕ). Lin c (used t)) (ap (Cap m.known) static) ∙ ap (Lin (Cap m.known m.slot.static_size)) same;
       planned = λ _. planned;
@@ -262,6 +263,7 @@ nothing_grows m n fits is unknown within =
       bytes = λ _. add_none (n - m.size) (linear_bytes (mapped_linear m)) (omega arith);
       moves = refl;
       extra = refl;
+      place = refl;
       moved = λ past. absurd (omega arith);
       in_place = λ _. ap (λ (k : ℕ). Lin k (used m.slot)) (omega arith) ∙ ap (Lin n) (sym kept);
       planned = λ _. pass_nothing m.slot.region.plan (rounded_up m.slot.region.page n - m.slot.accessible.bytes) (risen m.slot.region.made) (omega arith);

@@ -65,6 +65,7 @@ moved_grows l m n size s keeps past made moved =
       bytes = λ within. absurd (omega (arith, past, within));
       moves = refl;
       extra = moved.extra;
+      place = refl;
       moved = λ _. record { bytes = moved.bytes; told = tt; room = ap Cap moved.known ∙ static ∙ room ∙ same };
       in_place = λ within. absurd (omega (arith, past, within));
       planned = λ within. absurd (omega (arith, past, within));

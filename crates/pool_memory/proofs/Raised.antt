@@ -88,6 +88,7 @@ raised_grows m n t fits is kept more within raised planned =
       bytes = λ _. longer_bytes m.slot m.size n t.base.bytes m.slot.region.contents t.region.contents (ap (λ (i : SlotIdentity). i.base.bytes) kept.same) more (omega (arith, capacity_inside m fits is)) kept.bytes (has_zeros m fits is);
       moves = refl;
       extra = refl;
+      place = refl;
       moved = λ past. absurd (omega arith);
       in_place = λ _. ap (λ (x : Slot). linear_of (record m { slot = x; size = n })) raised;
       planned = λ _. planned;

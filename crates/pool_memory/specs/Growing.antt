@@ -16,7 +16,7 @@ use Rattle.pool_limits.specs.declared.errors.GrowError.TheVariants as failed
 use Rattle.pool_limits.specs.declared.errors.GrowFault.{GrowFault}
 use Rattle.pool_images.specs.Slots.{CallFaulted, raising, limited}
 use Rattle.pool_memory.specs.Layouts.{layout_of, moved_layout}
-use Rattle.pool_memory.specs.Linear.{Storage, in_slot, stored, Linear, linear_bytes}
+use Rattle.pool_memory.specs.Linear.{Storage, in_slot, stored, is_listed, Linear, linear_bytes}
 use Rattle.pool_memory.specs.Making.{maximum_asked}
 use Rattle.pool_memory.specs.Memories.{MemoryState}
 use Rattle.pool_memory.specs.Moving.{MakerLeft}
@@ -47,12 +47,14 @@ pub record MovesTo (size : ℕ) (old new : Linear) : Type 0 where
   pub told : StaysTold old.storage (linear_bytes new)
   pub room : new.capacity ≡ moved_room size old.extra old.storage
 
--- The memory has this size: its bytes are the old ones, with zeros behind them. Past what it could have it has moved.
+-- The memory has this size: its bytes are the old ones, with zeros behind them. Past what it could have it has moved. One in a
+-- list stays in a list, and one in a slot in a slot.
 pub record GrowsTo (size : ℕ) (old new : Linear) : Type 0 where
   pub same_size : new.size ≡ size
   pub bytes : size ≤ old.capacity → option_map (λ b. b ++ replicate {A = ℕ} (size - old.size) 0) (linear_bytes old) ≡ linear_bytes new
   pub moves : new.moves ≡ old.moves
   pub extra : new.extra ≡ old.extra
+  pub place : is_listed new.storage ≡ is_listed old.storage
   pub moved : old.capacity < size → MovesTo size old new
   pub in_place : size ≤ old.capacity → InPlace size old.storage old new
   pub planned : size ≤ old.capacity → IsCallPlanned true size old.storage

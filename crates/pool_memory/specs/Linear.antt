@@ -1,5 +1,5 @@
 -- A linear memory: how many bytes it has and may have, where they lie, and what a write makes of it.
-use Rattle.std.specs.Prelude.{◌≡◌, ℕ, ◌+◌, ◌-◌, ◌≤◌, List, take, replicate, slice_range, min, Bool, false, Option, None, IfSome, is_some, option_map}
+use Rattle.std.specs.Prelude.{◌≡◌, ℕ, ◌+◌, ◌-◌, ◌≤◌, List, take, replicate, slice_range, min, Bool, true, false, Option, None, IfSome, is_some, option_map}
 use Rattle.pool_pages.specs.Contents.{put}
 use Rattle.pool_pages.specs.Count.{count}
 use Rattle.pool_pages.specs.MakerTold.{no_calls}
@@ -38,6 +38,11 @@ no_slot = record {
 abbrev pub slot_in : Storage → Slot
 slot_in (in_slot s) = s
 slot_in (stored len bytes) = no_slot
+
+-- it lies in a list, and not in a slot
+abbrev pub is_listed : Storage → Bool
+is_listed (in_slot s) = false
+is_listed (stored len bytes) = true
 
 -- how many bytes can be reached
 abbrev pub reached : Storage → ℕ
