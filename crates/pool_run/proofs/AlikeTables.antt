@@ -18,7 +18,7 @@ use Rattle.pool_run.specs.OnDemand.{TableMovesOnDemand}
 use Rattle.pool_run.specs.OnDemandAlike.{table_in, IsServed}
 use Rattle.pool_run.specs.PrivateTables.{Host, PrivateTable, StoredTable, TableMoves, IsGot, calls_through, calls_after, table_filled, kind_filled, filled_by, table_growth, table_left}
 use Rattle.pool_run.specs.TableValues.{element_for}
-use Rattle.pool_run.specs.Private.{growth, GrowthEnd}
+use Rattle.pool_run.specs.Private.{GrowthEnd}
 use Rattle.pool_run.specs.declared.reply.Reply.{Reply}
 use Rattle.pool_run.specs.declared.reply.Reply.TheVariants.{Done, Size, Grown, Element as told_element, Refused, Trap}
 use Rattle.pool_run.specs.declared.reply.Refusal.TheVariants.{GcStoreFault, Alloc}

@@ -9,8 +9,7 @@ use Rattle.pool_alloc.specs.Wants.{MemoryWant, Want, new_memory, new_table, new_
 use Rattle.pool_pages.specs.declared.module_types.MemoryType.{MemoryType}
 use Rattle.pool_pages.specs.declared.unsupported.Unsupported.{Unsupported}
 use Rattle.pool_pages.specs.declared.unsupported.Unsupported.TheVariants.{InitialSize, AddressSpace, MemoryMinimum, TableSize}
-use Rattle.pool_pages.specs.declared.pages.DecommitBehavior.{DecommitBehavior}
-use Rattle.pool_images.specs.Slots.{Slot, SlotIdentity, IsLeft}
+use Rattle.pool_images.specs.Slots.{Slot, IsLeft}
 use Rattle.pool_limits.specs.Growth.{memory_answer, table_answer}
 use Rattle.pool_limits.specs.declared.errors.LimiterError.{LimiterError}
 use Rattle.pool_memory.specs.Making.{minimum_asked, maximum_asked, limits_answer}

@@ -4,11 +4,10 @@ use Rattle.std.specs.Prelude.{not, is_some, slice_get, slice_index_or}
 use Rattle.std.proofs.lemmas.Bool.{cases_Bool}
 use Rattle.pool_pages.specs.MakerTold.{MakerTold}
 use Rattle.pool_alloc.specs.Asked.{ModuleAsked}
-use Rattle.pool_alloc.specs.Calls.{IsIdle, begun_call}
+use Rattle.pool_alloc.specs.Calls.{IsIdle}
 use Rattle.pool_alloc.specs.Stages.{Stage, no_call, stage_of}
 use Rattle.pool_alloc.specs.Stepping.{is_idle}
 use Rattle.pool_alloc.specs.Turns.{After}
-use Rattle.pool_alloc.specs.declared.frame.Call.TheVariants as call
 use Rattle.pool_alloc.specs.declared.frame.Frame.{Frame}
 use Rattle.pool_alloc.specs.declared.frame.Grant.{Grant}
 use Rattle.pool_alloc.specs.declared.frame.Outcome.{Outcome}
@@ -16,10 +15,10 @@ use Rattle.pool_alloc.specs.declared.frame.Outcome.TheVariants as answer
 use Rattle.pool_alloc.specs.declared.pool_core.PoolCore.{PoolCore}
 use Rattle.pool_run.specs.Acts.{Act, requests, on_memory, on_table, drops, purges, releases, act_of, Wanted, an_instance, a_component, a_stack, a_heap}
 use Rattle.pool_run.specs.Private.{Grants}
-use Rattle.pool_run.specs.Rooms.{World, PooledStep}
+use Rattle.pool_run.specs.Rooms.{World}
 use Rattle.pool_run.specs.RunsMade.{is_drawing}
 use Rattle.pool_run.specs.Ties.{TiedAs, IsPrivate, CanTurn, seen_by_party}
-use Rattle.pool_run.specs.Turns.{Turned, with_reply, grants_of, answered, Steps, Opening, rests, replies, makes_step, drop_opening, OpensRequest, OpensPurge, OpensAct, OpensNext, OpensAt, Leaves, Turns, OpensWanted}
+use Rattle.pool_run.specs.Turns.{Turned, with_reply, answered, Opening, rests, replies, makes_step, drop_opening, OpensRequest, OpensPurge, OpensAct, OpensNext, OpensAt, Leaves, Turns, OpensWanted}
 use Rattle.pool_run.specs.Worlds.{AreCallsFor}
 use Rattle.pool_run.specs.declared.command.Command.{Command}
 use Rattle.pool_run.specs.declared.reply.Reply.{Reply}

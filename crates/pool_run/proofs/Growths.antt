@@ -15,7 +15,7 @@ use Rattle.pool_memory.specs.Linear.{Storage, in_slot, stored, Linear}
 use Rattle.pool_memory.specs.Making.{maximum_asked}
 use Rattle.pool_memory.specs.Memories.{MemoryState}
 use Rattle.pool_run.specs.AtOnce.{growth_reply}
-use Rattle.pool_run.specs.Private.{GrowthEnd, as_it_was, could_not, has_grown, growth, reported, if_allowed}
+use Rattle.pool_run.specs.Private.{PrivateMemory, GrowthEnd, as_it_was, could_not, has_grown, growth, size_wanted, reported, if_allowed}
 use Rattle.pool_run.specs.Turns.{seen_as, GrowthLeaves, MemoryGrows}
 use Rattle.pool_run.specs.declared.reply.Reply.{Reply}
 use Rattle.pool_run.specs.declared.reply.Reply.TheVariants.{Grown}
@@ -30,6 +30,14 @@ pub reported_seen : (r : Result (Unit {0}) LimiterError) → growth_reply (repor
 reported_seen (Ok u) = refl
 reported_seen (Err e) = refl
 
+-- The end of a growth of what has so many bytes, and its reply: where its pages are called, and in all.
+abbrev pub tried_by : ℕ → Result (Unit {0}) LimiterError → Bool → GrowthEnd × Reply
+tried_by old r fault = if fault then (could_not, reported r) else (has_grown, Grown (Some old))
+
+abbrev pub ended_by : ℕ → Bool → Bool → Bool → Result Bool LimiterError → Result (Unit {0}) LimiterError → Bool → GrowthEnd × Reply
+ended_by old nothing past_type past answer r fault =
+    if nothing then (as_it_was, Grown (Some old)) else (if past_type then (as_it_was, reported r) else if_allowed answer (if past then (as_it_was, reported r) else tried_by old r fault))
+
 -- it ends as one of these, if a call on the pages failed or not
 record EndsAs (size : ℕ) (m new : MemoryState) (reply : Reply) (end : Bool → GrowthEnd × Reply) : Type 0 where
   fault : Bool
@@ -41,11 +49,10 @@ module _ (size : ℕ) (m : MemoryState) (new : Linear) where
   left_as = record m { linear = new }
 
   abbrev tried : Result (Unit {0}) LimiterError → Bool → GrowthEnd × Reply
-  tried r fault = if fault then (could_not, reported r) else (has_grown, Grown (Some m.linear.size))
+  tried r fault = tried_by m.linear.size r fault
 
   abbrev ends : Bool → Bool → Bool → Result Bool LimiterError → Result (Unit {0}) LimiterError → Bool → GrowthEnd × Reply
-  ends nothing past_type past answer r fault =
-      if nothing then (as_it_was, Grown (Some m.linear.size)) else (if past_type then (as_it_was, reported r) else if_allowed answer (if past then (as_it_was, reported r) else tried r fault))
+  ends nothing past_type past answer r fault = ended_by m.linear.size nothing past_type past answer r fault
 
   unchanged : (reply : Reply) (end : Bool → GrowthEnd × Reply) → end false ≡ (as_it_was, reply) → new ≡ m.linear → EndsAs size m left_as reply end
   unchanged reply end is same =
@@ -103,6 +110,15 @@ pub failure_told : (rule : GrowthRule) (o : Option GrowthRule) (given : Result (
 failure_told always o given told is = let M : Option GrowthRule → Type 0 = λ r. given ≡ memory_failure r given in subst M told is
 failure_told (limited_by l) o given told is = let M : Option GrowthRule → Type 0 = λ r. given ≡ memory_failure r given in subst M told is
 
+-- so a growth of what is seen ends as the rule says
+pub ended_by_rule : (rule : GrowthRule) (o : Option GrowthRule) (pages : ℕ) (was : PrivateMemory) (answer : Result Bool LimiterError) (report : Result (Unit {0}) LimiterError) (fault : Bool) → o ≡ Some rule → answer ≡ memory_answer o answer (size_wanted pages was) (maximum_asked was.ty) → report ≡ memory_failure o report
+    → ended_by was.size (pages == 0) (not (allow_growth_to was.ty (size_wanted pages was))) (exceeds (maximum_asked was.ty) (size_wanted pages was) || nat_lt was.capacity (size_wanted pages was)) answer report fault ≡ growth rule fault pages was
+ended_by_rule rule o pages was answer report fault told answers reports =
+    let size : ℕ = size_wanted pages was in
+    let most : Option ℕ = maximum_asked was.ty in
+    let Told : Result Bool LimiterError → Result (Unit {0}) LimiterError → GrowthEnd × Reply = λ a r. ended_by was.size (pages == 0) (not (allow_growth_to was.ty size)) (exceeds most size || nat_lt was.capacity size) a r fault in
+    ap (λ (a : Result Bool LimiterError). Told a report) (answer_told rule o answer size most told answers) ∙ ap (Told (memory_answer (Some rule) (Ok true) size most)) (failure_told rule o report told reports)
+
 pub right_of : (a b : Bool) → (a || b) ≡ false → b ≡ false
 right_of true b is = absurd cc
 right_of false b is = is
@@ -120,7 +136,6 @@ grown_as rule pages m new g asked left answer fixed told grows =
     let within : past ≡ false → size ≤ m.linear.capacity = λ no. ltb-false m.linear.capacity size (right_of (exceeds most size) (nat_lt m.linear.capacity size) no) in
     let end = growth_end size m new.linear nothing past_type past g within (subst By here grows.linear) in
     let replies : growth_reply answer ≡ growth_reply (result_by m.linear.size nothing past_type past g) = ap growth_reply (grows.ruled.replies ∙ ap (λ (b : Bool). result_by m.linear.size nothing past_type b g) here) in
-    let Told : Result Bool LimiterError → Result (Unit {0}) LimiterError → GrowthEnd × Reply = λ a r. ends size m new.linear nothing past_type past a r end.fault in
-    let ruled : Told g.answer g.report ≡ growth rule end.fault pages (seen_as 0 m) = ap (λ (a : Result Bool LimiterError). Told a g.report) (answer_told rule asked.rule g.answer size most told grows.ruled.answer) ∙ ap (Told (memory_answer (Some rule) (Ok true) size most)) (failure_told rule asked.rule g.report told grows.ruled.report) in
+    let ruled : ends size m new.linear nothing past_type past g.answer g.report end.fault ≡ growth rule end.fault pages (seen_as 0 m) = ended_by_rule rule asked.rule pages (seen_as 0 m) g.answer g.report end.fault told grows.ruled.answer grows.ruled.report in
     let Left : MemoryState → GrowthEnd → Type 0 = λ x e. GrowthLeaves e size m x in
     (end.fault, replies ∙ end.says ∙ ap (λ (p : GrowthEnd × Reply). p.1) ruled, subst (λ (x : MemoryState). Left x (growth rule end.fault pages (seen_as 0 m)).0) (sym grows.memory) (subst (Left (record m { linear = new.linear })) (ap (λ (p : GrowthEnd × Reply). p.0) ruled) end.leaves))

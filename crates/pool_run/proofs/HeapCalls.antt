@@ -1,6 +1,6 @@
 -- How a step leaves the maker of heaps of its party: only the making of a heap calls it, which its list lets or doesn't.
-use Rattle.std.proofs.Common.{◌≡◌, ℕ, ◌⊎◌, inl, inr, List, Bool, true, false, Option, Some, None, Result, Ok, Err, refl, sym, ap, ◌∙◌, subst, arith}
-use Rattle.std.specs.Prelude.{not, IsSome, IfSome, IfErr, MatchResult}
+use Rattle.std.proofs.Common.{◌≡◌, ℕ, ◌⊎◌, inl, inr, List, Bool, true, false, Option, Some, None, Result, Ok, Err, refl, sym, ap, ◌∙◌, subst}
+use Rattle.std.specs.Prelude.{not, IfErr, MatchResult}
 use Rattle.std.proofs.lemmas.Option.{same_Some}
 use Rattle.pool_pages.specs.MakerTold.{MakerTold}
 use Rattle.pool_pages.specs.Told.{risen}
@@ -14,12 +14,10 @@ use Rattle.pool_slots.specs.declared.listed_heaps.PlainHeap.{PlainHeap}
 use Rattle.pool_slots.specs.declared.plan.Plan.{Plan}
 use Rattle.pool_alloc.specs.Answers.{MakesOf}
 use Rattle.pool_alloc.specs.Objects.{objects_in}
-use Rattle.pool_alloc.specs.PartyTold.{PartyTold, MakesHeap}
 use Rattle.pool_alloc.specs.Rows.{row_of, make_heap_row}
 use Rattle.pool_alloc.specs.Sound.{IsFrame, IsShapedAt}
 use Rattle.pool_alloc.specs.Stages.{Stage, asks, seeks_heap, counts_heap, refusing, stage_by, stage_at, stage_of}
 use Rattle.pool_alloc.specs.Steps.{StepGiven, heaps_wanted}
-use Rattle.pool_alloc.specs.Stepping.{StepsTo}
 use Rattle.pool_alloc.specs.Turns.{After, stepped}
 use Rattle.pool_alloc.specs.declared.frame.Asked.{Asked}
 use Rattle.pool_alloc.specs.declared.frame.Asked.TheVariants.{Heap as heap_asked}

@@ -1,20 +1,15 @@
 -- A request for a heap: why it is refused, and what is granted.
-use Rattle.std.proofs.Common.{◌≡◌, ℕ, ◌+◌, ◌*◌, ◌^◌, ◌<◌, ◌≤◌, ◌⊎◌, inl, inr, List, [], ◌∷◌, length, Bool, true, false, Option, Some, None, Result, Ok, Err, refl, sym, ap, ◌∙◌, subst, arith}
-use Rattle.std.specs.Prelude.{sum_by, not, nat_lt, if◌then◌else◌, option_map, slice_get, slice_index_or, IfSome}
+use Rattle.std.proofs.Common.{◌≡◌, ℕ, ◌+◌, ◌*◌, ◌<◌, ◌≤◌, inl, inr, List, [], ◌∷◌, length, Bool, true, false, Option, Some, None, Result, Ok, Err, refl, sym, ap, ◌∙◌, subst, arith}
+use Rattle.std.specs.Prelude.{sum_by, not, nat_lt, if◌then◌else◌, option_map, slice_get, slice_index_or}
 use Rattle.std.proofs.lemmas.Bool.{cases_lt, lt-ltb, le-ltb}
-use Rattle.std.proofs.lemmas.Option.{same_Some}
 use Rattle.pool_hall.specs.declared.unit_name.SlotKind.{SlotKind}
 use Rattle.pool_hall.specs.declared.unit_name.SlotKind.TheVariants.{Memory as memory_kind, Heap as heap_kind}
-use Rattle.pool_pages.specs.MemoryTypes.{minimum_byte_size, allow_growth_to}
 use Rattle.pool_pages.specs.declared.module_types.MemoryDecl.{MemoryDecl}
 use Rattle.pool_pages.specs.declared.module_types.MemoryType.{MemoryType}
 use Rattle.pool_pages.specs.declared.unsupported.Unsupported.{Unsupported}
-use Rattle.pool_pages.specs.declared.unsupported.Unsupported.TheVariants.{AddressSpace, MemoryMinimum}
 use Rattle.pool_limits.specs.Growth.{memory_answer}
-use Rattle.pool_limits.specs.declared.errors.LimiterError.{LimiterError}
-use Rattle.pool_memory.specs.Making.{minimum_asked, maximum_asked, limits_answer}
+use Rattle.pool_memory.specs.Making.{minimum_asked, maximum_asked}
 use Rattle.pool_memory.specs.Memories.{MemoryState}
-use Rattle.pool_memory.specs.declared.memory_error.MemoryError.TheVariants as unmade
 use Rattle.pool_slots.specs.HeapsTold.{HeapsTold}
 use Rattle.pool_slots.specs.Plans.{has_number}
 use Rattle.pool_slots.specs.declared.errors.AllocError.{AllocError}
@@ -47,7 +42,7 @@ use Rattle.pool_alloc.specs.declared.frame.Grant.{Grant}
 use Rattle.pool_alloc.specs.declared.frame.Grant.TheVariants.{Instance as instance, Heap as heap}
 use Rattle.pool_alloc.specs.declared.pool_core.PoolCore.{PoolCore}
 use Rattle.pool_alloc.specs.declared.pool_core.Settings.{Settings}
-use Rattle.pool_run.specs.Private.{Grants, Terms, heap_grant, begun_memory, own_refusal, refused_by, stripe_slots, heap_memory, heap_barred, heap_refusal, IsHeapRefused, HeapRefusal, RefusesHeap, CountsRefused}
+use Rattle.pool_run.specs.Private.{Grants, Terms, heap_grant, begun_memory, own_refusal, stripe_slots, heap_memory, heap_barred, heap_refusal, HeapRefusal, RefusesHeap, CountsRefused}
 use Rattle.pool_run.specs.PrivateTables.{goes_through}
 use Rattle.pool_run.specs.Rooms.{World, live_count, heap_count, IsForHeapRoom}
 use Rattle.pool_run.specs.Turns.{private_memory, private_grant, grants_of, heaps_told}
@@ -55,27 +50,12 @@ use Rattle.pool_run.specs.Ties.{granted_to}
 use Rattle.pool_run.proofs.Bytes.{begun_seen}
 use Rattle.pool_run.proofs.Causes.{GoesWith, own_goes, fault_of_slot}
 use Rattle.pool_run.proofs.Growths.{answer_told}
+use Rattle.pool_run.proofs.OwnRefusals.{IsOwn, answer_own}
 use Rattle.pool_run.proofs.Requests.{IsBefore, gone, told_of}
 use Rattle.pool_run.proofs.SlotKinds.{memories_taken, heaps_taken, memory_free, memories_told, heaps_told as heaps_counted_told}
 use Rattle.pool_run.proofs.SlotsMade.{made_slot}
 
--- what a memory's own refusal can be
-abbrev IsOwn : AllocError → Type 0
-IsOwn (refusal.Unsupported rule) = Unit {0}
-IsOwn (refusal.LimiterDenied table least) = Unit {0}
-IsOwn (refusal.LimiterFault e) = Unit {0}
-IsOwn _ = ⊥
-
-limits_own : (ty : MemoryType) (represented allowed : Bool) (e : AllocError) → refused_by {X = ℕ × Option ℕ} (if represented then (if allowed then Ok (minimum_byte_size ty, maximum_asked ty) else Err (unmade.Unsupported AddressSpace)) else Err (unmade.Unsupported (MemoryMinimum ty.limits.min))) ≡ Some e → IsOwn e
-limits_own ty true true e is = absurd cc
-limits_own ty true false e is = subst IsOwn (same_Some (refusal.Unsupported AddressSpace) e is) tt
-limits_own ty false allowed e is = subst IsOwn (same_Some (refusal.Unsupported (MemoryMinimum ty.limits.min)) e is) tt
-
-answer_own : (answer : Result Bool LimiterError) (ty : MemoryType) (e : AllocError) → refused_by (limits_answer answer ty) ≡ Some e → IsOwn e
-answer_own (Err x) ty e is = subst IsOwn (same_Some (refusal.LimiterFault x) e is) tt
-answer_own (Ok false) ty e is = subst IsOwn (same_Some (refusal.LimiterDenied false ty.limits.min) e is) tt
-answer_own (Ok true) ty e is = limits_own ty (nat_lt (minimum_byte_size ty) (2 ^ 64)) (allow_growth_to ty (minimum_byte_size ty)) e is
-
+-- what a heap's memory has of one is such
 own_is : (t : Terms) (ty : MemoryType) (e : AllocError) → heap_refusal t ty ≡ Some e → IsOwn e
 own_is t ty e is = answer_own (memory_answer (Some t.host.rule) (Ok true) (minimum_asked ty) (maximum_asked ty)) ty e is
 

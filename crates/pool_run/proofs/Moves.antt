@@ -5,7 +5,6 @@ use Rattle.std.proofs.lemmas.Bool.{leb-true, leb-false}
 use Rattle.pool_pages.specs.Contents.{written}
 use Rattle.pool_pages.specs.Count.{rounded_up}
 use Rattle.pool_pages.specs.MakerTold.{MakerTold, plan_for}
-use Rattle.pool_pages.specs.declared.pages.DecommitBehavior.{DecommitBehavior}
 use Rattle.pool_pages.specs.declared.pages.RegionName.TheVariants.{Memory as memory_region, OnDemand}
 use Rattle.pool_images.specs.Slots.{Slot, SlotIdentity, identity, raising, raised, limited}
 use Rattle.pool_limits.specs.Growth.{GrowthRule}

@@ -1,8 +1,7 @@
 -- A grant of a pool and one made on demand for the same begin alike, stay so, and are answered alike, where both are served.
-use Rattle.std.proofs.Common.{◌≡◌, ℕ, ◌-◌, ◌%◌, Bool, true, false, List, [], ◌∷◌, length, map, replicate, Option, Some, None, refl, sym, ap, ◌∙◌, subst, arith, is_some, zero, suc}
+use Rattle.std.proofs.Common.{◌≡◌, ℕ, ◌%◌, Bool, true, false, List, [], ◌∷◌, length, map, replicate, Option, Some, None, refl, sym, ap, ◌∙◌, subst, arith, is_some, zero, suc}
 use Rattle.std.specs.Prelude.{◌==◌, if◌then◌else◌, IfSome, option_map, slice_get, slice_set}
 use Rattle.std.specs.List.{AllByRecursion}
-use Rattle.pool_pages.specs.Contents.{put}
 use Rattle.pool_pages.specs.MemoryTypes.{minimum_byte_size}
 use Rattle.pool_images.specs.Images.{Image, start}
 use Rattle.pool_table.specs.Elements as elem
@@ -20,7 +19,7 @@ use Rattle.pool_run.specs.PrivateTables.{Host, PrivateTable, StoredTable, TableM
 use Rattle.pool_run.specs.Private.{PrivateMemory, MemoryMoves, Terms, PrivateInstance, PrivateGrant, instance_grant, component_grant, stack_grant, heap_grant, put_memory, put_table, put_stack, tables_in_grant, request_of, begun, begun_instance, begun_memory, begun_table, heap_memory}
 use Rattle.pool_run.specs.declared.reply.Reply.{Reply}
 use Rattle.pool_run.proofs.AlikeBytes.{AreAlike, AreStacksAlike, op_alike, stack_alike}
-use Rattle.pool_run.proofs.AlikeTables.{AreTablesAlike, StayAlike, table_alike}
+use Rattle.pool_run.proofs.AlikeTables.{AreTablesAlike, table_alike}
 
 -- whether it was served doesn't depend on the place
 served_memory : (k : ℕ) (op : MemoryOp) (r : Reply) → IsServed (bytes_in k op) r → IsServed (bytes_in 0 op) r

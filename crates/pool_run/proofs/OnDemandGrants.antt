@@ -1,7 +1,7 @@
 -- A command on the bytes of a grant on demand, which is taken out of its place and put back; and what a request for a stack or
 -- for a component gives.
-use Rattle.std.proofs.Common.{◌≡◌, ℕ, zero, suc, ◌+◌, ◌-◌, ◌*◌, ◌/◌, ◌<◌, ◌≤◌, Bool, true, false, List, [], ◌∷◌, length, map, replicate, Option, Some, None, is_some, Result, Ok, Err, ◌⊎◌, inl, inr, refl, sym, ap, ◌∙◌, subst, arith}
-use Rattle.std.specs.Prelude.{◌==◌, ◌^◌, if◌then◌else◌, IfSome, option_map, slice_get, slice_set, slice_index_or, slice_range}
+use Rattle.std.proofs.Common.{◌≡◌, ℕ, zero, suc, ◌+◌, ◌-◌, ◌*◌, ◌/◌, ◌<◌, ◌≤◌, Bool, true, false, List, length, replicate, Option, Some, None, is_some, Result, Ok, Err, ◌⊎◌, inl, inr, refl, sym, ap, ◌∙◌, subst, arith}
+use Rattle.std.specs.Prelude.{◌==◌, if◌then◌else◌, IfSome, option_map, slice_get, slice_set, slice_index_or, slice_range}
 use Rattle.std.specs.Option.{option_and_then}
 use Rattle.std.proofs.Math.Nat.{div-eq_of_lt}
 use Rattle.std.proofs.lemmas.Bool.Decides.{nat_tests}
@@ -11,7 +11,6 @@ use Rattle.pool_pages.specs.Contents.{Contents}
 use Rattle.pool_pages.specs.Count.{rounded_up}
 use Rattle.pool_pages.specs.MakerTold.{MakerTold}
 use Rattle.pool_pages.specs.Told.{Told, succeeded}
-use Rattle.pool_images.specs.Slots.{Slot}
 use Rattle.pool_limits.specs.Growth.{GrowthRule}
 use Rattle.pool_memory.proofs.Creations.{asked_same}
 use Rattle.pool_memory.specs.Creators.{IsSameMaker}
@@ -22,7 +21,7 @@ use Rattle.pool_slots.specs.declared.errors.AllocError.TheVariants as alloc
 use Rattle.pool_alloc.specs.Guards.{guarding}
 use Rattle.pool_alloc.specs.OnDemandAnswers.{Allocates, IsGiven, no_slot}
 use Rattle.pool_alloc.specs.OnDemandRefusals.{stack_refused}
-use Rattle.pool_alloc.specs.OnDemandStacks.{IsStackMade, AsksForStack, stack_in, stack_region}
+use Rattle.pool_alloc.specs.OnDemandStacks.{IsStackMade, AsksForStack, stack_region}
 use Rattle.pool_alloc.specs.declared.on_demand.OnDemandInstanceAllocator.{OnDemandInstanceAllocator}
 use Rattle.pool_alloc.specs.declared.on_demand_lease.OnDemandInstance.{OnDemandInstance}
 use Rattle.pool_alloc.specs.declared.on_demand_lease.OnDemandMemory.{OnDemandMemory}
@@ -32,8 +31,8 @@ use Rattle.pool_run.specs.AtOnce.{MovesOnly}
 use Rattle.pool_run.specs.Objects.{Objects, MovesNamed, object_at, with_object}
 use Rattle.pool_run.specs.OnDemand.{BytesOnDemand, MovesOnDemand, IsUnmadeStack, IsStackUnmade, MakesComponent, MakesStack}
 use Rattle.pool_run.specs.OnDemandSeen.{BytesOfGrant, LeaseMovesOnDemand, PutsBack, IsAllocatorFor, seen_lease, seen_instance, seen_grant, grants_made, with_memory}
-use Rattle.pool_run.specs.Private.{PrivateMemory, PrivateInstance, PrivateGrant, instance_grant, component_grant, stack_grant, heap_grant, private_memories, private_stacks, put_memory, Grants, grant_at, Terms}
-use Rattle.pool_run.specs.PrivateStacks.{PrivateStack, BeginsStack, StackMoves}
+use Rattle.pool_run.specs.Private.{PrivateMemory, PrivateGrant, instance_grant, component_grant, stack_grant, heap_grant, private_memories, private_stacks, put_memory, Grants, grant_at, Terms}
+use Rattle.pool_run.specs.PrivateStacks.{BeginsStack, StackMoves}
 use Rattle.pool_run.specs.Turns.{StackStateMoves, seen_stack}
 use Rattle.pool_run.specs.declared.on_demand_grant.OnDemandGrant.{OnDemandGrant}
 use Rattle.pool_run.specs.declared.on_demand_grant.OnDemandGrant.TheVariants.{Component as component, Stack as stack}

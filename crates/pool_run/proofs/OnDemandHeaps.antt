@@ -1,5 +1,5 @@
 -- A request for a heap on demand: its memory is made as the party's terms say, and then the heap or not.
-use Rattle.std.proofs.Common.{◌≡◌, ℕ, ◌<◌, Bool, true, false, List, [], ◌∷◌, map, Option, Some, None, Result, Ok, Err, ◌⊎◌, inl, inr, refl, sym, ap, ◌∙◌, subst}
+use Rattle.std.proofs.Common.{◌≡◌, ℕ, ◌<◌, Bool, true, false, List, [], Option, Some, None, Result, Ok, Err, inl, inr, refl, sym, ap, ◌∙◌, subst}
 use Rattle.std.specs.Prelude.{not, if◌then◌else◌, option_map, slice_set, IfOk, IfErr, MatchResult}
 use Rattle.std.specs.Option.{option_or}
 use Rattle.std.proofs.lemmas.List.{map-set}
@@ -14,7 +14,6 @@ use Rattle.pool_pages.specs.declared.unsupported.Unsupported.{Unsupported}
 use Rattle.pool_limits.specs.Exchanges.{Exchange}
 use Rattle.pool_limits.specs.LimiterTold.{LimiterTold}
 use Rattle.pool_limits.specs.declared.errors.LimiterError.{LimiterError}
-use Rattle.pool_memory.specs.Creators.{IsSameMaker}
 use Rattle.pool_memory.specs.MemoryStates.{state_of}
 use Rattle.pool_slots.specs.HeapsTold.{HeapsTold, fails_next, listed_heaps}
 use Rattle.pool_slots.specs.declared.errors.AllocError.{AllocError}
@@ -28,7 +27,7 @@ use Rattle.pool_alloc.specs.declared.on_demand_lease.OnDemandHeap.{OnDemandHeap}
 use Rattle.pool_alloc.specs.declared.on_demand_lease.OnDemandMemory.{OnDemandMemory}
 use Rattle.pool_run.specs.OnDemand.{IsHeapMade, IsHeapUnmade, IsUnmade, MakesHeap, first_unmade, heap_barred_on_demand, heap_terms, heap_wants, made_memory}
 use Rattle.pool_run.specs.OnDemandSeen.{AnswersHeap, AnswersHeapMemory, IsHeld, IsMakerFor, grants_made, seen_grant, seen_lease}
-use Rattle.pool_run.specs.Private.{CountsRefused, Grants, PrivateGrant, PrivateMemory, PrivateState, Terms, heap_grant, heap_memory}
+use Rattle.pool_run.specs.Private.{CountsRefused, Grants, PrivateMemory, PrivateState, Terms, heap_grant, heap_memory}
 use Rattle.pool_run.specs.PrivateTables.{goes_through}
 use Rattle.pool_run.specs.declared.on_demand_grant.OnDemandGrant.{OnDemandGrant}
 use Rattle.pool_run.specs.declared.on_demand_grant.OnDemandGrant.TheVariants.{Heap as heap}

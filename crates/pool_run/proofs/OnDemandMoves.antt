@@ -1,6 +1,6 @@
 -- What a write and a growth make of a memory on demand, as the party sees it. A growth ends as the rule of its limiter says,
 -- but that it may find no memory; and it leaves the maker the same.
-use Rattle.std.proofs.Common.{◌≡◌, ℕ, ◌+◌, ◌-◌, ◌*◌, ◌^◌, ◌<◌, ◌≤◌, Bool, true, false, List, ◌++◌, length, take, replicate, min, Option, Some, None, Result, Ok, Err, ◌⊎◌, inl, inr, refl, sym, ap, ◌∙◌, subst, arith, nat_lt, nat_le, is_some, zero}
+use Rattle.std.proofs.Common.{◌≡◌, ℕ, ◌+◌, ◌-◌, ◌^◌, ◌<◌, ◌≤◌, Bool, true, false, List, ◌++◌, length, take, replicate, Option, Some, None, Result, Ok, Err, ◌⊎◌, inl, inr, refl, sym, ap, ◌∙◌, subst, arith, nat_lt, nat_le, is_some}
 use Rattle.std.specs.Prelude.{◌==◌, ◌||◌, ◌&&◌, not, if◌then◌else◌, IfSome, option_map, slice_range, OnOk, OnErr}
 use Rattle.std.proofs.lemmas.Bool.{cases_lt, lt-ltb, ltb-false, leb-true}
 use Rattle.std.proofs.lemmas.Bool.Decides.{nat_tests}
@@ -11,9 +11,8 @@ use Rattle.pool_pages.specs.MakerTold.{MakerTold}
 use Rattle.pool_pages.specs.MemoryTypes.{page_size, allow_growth_to}
 use Rattle.pool_pages.specs.declared.module_types.MemoryType.{MemoryType}
 use Rattle.pool_images.specs.Slots.{Slot, raised}
-use Rattle.pool_limits.specs.Growth.{GrowthRule, memory_answer, memory_failure}
+use Rattle.pool_limits.specs.Growth.{GrowthRule}
 use Rattle.pool_limits.specs.Growing.{GrowthGiven, Obstacles, is_want_of_memory, report_result, result_by, pages_result, answer_result, AnswerMakes, MakesBy}
-use Rattle.pool_limits.specs.LimiterTold.{LimiterTold}
 use Rattle.pool_limits.specs.declared.errors.GrowError.{GrowError}
 use Rattle.pool_limits.specs.declared.errors.GrowError.TheVariants as failed
 use Rattle.pool_limits.specs.declared.errors.GrowFault.{GrowFault}
@@ -22,24 +21,24 @@ use Rattle.pool_limits.specs.declared.errors.Trap.{Trap}
 use Rattle.pool_limits.specs.declared.errors.Trap.TheVariants.{MemoryOutOfBounds}
 use Rattle.pool_memory.proofs.Creations.{asked_same}
 use Rattle.pool_memory.specs.Creators.{IsSameMaker}
-use Rattle.pool_memory.specs.Growing.{InPlace, GrowsTo, IsUngrown, StaysTold, grown_size, exceeds, obstacles, past_room, IsGrowth, PagesLeave, AnswerLeaves, LeavesBy, GrowthLeavesMaker}
+use Rattle.pool_memory.specs.Growing.{InPlace, GrowsTo, IsUngrown, StaysTold, grown_size, exceeds, obstacles, past_room, PagesLeave, AnswerLeaves, LeavesBy}
 use Rattle.pool_memory.specs.Layouts.{Layout, layout_of, moved_layout}
 use Rattle.pool_memory.specs.Linear.{Storage, in_slot, stored, slot_in, Linear, linear_bytes, first_bytes, storage_written}
 use Rattle.pool_memory.specs.Making.{maximum_asked}
-use Rattle.pool_memory.specs.Memories.{MemoryState, bytes_of, memory_written, access_answer}
-use Rattle.pool_memory.specs.Moving.{CallLeaves, MakerLeft, MoveLeaves, PlaceLeaves, slot_for}
+use Rattle.pool_memory.specs.Memories.{MemoryState, memory_written, access_answer}
+use Rattle.pool_memory.specs.Moving.{CallLeaves, MakerLeft, MoveLeaves, PlaceLeaves}
 use Rattle.pool_slots.specs.declared.errors.AllocError.TheVariants as alloc
 use Rattle.pool_run.specs.Acts.{grows}
 use Rattle.pool_run.specs.AtOnce.{growth_reply, write_reply}
 use Rattle.pool_run.specs.OnDemand.{MovesOnDemand}
 use Rattle.pool_run.specs.OnDemandSeen.{seen_made, IsHeld, GrowsByRule}
-use Rattle.pool_run.specs.Private.{PrivateMemory, IsRead, Writes, private_written, GrowthEnd, as_it_was, could_not, has_grown, growth, left_of, reported, if_allowed}
+use Rattle.pool_run.specs.Private.{PrivateMemory, IsRead, Writes, private_written, GrowthEnd, as_it_was, has_grown, growth, left_of}
 use Rattle.pool_run.specs.declared.reply.Reply.{Reply}
-use Rattle.pool_run.specs.declared.reply.Reply.TheVariants.{Bytes, Done, Grown, Refused, Trap as trapped}
+use Rattle.pool_run.specs.declared.reply.Reply.TheVariants.{Bytes, Grown, Refused, Trap as trapped}
 use Rattle.pool_run.specs.declared.reply.Refusal.TheVariants.{Alloc}
 use Rattle.pool_run.specs.Turns.{seen_as}
 use Rattle.pool_run.proofs.Bytes.{take_put}
-use Rattle.pool_run.proofs.Growths.{reported_seen, answer_told, failure_told, right_of}
+use Rattle.pool_run.proofs.Growths.{tried_by, ended_by, ended_by_rule, reported_seen, right_of}
 
 -- The maker is the same after a growth, and may have been asked for a region.
 still : (before after : MakerTold) → after ≡ before → IsSameMaker before after
@@ -145,11 +144,10 @@ module _ (tells : Bool) (size : ℕ) (m : MemoryState) (new : Linear) (held : Is
   was = seen_made tells m
 
   abbrev tried : Result (Unit {0}) LimiterError → Bool → GrowthEnd × Reply
-  tried r fault = if fault then (could_not, reported r) else (has_grown, Grown (Some m.linear.size))
+  tried r fault = tried_by m.linear.size r fault
 
   abbrev ends : Bool → Bool → Bool → Result Bool LimiterError → Result (Unit {0}) LimiterError → Bool → GrowthEnd × Reply
-  ends nothing past_type past answer r fault =
-      if nothing then (as_it_was, Grown (Some m.linear.size)) else (if past_type then (as_it_was, reported r) else if_allowed answer (if past then (as_it_was, reported r) else tried r fault))
+  ends nothing past_type past answer r fault = ended_by m.linear.size nothing past_type past answer r fault
 
   -- it ends as one of these, if a call on pages failed or not; or it found no memory where it would have grown
   abbrev EndsMade : Reply → (Bool → GrowthEnd × Reply) → Type 0
@@ -239,6 +237,12 @@ past_same : (b e : Bool) (n size : ℕ) → size < 2 ^ 64 → (e || (not b && na
 past_same true e n size small = let no : nat_lt (2 ^ 64) size ≡ false = grind (arith, nat_tests, small) in ap (λ (c : Bool). e || c) (sym no)
 past_same false e n size small = refl
 
+-- A size that is past the room of a memory is past that of what the party sees of it.
+pub past_seen : (tells : Bool) (pages : ℕ) (m : MemoryState) → IsHeld tells m → past_room (grown_size pages m) m ≡ (exceeds (maximum_asked m.ty) (grown_size pages m) || nat_lt (seen_made tells m).capacity (grown_size pages m))
+past_seen tells pages m held =
+    let small : grown_size pages m < 2 ^ 64 = omega (arith, held.room, page_some m.ty) in
+    past_same m.may_move (exceeds (maximum_asked m.ty) (grown_size pages m)) m.linear.capacity (grown_size pages m) small
+
 within_room : (b e : Bool) (n size : ℕ) → (e || nat_lt (if b then 2 ^ 64 else n) size) ≡ false → b ≡ false → size ≤ n
 within_room true e n size under is = absurd cc
 within_room false e n size under is = ltb-false n size (right_of e (nat_lt n size) under)
@@ -257,17 +261,12 @@ grows_made tells rule pages m new before after answer same held is =
     let past : Bool = exceeds most size || nat_lt was.capacity size in
     let fits : size + page_size m.ty ≤ 2 ^ 64 = omega (arith, held.room) in
     let more : m.linear.size ≤ size = omega (arith, held.room) in
-    let small : size < 2 ^ 64 = omega (arith, fits, page_some m.ty) in
-    let here : past_room size m ≡ past = past_same m.may_move (exceeds most size) m.linear.capacity size small in
+    let here : past_room size m ≡ past = past_seen tells pages m held in
     let By : Bool → Type 0 = λ b. LeavesBy nothing past_type b g size m.linear new.linear in
     let Left : Bool → Type 0 = λ b. Makes size m.linear new.linear before after nothing past_type b g in
     let end = growth_end tells size m new.linear held nothing past_type past g before after same (within_room m.may_move (exceeds most size) m.linear.capacity size) more fits (subst By here growth_is.linear) (subst Left here is.5) in
     let replies : growth_reply answer ≡ growth_reply (result_by m.linear.size nothing past_type past g) = ap growth_reply (growth_is.ruled.replies ∙ ap (λ (b : Bool). result_by m.linear.size nothing past_type b g) here) in
-    let Told : Result Bool LimiterError → Result (Unit {0}) LimiterError → Bool → GrowthEnd × Reply = λ a r fault. ends tells size m new.linear held nothing past_type past a r fault in
-    let ruled : (fault : Bool) → Told g.answer g.report fault ≡ growth rule fault pages was =
-    λ fault.
-    ap (λ (a : Result Bool LimiterError). Told a g.report fault) (answer_told rule is.1.rule g.answer size most is.3 growth_is.ruled.answer)
-    ∙ ap (λ (r : Result (Unit {0}) LimiterError). Told (memory_answer (Some rule) (Ok true) size most) r fault) (failure_told rule is.1.rule g.report is.3 growth_is.ruled.report) in
+    let ruled : (fault : Bool) → ends tells size m new.linear held nothing past_type past g.answer g.report fault ≡ growth rule fault pages was = λ fault. ended_by_rule rule is.1.rule pages was g.answer g.report fault is.3 growth_is.ruled.answer growth_is.ruled.report in
     let Seen : GrowthEnd × Reply → PrivateMemory × Reply = λ p. (left_of p.0 size was, p.1) in
     let now : seen_made tells new ≡ seen_made tells (record m { linear = new.linear }) = ap (seen_made tells) growth_is.memory in (
       elim end.0 [

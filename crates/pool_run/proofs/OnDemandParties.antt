@@ -1,9 +1,12 @@
 -- What a command of a party on demand makes of its live grants, as the party sees them; and one more reply to it.
-use Rattle.std.proofs.Common.{◌≡◌, ℕ, zero, suc, ◌+◌, ◌<◌, ◌≤◌, Bool, List, [], ◌∷◌, ◌++◌, length, map, All, replicate, Option, Some, None, Result, Ok, Err, refl, sym, ap, ◌∙◌, subst, arith}
+use Rattle.std.proofs.Common.{◌≡◌, ℕ, zero, suc, ◌+◌, ◌<◌, ◌≤◌, Bool, List, [], ◌∷◌, ◌++◌, length, map, All, replicate, Option, Some, None, refl, sym, ap, ◌∙◌, subst, arith}
 use Rattle.std.specs.Prelude.{IfSome, option_map, slice_get, slice_index_or, slice_set}
+use Rattle.std.specs.Option.{option_map_or}
 use Rattle.std.proofs.lemmas.List.{map-set, set-get_or, length-replicate}
 use Rattle.std.proofs.lemmas.List.Elements.{All-set}
+use Rattle.std.proofs.lemmas.List.Folds.{sum_by-replicate}
 use Rattle.std.proofs.lemmas.Option.{slice_get-get_or}
+use Rattle.pool_pages.specs.MakerTold.{MakerTold, Planned}
 use Rattle.pool_pages.specs.declared.module_types.Tunables.{Tunables}
 use Rattle.pool_limits.specs.Growth.{GrowthRule}
 use Rattle.pool_table.specs.declared.gc_store.ListedStore.{ListedStore}
@@ -12,13 +15,16 @@ use Rattle.pool_alloc.specs.Asked.{ModuleAsked}
 use Rattle.pool_alloc.specs.declared.on_demand_lease.OnDemandInstance.{OnDemandInstance}
 use Rattle.pool_alloc.specs.declared.on_demand_lease.OnDemandTable.{OnDemandTable}
 use Rattle.pool_alloc.specs.Reserved.{Reserved, with_item}
-use Rattle.pool_run.specs.Acts.{MemoryOp, TableOp, gets, sets, lengthens, asks_length, on_memory, on_table, act_of}
+use Rattle.pool_run.specs.Acts.{MemoryOp, TableOp, gets, sets, lengthens, asks_length, Act, on_memory, on_table, act_of}
 use Rattle.pool_run.specs.Objects.{MovesNamed, MovesObject, object_at, with_object}
 use Rattle.pool_run.specs.OnDemand.{BytesOnDemand, TableMovesOnDemand, ActsOnDemand, StepOnDemand, Makes, IsMade, made_instance, no_slots}
-use Rattle.pool_run.specs.OnDemandSeen.{seen_lease, seen_table_lease, seen_instance, seen_grant, grants_made, tables_of_grant, with_table_in, made_tables, IsHeldGrant, AreLive, TableLeaseMovesOnDemand, state_seen, IsCallOnDemand, AreCallsOnDemand, IsPartyOnDemand}
+use Rattle.pool_run.specs.OnDemandFaults.{faults_met, StepsMeeting}
+use Rattle.pool_run.specs.OnDemandLeft.{Laying, laying_of, Spends, grant_left, live_left, IsLaidGrant, AreLaidLive, LiveSpends, ActSpends}
+use Rattle.pool_run.specs.OnDemandRuns.{IsPartyReady, IsPartyOnDemand, IsPartyTurned}
+use Rattle.pool_run.specs.OnDemandSeen.{seen_lease, seen_table_lease, seen_instance, seen_grant, grants_made, tables_of_grant, with_table_in, made_tables, IsHeldGrant, AreLive, TableLeaseMovesOnDemand, state_seen, IsCallOnDemand, AreCallsOnDemand}
 use Rattle.pool_run.specs.PartyRules.{host_of, rule_of}
 use Rattle.pool_run.specs.PrivateTables.{Host, PrivateTable, StoredTable}
-use Rattle.pool_run.specs.Private.{PrivateInstance, PrivateGrant, instance_grant, Grants, grant_at, private_tables, tables_in_grant, put_table, table_at, with_table, Terms, Request, Drops, PrivateState, StepsBy, with_grants, no_grants}
+use Rattle.pool_run.specs.Private.{PrivateInstance, PrivateGrant, instance_grant, Grants, grant_at, private_tables, tables_in_grant, put_table, with_table, Terms, Request, Drops, PrivateState, with_grants, no_grants}
 use Rattle.pool_run.specs.declared.command.Command.{Command}
 use Rattle.pool_run.specs.declared.input.PartyLimits.{PartyLimits}
 use Rattle.pool_run.specs.declared.on_demand_grant.OnDemandGrant.{OnDemandGrant}
@@ -27,8 +33,9 @@ use Rattle.pool_run.specs.declared.on_demand_party.PartyOnDemand.{PartyOnDemand}
 use Rattle.pool_run.specs.declared.reply.Reply.{Reply}
 use Rattle.pool_run.specs.declared.reply.Reply.TheVariants.{Instance, Returned, Refused}
 use Rattle.pool_run.specs.declared.reply.Refusal.TheVariants.{NoSuchGrant}
-use Rattle.pool_run.proofs.Grants.{mapped_at, one_more}
+use Rattle.pool_run.proofs.Grants.{mapped_at}
 use Rattle.pool_run.proofs.Named.{AreSeen, on_seen, none_seen}
+use Rattle.pool_run.proofs.Spending.{spends_none, spends_less}
 
 -- a place with something in it is there
 pub taken_below : {X : Type 0} (xs : List (Option X)) (i : ℕ) (x : X) → slice_index_or xs i None ≡ Some x → i < length xs
@@ -132,60 +139,132 @@ call_at t tunables calls k x are below is =
     let For : Option ModuleAsked → Type 0 = λ o. IfSome o (λ call. (call.id.0 ≡ k) × IsCallOnDemand t tunables call) in
     subst For (slice_get-get_or calls k x below ∙ ap Some (sym is)) (are.each k)
 
--- No grant is live in a party as it is made.
-no_grants_live : {M L P : Type 0} (tells : Bool) (n : ℕ) → AreLive {M = M} {L = L} {P = P} tells (replicate n None)
-no_grants_live {M} {L} {P} tells n k d below =
-    let None_in : Option (OnDemandGrant M L P) → Type 0 = λ o. IfSome o (IsHeldGrant tells) in
-    subst None_in (sym (replicate_at n k d (omega (arith, below, length-replicate {A = Option (OnDemandGrant M L P)} n None)))) tt
+-- What holds of nothing holds of each of some places with nothing in them.
+all_none : {X : Type 0} (Holds : Option X → Type 0) (n : ℕ) → Holds None → All Holds (replicate n None)
+all_none {X} Holds n none k d below = subst Holds (sym (replicate_at n k d (omega (arith, below, length-replicate {A = Option X} n None)))) none
   where
     replicate_at : {X : Type 0} (n k : ℕ) (d : Option X) → k < n → slice_index_or (replicate n None) k d ≡ None
     replicate_at zero k d below = absurd (omega arith)
     replicate_at (suc n) zero d below = refl
     replicate_at (suc n) (suc k) d below = replicate_at n k d (omega arith)
 
+-- No grant is live in a party as it is made, and nothing is left in it.
+module _ (M L P : Type 0) (n : ℕ) where
+  no_grants_live : (tells : Bool) → AreLive {M = M} {L = L} {P = P} tells (replicate n None)
+  no_grants_live tells = all_none (λ (o : Option (OnDemandGrant M L P)). IfSome o (IsHeldGrant tells)) n tt
+
+  no_grants_laid : (y : Laying) → AreLaidLive {M = M} {L = L} {P = P} y (replicate n None)
+  no_grants_laid y = all_none (λ (o : Option (OnDemandGrant M L P)). IfSome o (IsLaidGrant y)) n tt
+
+  pub no_grants_left : (live : List (Option (OnDemandGrant M L P))) → live ≡ replicate n None → live_left live ≡ 0
+  no_grants_left live is = ap live_left is ∙ sum_by-replicate (λ (o : Option (OnDemandGrant M L P)). option_map_or grant_left o 0) n None ∙ omega arith
+
 no_grants_seen : (M L P : Type 0) (tells : Bool) (n : ℕ) → grants_made {M = M} {L = L} {P = P} tells (replicate n None) ≡ replicate n None
 no_grants_seen M L P tells zero = refl
 no_grants_seen M L P tells (suc n) = ap (λ (gs : Grants). None ∷ gs) (no_grants_seen M L P tells n)
 
+-- What is met by an operation on a memory, by the rule of the party's limits.
+pub memory_spends : {M L P : Type 0} (t : Terms) (before after : MakerTold) (live new : List (Option (OnDemandGrant M L P))) (of k : ℕ) (op : MemoryOp) (rule : GrowthRule) (reply : Reply) → t.host.rule ≡ rule → LiveSpends t.tells op rule before after of k live new reply → ActSpends t before after live (on_memory of k op) reply new
+memory_spends t before after live new of k op rule reply ruled is =
+    let Spent : GrowthRule → Type 0 = λ r. LiveSpends t.tells op r before after of k live new reply in
+    subst Spent (sym ruled) is (laying_of t before) refl
+
+-- Nothing is met where the maker isn't asked.
+pub nothing_met : {M L P : Type 0} (t : Terms) (before after : MakerTold) (live new : List (Option (OnDemandGrant M L P))) (act : Act) (reply : Reply) → after ≡ before → faults_met t (grants_made t.tells live) act reply ≡ 0 → live_left new ≤ live_left live → ((y : Laying) → AreLaidLive y live → AreLaidLive y new) → ActSpends t before after live act reply new
+nothing_met t before after live new act reply same none fewer keeps laid =
+    let Spent : ℕ → Type 0 = λ met. Spends before before met (live_left live) (live_left new) in
+    let Left : MakerTold → Type 0 = λ m. Spends before m (faults_met t (grants_made t.tells live) act reply) (live_left live) (live_left new) in
+    let spent : Spent 0 = spends_less before before 0 (live_left live) (live_left live) (live_left new) fewer (spends_none before (live_left live)) in
+    (keeps (laying_of t before) laid, subst Left (sym same) (subst Spent (sym none) spent))
+
+-- one step more, which met so many faults
+one_met : (t : Terms) (n : ℕ) (commands : List Command) (replies : List Reply) (command : Command) (reply : Reply) (start mid end : PrivateState) (met more : ℕ) → StepsMeeting t n commands replies start met mid → slice_get commands (length replies) ≡ Some command → StepOnDemand t (n + length replies) mid command reply end → more ≡ faults_met t mid.grants (act_of command) reply
+    → StepsMeeting t n commands (replies ++ reply ∷ []) start (met + more) end
+one_met t n [] [] command reply start mid end met more run is step few = absurd cc
+one_met t n [] (r ∷ replies) command reply start mid end met more run is step few = absurd run
+one_met t n (c ∷ commands) [] command reply start mid end met more run is step few =
+    let Steps : ℕ → PrivateState → Command → Type 0 = λ k s d. StepOnDemand t k s d reply end in
+    let here : n + 0 ≡ n = omega arith in
+    let same : command ≡ c = cc in
+    let count : more ≡ faults_met t start.grants (act_of c) reply = few ∙ ap (λ (s : PrivateState). faults_met t s.grants (act_of command) reply) run.0 ∙ ap (λ (d : Command). faults_met t start.grants (act_of d) reply) same in
+    (end, (subst (λ (d : Command). Steps n start d) same (subst (λ (s : PrivateState). Steps n s command) run.0 (subst (λ (k : ℕ). Steps k mid command) here step)), (0, (none_before met more (faults_met t start.grants (act_of c) reply) run.1 count, (refl, refl)))))
+  where
+    none_before : (met more count : ℕ) → met ≡ 0 → more ≡ count → met + more ≡ count + 0
+    none_before met more count none is = omega (arith, none, is)
+one_met t n (c ∷ commands) (r ∷ replies) command reply start mid end met more run is step few =
+    let Steps : ℕ → Type 0 = λ k. StepOnDemand t k mid command reply end in
+    let next : n + length (r ∷ replies) ≡ (n + 1) + length replies = omega arith in
+    let rest : ℕ = run.1.1.0 in
+    (run.0, (run.1.0, (rest + more, (more_after met more rest (faults_met t start.grants (act_of c) r) run.1.1.1.0, one_met t (n + 1) commands replies command reply run.0 mid end rest more run.1.1.1.1 is (subst Steps next step) few))))
+  where
+    more_after : (met more rest count : ℕ) → met ≡ count + rest → met + more ≡ count + (rest + more)
+    more_after met more rest count is = omega (arith, is)
+
 module _ {M P : Type 0} (t : Terms) (commands : List Command) where
   -- a party as it is made
-  pub party_begun : (p : PartyOnDemand M P) → t.host ≡ host_of p.limits p.store.failing p.heaps.failing → p.store.made ≡ 0 → p.heaps.made ≡ 0 → p.live.items ≡ replicate (length commands) None → p.told ≡ record { items = []; room = length commands } → IsPartyOnDemand t commands p
-  party_begun p hosted unasked unmade live told = record {
-    host = hosted;
-    places = ap length live ∙ length-replicate (length commands) None;
-    room = omega (arith, ap (λ (r : Reserved Reply). r.room) told);
-    told = omega (arith, ap (λ (r : Reserved Reply). length r.items) told);
-    held = subst (AreLive t.tells) (sym live) (no_grants_live t.tells (length commands));
+  pub party_begun : (start : MakerTold) (p : PartyOnDemand M P) → t.host ≡ host_of p.limits p.store.failing p.heaps.failing → p.store.made ≡ 0 → p.heaps.made ≡ 0 → p.live.items ≡ replicate (length commands) None → p.told ≡ record { items = []; room = length commands } → IsPartyOnDemand t start commands 0 p
+  party_begun start p hosted unasked unmade live told = record {
+    ready = record {
+      host = hosted;
+      places = ap length live ∙ length-replicate (length commands) None;
+      room = omega (arith, ap (λ (r : Reserved Reply). r.room) told);
+      told = omega (arith, ap (λ (r : Reserved Reply). length r.items) told);
+      held = subst (AreLive t.tells) (sym live) (no_grants_live _ _ _ (length commands) t.tells);
+    };
+    laid = subst (AreLaidLive (laying_of t start)) (sym live) (no_grants_laid _ _ _ (length commands) (laying_of t start));
     run =
-        let Run : List Reply → Grants → ℕ → ℕ → Type 0 = λ replies grants stores heaps. StepsBy (StepOnDemand t) 0 commands replies (with_grants (no_grants commands)) (called_so heaps grants stores) in
+        let Run : List Reply → Grants → ℕ → ℕ → Type 0 = λ replies grants stores heaps. StepsMeeting t 0 commands replies (with_grants (no_grants commands)) 0 (called_so heaps grants stores) in
         subst (λ (replies : List Reply). Run replies (grants_made t.tells p.live.items) p.store.made p.heaps.made) (sym (ap (λ (r : Reserved Reply). r.items) told))
         (
         subst (λ (grants : Grants). Run [] grants p.store.made p.heaps.made) (sym (ap (grants_made t.tells) live ∙ no_grants_seen _ _ _ t.tells (length commands)))
-        (subst (λ (stores : ℕ). Run [] (no_grants commands) stores p.heaps.made) (sym unasked) (subst (Run [] (no_grants commands) 0) (sym unmade) refl))
+        (subst (λ (stores : ℕ). Run [] (no_grants commands) stores p.heaps.made) (sym unasked) (subst (Run [] (no_grants commands) 0) (sym unmade) (refl, refl)))
         );
   }
 
   -- one that made its next command
-  pub party_next : (p q : PartyOnDemand M P) (command : Command) (reply : Reply) → IsPartyOnDemand t commands p → slice_get commands (length p.told.items) ≡ Some command
-      → ActsOnDemand t (length p.told.items) (state_seen t.tells p.live.items p.store p.heaps) (act_of command) reply (state_seen t.tells q.live.items q.store q.heaps) → q.limits ≡ p.limits → q.store.failing ≡ p.store.failing → q.heaps.failing ≡ p.heaps.failing → length q.live.items ≡ length p.live.items → AreLive t.tells q.live.items → q.told ≡ with_item reply p.told → IsPartyOnDemand t commands q
-  party_next p q command reply is there step limits failing unmade places held told =
-      let Steps : ℕ → Type 0 = λ k. ActsOnDemand t k (state_seen t.tells p.live.items p.store p.heaps) (act_of command) reply (state_seen t.tells q.live.items q.store q.heaps) in
-      let below : length p.told.items < length commands = there_below commands (length p.told.items) command there in
-      record {
-        host = is.host ∙ ap (λ (l : Option PartyLimits). host_of l p.store.failing p.heaps.failing) (sym limits) ∙ ap (λ (f : List ℕ). host_of q.limits f p.heaps.failing) (sym failing) ∙ ap (host_of q.limits q.store.failing) (sym unmade);
-        places = places ∙ is.places;
-        room = omega (arith, is.room, ap (λ (r : Reserved Reply). r.room) told);
-        told = omega (arith, ap (λ (r : Reserved Reply). length r.items) told, one_longer p.told.items reply, below);
-        held = held;
-        run = subst (λ (r : Reserved Reply). StepsBy (StepOnDemand t) 0 commands r.items (with_grants (no_grants commands)) (state_seen t.tells q.live.items q.store q.heaps)) (sym told)
-            (one_more (StepOnDemand t) 0 commands p.told.items command reply (with_grants (no_grants commands)) (state_seen t.tells p.live.items p.store p.heaps) (state_seen t.tells q.live.items q.store q.heaps) is.run there (subst Steps {x = length p.told.items} {y = 0 + length p.told.items} (omega arith) step));
-      }
-    where
-      there_below : {X : Type 0} (xs : List X) (k : ℕ) (x : X) → slice_get xs k ≡ Some x → k < length xs
-      there_below [] k x is = absurd cc
-      there_below (y ∷ ys) zero x is = omega arith
-      there_below (y ∷ ys) (suc k) x is = omega (arith, there_below ys k x is)
+  module _ (p q : PartyOnDemand M P) (command : Command) (reply : Reply) (there : slice_get commands (length p.told.items) ≡ Some command) (told : q.told ≡ with_item reply p.told) where
+    next_ready : IsPartyReady t commands p → q.limits ≡ p.limits → q.store.failing ≡ p.store.failing → q.heaps.failing ≡ p.heaps.failing → length q.live.items ≡ length p.live.items → AreLive t.tells q.live.items → IsPartyReady t commands q
+    next_ready is limits failing unmade places held =
+        let below : length p.told.items < length commands = there_below commands (length p.told.items) command there in
+        record {
+          host = is.host ∙ ap (λ (l : Option PartyLimits). host_of l p.store.failing p.heaps.failing) (sym limits) ∙ ap (λ (f : List ℕ). host_of q.limits f p.heaps.failing) (sym failing) ∙ ap (host_of q.limits q.store.failing) (sym unmade);
+          places = places ∙ is.places;
+          room = omega (arith, is.room, ap (λ (r : Reserved Reply). r.room) told);
+          told = omega (arith, ap (λ (r : Reserved Reply). length r.items) told, one_longer p.told.items reply, below);
+          held = held;
+        }
+      where
+        there_below : {X : Type 0} (xs : List X) (k : ℕ) (x : X) → slice_get xs k ≡ Some x → k < length xs
+        there_below [] k x is = absurd cc
+        there_below (y ∷ ys) zero x is = omega arith
+        there_below (y ∷ ys) (suc k) x is = omega (arith, there_below ys k x is)
 
-      one_longer : (xs : List Reply) (x : Reply) → length (xs ++ x ∷ []) ≡ length xs + 1
-      one_longer [] x = refl
-      one_longer (y ∷ ys) x = omega (arith, one_longer ys x)
+        one_longer : (xs : List Reply) (x : Reply) → length (xs ++ x ∷ []) ≡ length xs + 1
+        one_longer [] x = refl
+        one_longer (y ∷ ys) x = omega (arith, one_longer ys x)
+
+    abbrev met_next : ℕ
+    met_next = faults_met t (grants_made t.tells p.live.items) (act_of command) reply
+
+    pub party_next : (start before after : MakerTold) (met : ℕ) → before.plan ≡ start.plan → IsPartyOnDemand t start commands met p → ActsOnDemand t (length p.told.items) (state_seen t.tells p.live.items p.store p.heaps) (act_of command) reply (state_seen t.tells q.live.items q.store q.heaps) → ActSpends t before after p.live.items (act_of command) reply q.live.items
+        → q.limits ≡ p.limits → q.store.failing ≡ p.store.failing → q.heaps.failing ≡ p.heaps.failing → length q.live.items ≡ length p.live.items → AreLive t.tells q.live.items → IsPartyTurned t start commands met before after p q
+    party_next start before after met same is step spends limits failing unmade places held =
+        let Steps : ℕ → Type 0 = λ k. ActsOnDemand t k (state_seen t.tells p.live.items p.store p.heaps) (act_of command) reply (state_seen t.tells q.live.items q.store q.heaps) in
+        let Laid : Option (List Planned) → Laying = λ plan. record { page = t.settings.page; tunables = t.settings.tunables; plan = plan } in
+        let paid = spends (subst (λ (plan : Option (List Planned)). AreLaidLive (Laid plan) p.live.items) (sym same) is.laid) in
+        record {
+          more = met_next;
+          party = record {
+            ready = next_ready is.ready limits failing unmade places held;
+            laid = subst (λ (plan : Option (List Planned)). AreLaidLive (Laid plan) q.live.items) same paid.0;
+            run = subst (λ (r : Reserved Reply). StepsMeeting t 0 commands r.items (with_grants (no_grants commands)) (met + met_next) (state_seen t.tells q.live.items q.store q.heaps)) (sym told)
+                (one_met t 0 commands p.told.items command reply (with_grants (no_grants commands)) (state_seen t.tells p.live.items p.store p.heaps) (state_seen t.tells q.live.items q.store q.heaps) met met_next is.run there (subst Steps {x = length p.told.items} {y = 0 + length p.told.items} (omega arith) step) refl);
+          };
+          spent = paid.1;
+        }
+
+  -- one that has no more commands
+  pub party_idle : (start maker : MakerTold) (met : ℕ) (p : PartyOnDemand M P) → IsPartyOnDemand t start commands met p → IsPartyTurned t start commands met maker maker p p
+  party_idle start maker met p is =
+      let Is : ℕ → Type 0 = λ n. IsPartyOnDemand t start commands n p in
+      record { more = 0; party = subst Is {x = met} {y = met + 0} (omega arith) is; spent = spends_none maker (live_left p.live.items) }

@@ -1,27 +1,22 @@
 -- What a run on demand begins with: the calls are for the input's modules, and the commands name them; and what it ends with.
 use Rattle.std.proofs.Common.{◌≡◌, ℕ, ◌+◌, ◌<◌, List, [], ◌∷◌, length, refl, sym, ap, ◌∙◌, subst, arith, Option, Some, None, true, false, ◌⊎◌}
 use Rattle.std.specs.Prelude.{IfSome, option_map, slice_get, slice_index_or}
-use Rattle.std.specs.List.{list_all}
 use Rattle.std.proofs.lemmas.List.{get_or-map}
 use Rattle.std.proofs.lemmas.Option.{get_or_from_slice_get, slice_get-get_or}
 use Rattle.pool_pages.specs.Count.{rounded_up}
 use Rattle.pool_pages.specs.MakerTold.{MakerTold, no_calls}
 use Rattle.pool_pages.specs.Told.{Rose}
-use Rattle.pool_pages.specs.declared.module_types.MemoryDecl.{MemoryDecl}
 use Rattle.pool_pages.specs.declared.module_types.ModuleInfo.{ModuleInfo}
-use Rattle.pool_pages.specs.declared.module_types.Tunables.{Tunables}
 use Rattle.pool_alloc.specs.Asked.{ModuleAsked}
 use Rattle.pool_alloc.specs.OnDemandInstances.{IsModule}
 use Rattle.pool_alloc.specs.declared.on_demand.OnDemandInstanceAllocator.{OnDemandInstanceAllocator}
 use Rattle.pool_alloc.specs.Steps.{no_module}
 use Rattle.pool_run.specs.Built.{is_built, is_built_memory, is_built_module}
-use Rattle.pool_run.specs.Folds.{commands_of}
 use Rattle.pool_run.specs.Made.{call_made, calls_made}
 use Rattle.pool_run.specs.OnDemandRuns.{AreToldOnDemand, HasFaultedImages, IsBackground, IsOnDemand, no_metrics}
 use Rattle.pool_run.specs.OnDemandSeen.{IsAllocatorFor, IsCallOnDemand, AreCallsOnDemand}
-use Rattle.pool_run.specs.Private.{Terms, module_of}
+use Rattle.pool_run.specs.Private.{Terms}
 use Rattle.pool_run.specs.Runs.{ModulesFault, images_listed, with_faults, world_of}
-use Rattle.pool_run.specs.RunsMade.{commands_in}
 use Rattle.pool_run.specs.Validity.{is_valid, is_valid_module}
 use Rattle.pool_run.specs.Worlds.{NameModules}
 use Rattle.pool_run.specs.declared.command.Command.{Command}
@@ -90,10 +85,10 @@ module _ (input : Input) (maker : MakerTold) (built : is_built input ≡ true) (
       party_there (p ∷ ps) i below = p
 
 -- The allocator of a run is as the input's settings say.
-pub allocator_made : {M C : Type 0} (input : Input) (maker told : MakerTold) (a : OnDemandInstanceAllocator M C) → told ≡ maker → a.stack_size ≡ input.config.stack_size → a.stack_zeroing ≡ input.config.async_stack_zeroing → IsAllocatorFor (world_of input maker).terms a told
-allocator_made input maker told a same size zeroing = record {
-  pages = record { tells = sym (ap (λ (m : MakerTold). m.tells) same); page = sym (ap (λ (m : MakerTold). m.page) same) };
-  size = ap (rounded_up maker.page) (sym size) ∙ ap (λ (m : MakerTold). rounded_up m.page a.stack_size) (sym same);
+pub allocator_made : {M C : Type 0} (input : Input) (maker : MakerTold) (a : OnDemandInstanceAllocator M C) → a.stack_size ≡ input.config.stack_size → a.stack_zeroing ≡ input.config.async_stack_zeroing → IsAllocatorFor (world_of input maker).terms a maker
+allocator_made input maker a size zeroing = record {
+  pages = record { tells = refl; page = refl };
+  size = ap (rounded_up maker.page) (sym size);
   zeroing = sym zeroing;
 }
 

@@ -1,6 +1,6 @@
 -- What a look, a fill and a growth make of a table on demand, as the party sees it. It lies in a list, so that a growth may
 -- find no memory.
-use Rattle.std.proofs.Common.{◌≡◌, ℕ, ◌+◌, ◌<◌, ◌≤◌, Bool, true, false, Option, Some, Result, Ok, Err, ◌⊎◌, inl, inr, refl, sym, ap, ◌∙◌, subst, arith}
+use Rattle.std.proofs.Common.{◌≡◌, ℕ, ◌+◌, ◌<◌, Bool, true, false, Option, Some, Result, Ok, Err, inl, inr, refl, sym, ap, subst, arith}
 use Rattle.std.specs.Prelude.{◌-◌, ◌^◌, ◌==◌, nat_lt, if◌then◌else◌}
 use Rattle.std.proofs.lemmas.Bool.Decides.{nat_tests}
 use Rattle.pool_limits.specs.Exchanges.{Exchange}
@@ -9,9 +9,8 @@ use Rattle.pool_limits.specs.LimiterTold.{LimiterTold}
 use Rattle.pool_limits.specs.declared.errors.GrowFault.{GrowFault}
 use Rattle.pool_limits.specs.declared.errors.LimiterError.{LimiterError}
 use Rattle.pool_limits.specs.declared.errors.Trap.{Trap as Fault}
-use Rattle.pool_slots.specs.declared.errors.AllocError.TheVariants as alloc
 use Rattle.pool_table.specs.Elements.{type_of}
-use Rattle.pool_table.specs.Growing.{TableGrows, WantsMemory}
+use Rattle.pool_table.specs.Growing.{TableGrows}
 use Rattle.pool_table.specs.Stores.{StoreCall}
 use Rattle.pool_table.specs.Views.{TableView}
 use Rattle.pool_table.specs.declared.gc_store.GcTableError.{GcTableError}
@@ -19,17 +18,16 @@ use Rattle.pool_table.specs.declared.gc_store.ListedStore.{ListedStore}
 use Rattle.pool_alloc.specs.OnDemandAnswers.{no_slot}
 use Rattle.pool_alloc.specs.TableLeases.{LeasedTable, IsSet, IsElementAt}
 use Rattle.pool_alloc.specs.declared.table_element.Element.{Element}
-use Rattle.pool_slots.specs.declared.slot_name.RegionNumbers.{RegionNumbers}
 use Rattle.pool_run.specs.Acts.{gets, sets, lengthens, asks_length}
 use Rattle.pool_run.specs.AtOnce.{element_reply, fill_reply, growth_reply, store_told}
-use Rattle.pool_run.specs.GrowthEnds.{GrowthEnd, as_it_was, has_grown, if_allowed, reported}
-use Rattle.pool_run.specs.OnDemandSeen.{seen_table, seen_stored, ViewMovesOnDemand, WantsElements, LengthensByRule}
-use Rattle.pool_run.specs.PrivateTables.{PrivateTable, table_growth, table_report}
+use Rattle.pool_run.specs.GrowthEnds.{as_it_was, has_grown, if_allowed}
+use Rattle.pool_run.specs.OnDemandSeen.{seen_stored, ViewMovesOnDemand, LengthensByRule}
+use Rattle.pool_run.specs.PrivateTables.{PrivateTable, table_report}
 use Rattle.pool_run.specs.TableValues.{element_for}
 use Rattle.pool_run.specs.declared.command.TableValue.{TableValue}
 use Rattle.pool_run.specs.declared.reply.Reply.{Reply}
 use Rattle.pool_run.specs.declared.reply.Reply.TheVariants.{Size, Grown}
-use Rattle.pool_run.proofs.TableChanges.{EndsTable, growth_ends, looks, set_moves}
+use Rattle.pool_run.proofs.TableChanges.{growth_ends, looks, set_moves}
 
 -- a table on demand as a lease of no slot
 abbrev as_lease : TableView → LeasedTable

@@ -7,7 +7,6 @@ use Rattle.std.proofs.lemmas.List.Elements.{All-set, All-get_or}
 use Rattle.std.proofs.lemmas.List.{length-set, get_or-set_other}
 use Rattle.std.proofs.lemmas.List.Sums.{sum_by-set}
 use Rattle.pool_pages.specs.MakerTold.{MakerTold}
-use Rattle.pool_pages.specs.declared.module_types.ComponentInfo.{ComponentInfo}
 use Rattle.pool_alloc.specs.Calls.{IsIdle, IsGrant, begun_call}
 use Rattle.pool_alloc.specs.Objects.{objects_in}
 use Rattle.pool_alloc.specs.PoolTables.{IsTableLease}
@@ -36,7 +35,7 @@ use Rattle.pool_alloc.specs.Searches.{IsSearched}
 use Rattle.pool_run.proofs.Stripes.{begun_stripe}
 use Rattle.pool_run.proofs.StageSteps.{is_none, none_idle}
 use Rattle.pool_run.specs.Turns.{LeaseMoves, MovesTable, leases_of, tables_of, memory_leases, table_leases, with_lease, with_table_lease, Opening, rests, replies, makes_step, drop_opening, IsPlain, asks_grant, OpensRequest, OpensPurge, OpensAct, OpensNext, OpensAt, MovesLeasedBytes, StackLeaseMoves, stack_leases, stack_of, with_stack_lease, OpensWanted}
-use Rattle.pool_run.specs.Ties.{is_asking, is_for_objects, granted_to, CanTurn, IsSoundParty, IsAlone}
+use Rattle.pool_run.specs.Ties.{is_for_objects, granted_to, CanTurn, IsSoundParty, IsAlone}
 use Rattle.pool_run.specs.Worlds.{IsFit, IsCallFor, AreCallsFor}
 use Rattle.pool_run.specs.declared.command.Command.{Command}
 use Rattle.pool_run.specs.declared.reply.Reply.{Reply}

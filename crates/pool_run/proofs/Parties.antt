@@ -4,7 +4,6 @@ use Rattle.std.specs.Prelude.{IfSome, sum_by, slice_set, slice_index_or}
 use Rattle.std.proofs.lemmas.List.Elements.{All-set, All-get_or}
 use Rattle.std.proofs.lemmas.List.Sums.{sum_by-set}
 use Rattle.pool_pages.specs.MakerTold.{MakerTold}
-use Rattle.pool_pages.specs.declared.module_types.ComponentInfo.{ComponentInfo}
 use Rattle.pool_alloc.specs.Places.{Thing, right_to, region_of}
 use Rattle.pool_alloc.specs.Sound.{IsFrame, AreImagesOf}
 use Rattle.pool_alloc.specs.Modules.{HasImages}

@@ -1,5 +1,5 @@
 -- Each slot is in one place, since what is given out is counted once.
-use Rattle.std.proofs.Common.{◌≡◌, ◌≢◌, ℕ, zero, suc, ◌+◌, ◌<◌, ◌≤◌, Bool, true, false, List, [], ◌∷◌, Option, Some, refl, sym, ap, ◌∙◌, inl, inr, arith, subst}
+use Rattle.std.proofs.Common.{◌≡◌, ◌≢◌, ℕ, zero, suc, ◌+◌, ◌<◌, ◌≤◌, Bool, false, List, [], ◌∷◌, Option, Some, refl, sym, ap, ◌∙◌, inl, inr, arith, subst}
 use Rattle.std.specs.Prelude.{slice_get, sum_by, IfSome}
 use Rattle.std.specs.Option.{option_map_or}
 use Rattle.std.proofs.lemmas.Bool.{cases_eq, cases_Bool, true≢false}
@@ -18,7 +18,7 @@ use Rattle.pool_slots.specs.declared.part.PoolPart.TheVariants as part
 use Rattle.pool_slots.specs.declared.listed_heaps.PlainHeap.{PlainHeap}
 use Rattle.pool_alloc.specs.Places.{right_to, queued_count, away_count}
 use Rattle.pool_alloc.specs.Steps.{shard_in, shard_at, queue_in}
-use Rattle.pool_alloc.specs.Sound.{IsPartFor, IsPartAt, IsSlotName}
+use Rattle.pool_alloc.specs.Sound.{IsPartFor, IsPartAt}
 use Rattle.pool_alloc.specs.declared.pool_core.Settings.{Settings}
 use Rattle.pool_alloc.proofs.Held.{right_is_out}
 use Rattle.pool_alloc.proofs.KeptCounts.{out_once}

@@ -45,7 +45,7 @@ use Rattle.pool_alloc.specs.declared.frame.Grant.TheVariants.{Instance as instan
 use Rattle.pool_alloc.specs.declared.lease.InstanceLease.{InstanceLease}
 use Rattle.pool_slots.specs.SlotNames.{of_kind}
 use Rattle.pool_slots.specs.declared.slot_name.SlotName.{SlotName}
-use Rattle.pool_run.specs.Private.{Grants, stripe_slots, PrivateMemory, PrivateInstance, instance_grant, module_of, Request, request_of, wants_of, begun, begun_memory, begun_table, begun_instance, own_refusal, slots_asked, table_room}
+use Rattle.pool_run.specs.Private.{Grants, stripe_slots, PrivateMemory, instance_grant, module_of, Request, request_of, wants_of, begun, begun_memory, begun_table, begun_instance, own_refusal, slots_asked, table_room}
 use Rattle.pool_run.specs.PrivateTables.{PrivateTable}
 use Rattle.pool_run.specs.Rooms as rooms
 use Rattle.pool_run.specs.Rooms.{World, live_count, table_count}
@@ -59,11 +59,10 @@ use Rattle.pool_run.proofs.SlotKinds.{memories_taken, tables_taken, memory_free,
 use Rattle.pool_run.proofs.TableChanges.{table_answer_told}
 use Rattle.pool_run.proofs.TablesBegun.{table_seen}
 use Rattle.pool_run.proofs.Growths.{answer_told}
-use Rattle.pool_run.proofs.Wants.{IsWanted, wants_there, count_wanted, count_all, memory_at, table_at, all_declared}
+use Rattle.pool_run.proofs.Wants.{IsWanted, wants_there, count_wanted, count_all, memory_at, table_at}
 use Rattle.pool_slots.specs.declared.plan.Allocator.{Allocator}
 use Rattle.pool_slots.specs.Plans.{has_number}
 use Rattle.pool_slots.specs.declared.listed_heaps.PlainHeap.{PlainHeap}
-use Rattle.pool_index.specs.Shard.{one_if}
 
 -- the tables of the module that is asked for
 tables_told_by : (asked : Asked) → tables_wanted asked ≡ (info_wanted asked).tables

@@ -1,6 +1,5 @@
 -- The lists for the slots of what is asked for have room for them, until the reply takes them.
-use Rattle.std.proofs.Common.{◌≡◌, ℕ, ◌<◌, ◌≤◌, Bool, Option, Some, None, List, [], length, refl, sym, ap, ◌∙◌, subst, inl, inr, arith, true, false}
-use Rattle.pool_pages.specs.declared.module_types.ComponentInfo.{ComponentInfo}
+use Rattle.std.proofs.Common.{◌≡◌, ℕ, ◌<◌, ◌≤◌, Bool, Option, Some, None, List, [], length, refl, sym, ap, ◌∙◌, subst, inl, inr, arith, true}
 use Rattle.std.specs.Prelude.{replicate, slice_set, slice_index_or}
 use Rattle.std.proofs.lemmas.Bool.{cases_eq}
 use Rattle.std.proofs.lemmas.List.{length-map, length-replicate, length-set, get_or-map, get_or-replicate, get_or-set_same, get_or-set_other}
@@ -21,9 +20,8 @@ use Rattle.pool_alloc.specs.declared.frame.Grant.TheVariants.{Instance as instan
 use Rattle.pool_alloc.specs.declared.frame.Outcome.{Outcome}
 use Rattle.pool_alloc.specs.declared.frame.Outcome.TheVariants as answer
 use Rattle.pool_run.specs.RunsMade.{AreReserved, party_made_for, parties_made}
-use Rattle.pool_run.specs.Ties.{IsReserved, is_asking, is_for_objects}
+use Rattle.pool_run.specs.Ties.{IsReserved, is_for_objects}
 use Rattle.pool_alloc.specs.Stages.{stage_of}
-use Rattle.pool_alloc.specs.Asked.{ModuleAsked}
 use Rattle.pool_run.specs.Turns.{Turned, IsPlain, leases_listed, tables_of, answered, slots_after, no_lists}
 use Rattle.pool_alloc.specs.declared.frame.Asked.{Asked}
 use Rattle.pool_run.specs.declared.input.Party.{Party}
@@ -31,7 +29,7 @@ use Rattle.pool_run.specs.declared.reply.Reply.{Reply}
 use Rattle.pool_run.specs.declared.running_party.RunningParty.{RunningParty}
 use Rattle.pool_run.specs.declared.slot_lists.SlotLists.{SlotLists}
 use Rattle.pool_run.proofs.Parties.{not_both, plain_lists, returned_asks}
-use Rattle.pool_run.proofs.StageSteps.{is_none, none_idle, place_granted, settled_place, asking_some, IsStagedStep, instance_asks, IfInstance}
+use Rattle.pool_run.proofs.StageSteps.{is_none, none_idle, settled_place, asking_some, IsStagedStep, instance_asks, IfInstance}
 use Rattle.pool_run.proofs.Stepped.{IsStepped}
 use Rattle.pool_slots.specs.declared.plan.Plan.{Plan}
 use Rattle.pool_slots.specs.declared.listed_heaps.PlainHeap.{PlainHeap}

@@ -18,7 +18,6 @@ use Rattle.pool_alloc.specs.Answers.{Decommits, FollowsRun}
 use Rattle.pool_hall.specs.declared.unit_name.SlotKind.{SlotKind}
 use Rattle.pool_hall.specs.declared.unit_name.SlotKind.TheVariants.{Stack as stack_kind}
 use Rattle.pool_hall.specs.declared.unit_name.SlotKind.TheVariants as kind
-use Rattle.pool_alloc.specs.PoolStacks.{IsQueuedStack}
 use Rattle.pool_alloc.specs.Sound.{MayQueue, MayBeRanged, MustBeByHand, IsQueuedOf, IsLocal}
 use Rattle.pool_alloc.specs.declared.pool_core.Settings.{Settings}
 use Rattle.pool_run.proofs.SameMoves.{slot_planned, table_planned, stack_planned}

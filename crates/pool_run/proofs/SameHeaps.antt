@@ -1,12 +1,12 @@
 -- One step has one answer of the maker of heaps, whose list says it, and leaves one maker.
-use Rattle.std.proofs.Common.{◌≡◌, ℕ, List, Bool, true, false, Option, Some, None, Result, Ok, Err, refl, sym, ap, ◌∙◌, subst}
+use Rattle.std.proofs.Common.{◌≡◌, ℕ, List, true, false, Result, Ok, Err, refl, sym, ap, ◌∙◌, subst}
 use Rattle.std.specs.Prelude.{IfErr, MatchResult}
 use Rattle.std.proofs.lemmas.Option.{same_Some}
 use Rattle.pool_pages.specs.Told.{risen}
 use Rattle.pool_limits.specs.Growth.{GrowthRule}
 use Rattle.pool_slots.specs.HeapsTold.{HeapsTold, fails_next}
 use Rattle.pool_slots.specs.declared.heap_maker.HeapMakeFault.{HeapMakeFault}
-use Rattle.pool_slots.specs.declared.heap_maker.HeapMakeFault.TheVariants.{Memory, HeapFault}
+use Rattle.pool_slots.specs.declared.heap_maker.HeapMakeFault.TheVariants.{HeapFault}
 use Rattle.pool_slots.specs.declared.listed_heaps.ListedHeaps.{ListedHeaps}
 use Rattle.pool_slots.specs.declared.listed_heaps.PlainHeap.{PlainHeap}
 use Rattle.pool_alloc.specs.Answers.{MakesOf}

@@ -25,7 +25,7 @@ use Rattle.pool_alloc.specs.declared.pool_core.Settings.{Settings}
 use Rattle.pool_run.specs.Acts.{MemoryOp, reads, writes, fills, grows, asks_size}
 use Rattle.pool_run.specs.Agreeing.{want_of_memory}
 use Rattle.pool_run.specs.PrivateStacks.{ReadsBytes}
-use Rattle.pool_run.specs.Private.{PrivateMemory, GrowthEnd, as_it_was, could_not, has_grown, growth}
+use Rattle.pool_run.specs.Private.{GrowthEnd, as_it_was, could_not, has_grown, growth}
 use Rattle.pool_run.specs.Turns.{seen_as, private_memory, MemoryWrites, GrowthLeaves, MemoryGrows, MovesLease, LeaseMoves}
 use Rattle.pool_run.specs.declared.reply.Reply.{Reply}
 use Rattle.pool_run.specs.declared.reply.Reply.TheVariants.{Bytes, Refused, Trap}

@@ -24,11 +24,10 @@ use Rattle.pool_slots.specs.declared.queued_range.QueuedRange.{QueuedRange}
 use Rattle.pool_slots.specs.declared.errors.AllocError.TheVariants as refusal
 use Rattle.pool_alloc.specs.Answers.{MakesOf, Empties, Resets, InstantiatesAs, InstantiatesFor, FollowsPlan, FollowsPlanFor, FollowsReset, AsksForMemory, FlushTold, FlushPlanned, MayBeTold, IsPlanned, AsksOf, RemovesImage, DecommitsWhole, Forgets, FollowsForget, Drains, FollowsDrain}
 use Rattle.pool_alloc.specs.Leases.{Lease, slot_taken}
-use Rattle.pool_alloc.specs.Refusals.{module_refused}
-use Rattle.pool_alloc.specs.Rows.{FlushStep, run, zero as zero_by_hand, put, free, flush_step, kind_settled, settled_step, some_queued, paged, make_memory_row, make_table_row, make_heap_row, validated, was_reset, flush_row, row_of}
+use Rattle.pool_alloc.specs.Rows.{FlushStep, run, zero as zero_by_hand, put, free, flush_step, kind_settled, settled_step, some_queued, paged, make_memory_row, make_table_row, make_heap_row, was_reset, flush_row, row_of}
 use Rattle.pool_alloc.specs.Sound.{IsFrame, IsShapedAt, HasSlot, MayHold, IsDraining}
 use Rattle.pool_alloc.specs.Stepping.{CanStep}
-use Rattle.pool_alloc.specs.Steps.{StepGiven, info_wanted, memories_wanted, tables_wanted, image_wanted}
+use Rattle.pool_alloc.specs.Steps.{StepGiven, memories_wanted, tables_wanted, image_wanted}
 use Rattle.pool_alloc.specs.TableSteps.{AsksForTable}
 use Rattle.pool_table.specs.Tables.{type_maximum}
 use Rattle.pool_hall.specs.declared.unit_name.SlotKind.{SlotKind}

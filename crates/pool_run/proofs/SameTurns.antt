@@ -9,7 +9,6 @@ use Rattle.pool_slots.specs.declared.listed_heaps.PlainHeap.{PlainHeap}
 use Rattle.pool_alloc.specs.Objects.{objects_in}
 use Rattle.pool_alloc.specs.Asked.{ModuleAsked}
 use Rattle.pool_alloc.specs.Calls.{begun_call}
-use Rattle.pool_alloc.specs.Leases.{Lease}
 use Rattle.pool_alloc.specs.TableLeases.{LeasedTable}
 use Rattle.pool_table.specs.declared.gc_store.ListedStore.{ListedStore}
 use Rattle.pool_pages.specs.MakerTold.{MakerTold}
@@ -18,7 +17,7 @@ use Rattle.pool_alloc.specs.Refusals.{module_refused, heap_refused}
 use Rattle.pool_alloc.specs.Rows.{validated, heaps_tested, row_of}
 use Rattle.pool_alloc.specs.Stages.{stage_of, stage_at}
 use Rattle.pool_alloc.specs.Sound.{IsShapedAt}
-use Rattle.pool_alloc.specs.Steps.{StepGiven, IsHeapAsked, memories_wanted, tables_wanted, info_wanted}
+use Rattle.pool_alloc.specs.Steps.{StepGiven, IsHeapAsked, info_wanted}
 use Rattle.pool_alloc.specs.Turns.{After, stepped}
 use Rattle.pool_alloc.specs.declared.frame.Phase.{Phase}
 use Rattle.pool_alloc.specs.declared.frame.Phase.TheVariants.{Idle, Validate, TestHeap, CountInstance, Pick, Release}
@@ -34,8 +33,6 @@ use Rattle.pool_alloc.specs.declared.frame.Call.TheVariants as call
 use Rattle.pool_alloc.specs.declared.frame.Frame.{Frame}
 use Rattle.pool_alloc.specs.declared.frame.Grant.{Grant}
 use Rattle.pool_alloc.specs.declared.frame.Grant.TheVariants.{Instance as instance, Component as component, Stack as stack, Heap as heap}
-use Rattle.pool_alloc.specs.declared.frame.Outcome.{Outcome}
-use Rattle.pool_alloc.specs.declared.frame.Outcome.TheVariants as answer
 use Rattle.pool_run.specs.Acts.{MemoryOp, TableOp, Act, requests, on_memory, on_table, drops, purges, releases, act_of, Wanted, an_instance, a_component, a_stack, a_heap}
 use Rattle.pool_run.specs.Agreeing.{want_of_memory}
 use Rattle.pool_run.specs.Folds.{RunState, commands_of, IsUnderWay}
@@ -43,7 +40,7 @@ use Rattle.pool_run.specs.Objects.{Objects, object_at, MovesObject}
 use Rattle.pool_run.specs.PartyRules.{rule_of}
 use Rattle.pool_run.specs.Rooms.{World}
 use Rattle.pool_run.specs.Ties.{CanTurn}
-use Rattle.pool_run.specs.Turns.{Turned, Turns, StepsUnder, Opening, rests, replies, makes_step, ended_at_once, answered, after_step, LeaseMoves, memory_leases, MovesTable, table_leases, OpensRequest, OpensPurge, OpensAct, OpensNext, OpensAt, Leaves, StackLeaseMoves, MovesLeasedBytes, stack_leases, OpensWanted}
+use Rattle.pool_run.specs.Turns.{Turned, Turns, StepsUnder, Opening, rests, replies, makes_step, ended_at_once, after_step, LeaseMoves, memory_leases, MovesTable, table_leases, OpensRequest, OpensPurge, OpensAct, OpensNext, OpensAt, Leaves, StackLeaseMoves, MovesLeasedBytes, stack_leases, OpensWanted}
 use Rattle.pool_run.specs.declared.command.Command.{Command}
 use Rattle.pool_run.specs.declared.reply.Reply.{Reply}
 use Rattle.pool_run.specs.declared.reply.Refusal.TheVariants.{Alloc}

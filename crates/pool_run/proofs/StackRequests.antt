@@ -1,41 +1,36 @@
 -- A request for a stack: why it is refused, and what is granted.
-use Rattle.std.proofs.Common.{◌≡◌, ℕ, ◌+◌, ◌*◌, ◌<◌, ◌≤◌, List, [], ◌∷◌, true, false, length, replicate, Option, Some, None, is_some, refl, sym, ap, ◌∙◌, subst, inl, inr, arith}
-use Rattle.std.specs.Prelude.{◌==◌, IfSome, if◌then◌else◌, slice_range, sum_by, option_map}
+use Rattle.std.proofs.Common.{◌≡◌, ℕ, ◌+◌, ◌*◌, ◌<◌, ◌≤◌, List, true, false, length, replicate, Option, Some, None, refl, sym, ap, ◌∙◌, subst, inl, inr, arith}
+use Rattle.std.specs.Prelude.{◌==◌, IfSome, if◌then◌else◌, slice_range, option_map}
 use Rattle.std.proofs.lemmas.Bool.Decides.{nat_tests}
 use Rattle.pool_hall.specs.declared.unit_name.SlotKind.{SlotKind}
 use Rattle.pool_hall.specs.declared.unit_name.SlotKind.TheVariants.{Stack as stack_kind}
 use Rattle.pool_pages.specs.Contents.{Contents}
 use Rattle.pool_pages.proofs.Puts.{length-range}
 use Rattle.pool_images.specs.Slots.{Slot}
-use Rattle.pool_slots.specs.PlainSlots.{IsPlain}
-use Rattle.pool_slots.specs.SlotNames.{of_kind}
 use Rattle.pool_slots.specs.Plans.{has_number}
 use Rattle.pool_slots.specs.declared.errors.AllocError.{AllocError}
 use Rattle.pool_slots.specs.declared.errors.AllocError.TheVariants as refusal
 use Rattle.pool_slots.specs.declared.errors.ConcurrencyKind.TheVariants.{Fibers}
-use Rattle.pool_slots.specs.declared.slot_name.SlotName.{SlotName}
 use Rattle.pool_slots.specs.declared.listed_heaps.PlainHeap.{PlainHeap}
 use Rattle.pool_alloc.specs.PartyTold.{PartyTold}
 use Rattle.pool_alloc.specs.PoolStacks.{IsStackLease, IsNewStack}
-use Rattle.pool_alloc.specs.Places.{right_to}
 use Rattle.pool_alloc.specs.Sound.{IsEnabled}
-use Rattle.pool_alloc.specs.StackLeases.{LeasedStack, stack_slot}
+use Rattle.pool_alloc.specs.StackLeases.{LeasedStack}
 use Rattle.pool_alloc.specs.Stages.{seeks_stack, FindsNone, Raises}
-use Rattle.pool_alloc.specs.Stepping.{grant_count}
-use Rattle.pool_alloc.specs.Steps.{allocator_of, allocator_for, kind_by, kind_next}
+use Rattle.pool_alloc.specs.Steps.{allocator_of, kind_by, kind_next}
 use Rattle.pool_alloc.specs.Turns.{limit_of}
 use Rattle.pool_alloc.specs.declared.frame.Asked.{Asked}
 use Rattle.pool_alloc.specs.declared.frame.Asked.TheVariants.{Stack as stack_asked}
 use Rattle.pool_alloc.specs.declared.frame.Frame.{Frame}
 use Rattle.pool_alloc.specs.declared.frame.Grant.{Grant}
-use Rattle.pool_alloc.specs.declared.frame.Grant.TheVariants.{Instance as instance, Stack as stack}
+use Rattle.pool_alloc.specs.declared.frame.Grant.TheVariants.{Instance as instance}
 use Rattle.pool_alloc.specs.declared.pool_core.PoolCore.{PoolCore}
 use Rattle.pool_run.specs.Acts.{a_stack}
-use Rattle.pool_run.specs.Private.{Grants, stack_refusal}
+use Rattle.pool_run.specs.Private.{Grants}
 use Rattle.pool_run.specs.PrivateStacks.{BeginsStack}
 use Rattle.pool_run.specs.Rooms.{World, stack_count, TellsStackRoom}
-use Rattle.pool_run.specs.Turns.{grants_of, private_stack, stack_bytes}
-use Rattle.pool_run.specs.Ties.{granted_to, CauseFor}
+use Rattle.pool_run.specs.Turns.{grants_of, private_stack}
+use Rattle.pool_run.specs.Ties.{CauseFor}
 use Rattle.pool_run.specs.declared.reply.Reply.TheVariants.{Refused}
 use Rattle.pool_run.specs.declared.reply.Refusal.TheVariants.{Alloc}
 use Rattle.pool_run.proofs.Requests.{IsBefore, gone}

@@ -1,6 +1,6 @@
 -- No step but that for a party's key changes the stripe from which it has its memories.
 use Rattle.std.proofs.Common.{◌≡◌, ℕ, Bool, true, false, List, [], ◌∷◌, Option, Some, None, Result, Ok, Err, refl, ap, ◌∙◌}
-use Rattle.std.specs.Prelude.{◌==◌, length, nat_le, nat_lt, if◌then◌else◌}
+use Rattle.std.specs.Prelude.{◌==◌, length, nat_lt, if◌then◌else◌}
 use Rattle.pool_images.specs.Slots.{Slot}
 use Rattle.pool_memory.specs.Memories.{MemoryState}
 use Rattle.pool_pages.specs.Told.{Told}
@@ -16,13 +16,13 @@ use Rattle.pool_alloc.specs.Own.{memory_made}
 use Rattle.pool_alloc.specs.HeapLeases.{LeasedHeap}
 use Rattle.pool_slots.specs.declared.heap_maker.HeapMakeFault.{HeapMakeFault}
 use Rattle.pool_alloc.specs.Refusals.{heap_refused, module_refused, component_refused}
-use Rattle.pool_alloc.specs.Rows.{FlushStep, run, zero, put, free, flush_step, picked, merged, validated, counted, stacks_tested, heaps_tested, heap_granted, make_heap_row, component_tested, component_counted, paged, was_made, was_made_table, count_object_row, uncount_object_row, was_reset, put_first, flush_row, row_of}
+use Rattle.pool_alloc.specs.Rows.{FlushStep, run, zero, put, free, flush_step, merged, validated, counted, stacks_tested, heaps_tested, heap_granted, make_heap_row, component_tested, component_counted, paged, was_made, was_made_table, was_reset, put_first, flush_row, row_of}
 use Rattle.pool_alloc.specs.Steps.{StepGiven, info_wanted, memories_wanted, tables_wanted}
 use Rattle.pool_alloc.specs.Stages.{stage_at, stage_of}
 use Rattle.pool_alloc.specs.Stepping.{StepsTo}
 use Rattle.pool_alloc.specs.TableLeases.{LeasedTable}
 use Rattle.pool_alloc.specs.TableSteps.{table_made}
-use Rattle.pool_alloc.specs.Turns.{After, Left, Row, Turn, goes, ends, next, flush, search, stays, after, is_flushed, granted_next, all_returned, returned_next, next_by, stepped}
+use Rattle.pool_alloc.specs.Turns.{After, Left, Row, Turn, goes, ends, next, flush, search, stays, after, is_flushed, all_returned, returned_next, next_by}
 use Rattle.pool_alloc.specs.declared.frame.Asked.{Asked}
 use Rattle.pool_alloc.specs.declared.frame.Asked.TheVariants.{Nothing as nothing_asked, Module as module_asked, Stack as stack_asked, Heap as heap_asked}
 use Rattle.pool_alloc.specs.declared.frame.Call.{Call}

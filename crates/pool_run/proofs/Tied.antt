@@ -41,7 +41,7 @@ use Rattle.pool_alloc.specs.declared.frame.Grant.TheVariants.{Instance as instan
 use Rattle.pool_alloc.specs.declared.frame.Outcome.{Outcome}
 use Rattle.pool_alloc.specs.declared.frame.Outcome.TheVariants as answer
 use Rattle.pool_run.specs.Acts.{Act, requests, drops, purges, releases, act_at, Wanted, an_instance, a_component, a_stack, a_heap, heap_type}
-use Rattle.pool_run.specs.Private.{PrivateInstance, Grants, grant_at, Request, request_of, wants_of, begun_instance, IsReleased, Moves, Drops, stack_grant, stacks_in_grant, PrivateGrant, instance_grant, component_grant, memories_in_grant, tables_in_grant, IsComponentRefused, Requests, PrivateState, heap_grant, begun_memory, heap_memory, heap_barred, heap_refusal, RefusesHeap, CountsGranted, CountsRefused}
+use Rattle.pool_run.specs.Private.{Grants, grant_at, Request, request_of, wants_of, begun_instance, IsReleased, Moves, Drops, stack_grant, stacks_in_grant, PrivateGrant, instance_grant, component_grant, memories_in_grant, tables_in_grant, IsComponentRefused, Requests, PrivateState, heap_grant, begun_memory, heap_memory, heap_barred, heap_refusal, RefusesHeap, CountsGranted, CountsRefused}
 use Rattle.pool_run.specs.PrivateTables.{goes_through}
 use Rattle.pool_run.specs.Rooms.{World, live_count, table_count, HasNoMemoryIn, HasNoTableIn, AreFreeSlots, TellsOfPool, stack_count, HasNoStackIn, heap_count, heaps_in_grant, HasNoHeapIn, TellsComponentRoom, TellsRequest}
 use Rattle.pool_run.specs.Turns.{private_grant, grants_of, granted_reply, private_memory, private_table, private_stack, stack_of, heap_of, leases_of, tables_of, heaps_told as heaps_of}

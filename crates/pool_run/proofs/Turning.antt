@@ -3,7 +3,6 @@ use Rattle.pool_slots.specs.declared.plan.Plan.{Plan}
 use Rattle.std.proofs.Common.{◌≡◌, ℕ, ◌+◌, List, [], ◌∷◌, ◌++◌, length, Option, Some, None, refl, sym, ap, ◌∙◌, subst, arith, true, ◌≤◌}
 use Rattle.std.specs.Prelude.{option_map, slice_get, slice_set, is_some, sum_by}
 use Rattle.std.proofs.lemmas.List.{length_push}
-use Rattle.pool_limits.specs.Growth.{GrowthRule}
 use Rattle.pool_alloc.specs.PartyTold.{PartyTold}
 use Rattle.pool_alloc.specs.Objects.{objects_in}
 use Rattle.pool_alloc.specs.Turns.{After}
@@ -16,7 +15,7 @@ use Rattle.pool_run.specs.Acts.{Act, act_of, act_at}
 use Rattle.pool_run.specs.Private.{Grants, PrivateState, Moves, with_grants}
 use Rattle.pool_run.specs.Rooms.{World, PooledStep, TellsOfPool}
 use Rattle.pool_run.specs.PrivateTables.{Host}
-use Rattle.pool_run.specs.Turns.{host_of_party, Turned, with_reply, grants_of, granted_reply, answered, Steps}
+use Rattle.pool_run.specs.Turns.{host_of_party, Turned, with_reply, granted_reply, answered, Steps}
 use Rattle.pool_run.specs.Ties.{seen_by_party, granted_to, TiedAs, IsPrivate, CanTurn, IsAlone}
 use Rattle.pool_run.specs.Worlds.{IsWorldOf}
 use Rattle.pool_run.specs.declared.command.Command.{Command}
@@ -24,7 +23,7 @@ use Rattle.pool_run.specs.declared.reply.Reply.{Reply}
 use Rattle.pool_run.specs.declared.reply.Reply.TheVariants.{Refused, Returned, Purged, Released}
 use Rattle.pool_run.specs.declared.reply.Refusal.TheVariants.{Alloc}
 use Rattle.pool_run.specs.declared.running_party.RunningParty.{RunningParty}
-use Rattle.pool_run.proofs.Grants.{state_of, one_more}
+use Rattle.pool_run.proofs.Grants.{one_more}
 use Rattle.pool_run.proofs.Parties.{can_step}
 use Rattle.pool_run.proofs.Tied.{TiedBy, tied_by}
 use Rattle.pool_run.proofs.StageSteps.{is_none, none_idle, uncounted_none, uncounted_component, stack_is_asked}

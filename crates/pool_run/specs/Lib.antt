@@ -11,6 +11,8 @@ pub mod Numbers
 pub mod Objects
 pub mod OnDemand
 pub mod OnDemandAlike
+pub mod OnDemandFaults
+pub mod OnDemandLeft
 pub mod OnDemandRuns
 pub mod OnDemandSeen
 pub mod PartyRules

@@ -25,7 +25,7 @@ use Rattle.pool_alloc.specs.Refusals.{first_refused, offset_refused}
 use Rattle.pool_alloc.specs.Wants.{MemoryWant, Want, new_memory, new_table, new_stack, new_heap}
 use Rattle.pool_run.specs.Acts.{MemoryOp, grows, TableOp, lengthens, Wanted, an_instance, a_component, a_stack, a_heap, heap_type, Act, requests, on_memory, on_table, drops, purges, releases, act_of}
 use Rattle.pool_run.specs.Objects.{MovesNamed, MovesObject}
-use Rattle.pool_run.specs.Private.{PrivateMemory, PrivateInstance, PrivateGrant, instance_grant, component_grant, stack_grant, heap_grant, heap_memory, CountsRefused, private_memories, private_stacks, PrivateState, OnGrants, table_at, with_table, StepsBy, with_grants, no_grants, Grants, grant_at, Drops, MemoryMoves, GrowthEnd, has_grown, growth, Terms, Request, request_of, module_of, wants_of}
+use Rattle.pool_run.specs.Private.{PrivateMemory, PrivateInstance, PrivateGrant, instance_grant, component_grant, stack_grant, heap_grant, heap_memory, CountsRefused, private_memories, private_stacks, PrivateState, OnGrants, table_at, with_table, Grants, grant_at, Drops, MemoryMoves, GrowthEnd, has_grown, growth, Terms, Request, request_of, module_of, wants_of}
 use Rattle.pool_run.specs.PrivateStacks.{PrivateStack, BeginsStack, StackMoves}
 use Rattle.pool_run.specs.PrivateTables.{Host, PrivateTable, StoredTable, TableMoves, table_growth, goes_through}
 use Rattle.pool_run.specs.declared.command.Command.{Command}
@@ -209,7 +209,3 @@ ActsOnDemand t n s releases reply new = (reply ≡ Released 0) × (new ≡ s)
 
 abbrev pub StepOnDemand : Terms → ℕ → PrivateState → Command → Reply → PrivateState → Type 0
 StepOnDemand t n s command reply new = ActsOnDemand t n s (act_of command) reply new
-
--- the replies are those of a run from no grant, to whatever state at its end
-abbrev pub IsRunOnDemand : Terms → List Command → List Reply → Type 0
-IsRunOnDemand t commands replies = (end : PrivateState) × StepsBy (StepOnDemand t) 0 commands replies (with_grants (no_grants commands)) end

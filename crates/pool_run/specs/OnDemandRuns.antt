@@ -1,14 +1,18 @@
 -- What a run of an input is over an allocator that makes each memory, table, stack and heap for the request that asks for it.
-use Rattle.std.specs.Prelude.{◌≡◌, ℕ, ◌+◌, ◌<◌, ◌==◌, ◌⊎◌, List, length, count_by, min, slice_index_or, if◌then◌else◌, Bool, true, false, None, IfSome}
+use Rattle.std.specs.Prelude.{◌≡◌, ℕ, ◌+◌, ◌<◌, ◌≤◌, ◌==◌, ◌⊎◌, List, length, count_by, sum_by, sum, min, slice_index_or, if◌then◌else◌, Bool, true, false, None, IfSome}
 use Rattle.pool_pages.specs.FaultPlans.{planned_faults}
 use Rattle.pool_pages.specs.MakerTold.{MakerTold, no_calls}
 use Rattle.pool_pages.specs.Told.{Rose}
 use Rattle.pool_alloc.specs.Asked.{ModuleAsked}
 use Rattle.pool_alloc.specs.declared.metrics.Metrics.{Metrics}
 use Rattle.pool_run.specs.Folds.{commands_of, replies_to}
-use Rattle.pool_run.specs.OnDemand.{IsRunOnDemand}
-use Rattle.pool_run.specs.Private.{Terms}
-use Rattle.pool_run.specs.OnDemandSeen.{AreCallsOnDemand, IsPartyOnDemand}
+use Rattle.pool_memory.specs.Creators.{IsSameMaker}
+use Rattle.pool_run.specs.OnDemandFaults.{listed_from, ends_before_last, StepsMeeting, IsRunOnDemand}
+use Rattle.pool_run.specs.OnDemandLeft.{live_left, AreLaidLive, laying_of, Spends}
+use Rattle.pool_run.specs.OnDemandSeen.{AreCallsOnDemand, AreLive, state_seen}
+use Rattle.pool_run.specs.PartyRules.{host_of}
+use Rattle.pool_run.specs.Private.{Terms, with_grants, no_grants}
+use Rattle.pool_run.specs.declared.command.Command.{Command}
 use Rattle.pool_run.specs.Rooms.{World, under, open_host}
 use Rattle.pool_run.specs.Runs.{world_of, with_faults, images_listed}
 use Rattle.pool_run.specs.RunsMade.{commands_in}
@@ -45,10 +49,41 @@ pub record IsBackground (w : World) (input : Input) (calls : List ModuleAsked) :
   pub named : (i : ℕ) → i < length input.parties → NameModules (length calls) (commands_of (commands_in input.parties) i)
 
 module _ {M P : Type 0} where
-  -- what holds of all parties between two steps
-  pub record ArePartiesOnDemand (w : World) (input : Input) (parties : List (PartyOnDemand M P)) : Type 0 where
+  -- What holds of a party between two of its commands: the terms are for its own host, each command has a place for its grant
+  -- and room for its reply, and live grants are as such grants must be.
+  pub record IsPartyReady (t : Terms) (commands : List Command) (p : PartyOnDemand M P) : Type 0 where
+    pub host : t.host ≡ host_of p.limits p.store.failing p.heaps.failing
+    pub places : length p.live.items ≡ length commands
+    pub room : length commands ≤ p.told.room
+    pub told : length p.told.items ≤ length commands
+    pub held : AreLive t.tells p.live.items
+
+  -- And over a maker that told this at the start: the replies so far are a private run that met so many faults and ends with
+  -- its live grants, after as many calls on its store and on its maker of heaps as were made.
+  pub record IsPartyOnDemand (t : Terms) (start : MakerTold) (commands : List Command) (met : ℕ) (p : PartyOnDemand M P) : Type 0 where
+    pub ready : IsPartyReady t commands p
+    pub laid : AreLaidLive (laying_of t start) p.live.items
+    pub run : StepsMeeting t 0 commands p.told.items (with_grants (no_grants commands)) met (state_seen t.tells p.live.items p.store p.heaps)
+
+  -- the same after one more command, or after none where it has no more: that met so many faults more, which are paid for
+  pub record IsPartyTurned (t : Terms) (start : MakerTold) (commands : List Command) (met : ℕ) (before after : MakerTold) (old new : PartyOnDemand M P) : Type 0 where
+    pub more : ℕ
+    pub party : IsPartyOnDemand t start commands (met + more) new
+    pub spent : Spends before after more (live_left old.live.items) (live_left new.live.items)
+
+  -- what is left of listed calls in the live grants of all parties
+  abbrev pub parties_left : List (PartyOnDemand M P) → ℕ
+  parties_left parties = sum_by (λ (p : PartyOnDemand M P). live_left p.live.items) parties
+
+  -- What holds of all parties between two steps, and of the maker, which told the world's at the start and tells this now: its
+  -- plan pays for the faults that the parties met.
+  pub record ArePartiesOnDemand (w : World) (input : Input) (now : MakerTold) (parties : List (PartyOnDemand M P)) : Type 0 where
     pub count : length parties ≡ length input.parties
-    pub each : (i : ℕ) (d : PartyOnDemand M P) → i < length input.parties → IsPartyOnDemand (party_terms w i) (commands_of (commands_in input.parties) i) (slice_index_or parties i d)
+    pub met : List ℕ
+    pub numbered : length met ≡ length input.parties
+    pub each : (i : ℕ) (d : PartyOnDemand M P) → i < length input.parties → IsPartyOnDemand (party_terms w i) w.maker (commands_of (commands_in input.parties) i) (slice_index_or met i 0) (slice_index_or parties i d)
+    pub maker : IsSameMaker w.maker now
+    pub spent : Spends w.maker now (sum met) 0 (parties_left parties)
 
   -- how many replies a party has
   abbrev pub replies_told : List (PartyOnDemand M P) → ℕ → PartyOnDemand M P → ℕ
@@ -82,10 +117,15 @@ no_metrics = record {
   unused_stack_bytes_resident = None;
 }
 
--- What each party was told is a private run of its commands, with as many replies as are due.
+-- What each party was told is a private run of its commands, with as many replies as are due. All of them met at most as many
+-- faults as the maker's plan lists different makings of regions on demand, and calls on them, where that has no entry for a
+-- last number.
 pub record AreToldOnDemand (input : Input) (maker : MakerTold) (replies : List (List Reply)) : Type 0 where
   pub count : length replies ≡ length input.parties
-  pub told : (i : ℕ) → i < length input.parties → IsRunOnDemand (party_terms (world_of input maker) i) (commands_of (commands_in input.parties) i) (replies_to i replies)
+  pub met : List ℕ
+  pub numbered : length met ≡ length input.parties
+  pub told : (i : ℕ) → i < length input.parties → IsRunOnDemand (party_terms (world_of input maker) i) (commands_of (commands_in input.parties) i) (replies_to i replies) (slice_index_or met i 0)
+  pub few : IfSome maker.plan (λ plan. ends_before_last plan ≡ true → sum met ≤ listed_from maker.next plan)
   pub due : (i : ℕ) → i < length input.parties → length (replies_to i replies) ≡ replies_due input.finish (steps_given input i) (length (commands_of (commands_in input.parties) i))
 
 -- The output is that of a run of the input: of its replies, and without numbers. No image of a module is one whose making

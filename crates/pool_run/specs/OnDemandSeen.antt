@@ -34,16 +34,13 @@ use Rattle.pool_alloc.specs.declared.on_demand_lease.OnDemandMemory.{OnDemandMem
 use Rattle.pool_alloc.specs.declared.on_demand_lease.OnDemandTable.{OnDemandTable}
 use Rattle.pool_run.specs.Acts.{MemoryOp, TableOp}
 use Rattle.pool_run.specs.Objects.{Objects, MovesNamed}
-use Rattle.pool_run.specs.OnDemand.{MovesOnDemand, TableMovesOnDemand, first_unmade, IsUnmade, made_instance, made_memory, IsMade, heap_terms, heap_wants, heap_barred_on_demand, IsHeapMade, IsHeapUnmade, StepOnDemand}
+use Rattle.pool_run.specs.OnDemand.{MovesOnDemand, TableMovesOnDemand, first_unmade, IsUnmade, made_instance, made_memory, IsMade, heap_terms, heap_wants, heap_barred_on_demand, IsHeapMade, IsHeapUnmade}
 use Rattle.pool_run.specs.PrivateTables.{PrivateTable, StoredTable}
-use Rattle.pool_run.specs.Private.{PrivateMemory, PrivateInstance, PrivateGrant, instance_grant, component_grant, stack_grant, heap_grant, heap_memory, CountsRefused, memories_in_grant, put_memory, put_stack, PrivateState, Grants, Terms, Request, images_of, module_of, wants_of, StepsBy, with_grants, no_grants}
+use Rattle.pool_run.specs.Private.{PrivateMemory, PrivateInstance, PrivateGrant, instance_grant, component_grant, stack_grant, heap_grant, heap_memory, CountsRefused, memories_in_grant, put_memory, put_stack, PrivateState, Grants, Terms, Request, images_of, module_of, wants_of}
 use Rattle.pool_run.specs.PrivateStacks.{StackMoves}
-use Rattle.pool_run.specs.PartyRules.{host_of}
-use Rattle.pool_run.specs.declared.command.Command.{Command}
 use Rattle.pool_run.specs.Turns.{seen_stack}
 use Rattle.pool_run.specs.declared.on_demand_grant.OnDemandGrant.{OnDemandGrant}
 use Rattle.pool_run.specs.declared.on_demand_grant.OnDemandGrant.TheVariants.{Instance as instance, Component as component, Stack as stack, Heap as heap}
-use Rattle.pool_run.specs.declared.on_demand_party.PartyOnDemand.{PartyOnDemand}
 use Rattle.pool_run.specs.declared.reply.Reply.{Reply}
 
 -- The memory as the party sees it. Its bytes are told where the maker's regions tell what they hold.
@@ -207,14 +204,3 @@ module _ {M L P : Type 0} where
   -- what a party with these grants, this store and this maker of heaps sees
   abbrev pub state_seen : Bool → List (Option (OnDemandGrant M L P)) → ListedStore → ListedHeaps → PrivateState
   state_seen tells live store heaps = record { grants = grants_made tells live; stores = store.made; heaps = heaps.made }
-
-module _ {M P : Type 0} where
-  -- What holds of a party between two of its commands: the replies so far are a private run that ends with its live grants,
-  -- after as many calls on its store and on its maker of heaps as were made.
-  pub record IsPartyOnDemand (t : Terms) (commands : List Command) (p : PartyOnDemand M P) : Type 0 where
-    pub host : t.host ≡ host_of p.limits p.store.failing p.heaps.failing
-    pub places : length p.live.items ≡ length commands
-    pub room : length commands ≤ p.told.room
-    pub told : length p.told.items ≤ length commands
-    pub held : AreLive t.tells p.live.items
-    pub run : StepsBy (StepOnDemand t) 0 commands p.told.items (with_grants (no_grants commands)) (state_seen t.tells p.live.items p.store p.heaps)

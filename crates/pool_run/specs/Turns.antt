@@ -3,7 +3,6 @@ use Rattle.std.specs.Prelude.{◌≡◌, ℕ, ◌+◌, ◌*◌, ◌<◌, List, [
 use Rattle.std.specs.List.{concat}
 use Rattle.pool_pages.specs.Told.{Told, overwritten, risen}
 use Rattle.pool_limits.specs.Growth.{GrowthRule}
-use Rattle.pool_limits.specs.LimiterTold.{LimiterTold}
 use Rattle.pool_limits.specs.declared.errors.GrowError.TheVariants.{PageFault}
 use Rattle.pool_memory.specs.Growing.{InPlace, FailsInPlace, IsCallPlanned}
 use Rattle.pool_memory.specs.Memories.{MemoryState, bytes_of, memory_written}

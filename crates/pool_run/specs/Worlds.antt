@@ -1,6 +1,6 @@
 -- What a run relies on from its input: the pool has the sizes that replies speak of, and each call for a module is a call
 -- for its memories and their images.
-use Rattle.std.specs.Prelude.{◌≡◌, ℕ, ◌+◌, ◌-◌, ◌*◌, ◌<◌, List, length, slice_get, true, Some, IfSome}
+use Rattle.std.specs.Prelude.{◌≡◌, ℕ, ◌+◌, ◌-◌, ◌*◌, ◌<◌, List, length, slice_get, true, IfSome}
 use Rattle.std.specs.Int.{div_ceil}
 use Rattle.pool_hall.specs.declared.unit_name.SlotKind.{SlotKind}
 use Rattle.pool_hall.specs.declared.unit_name.SlotKind.TheVariants.{Table as table_kind, Stack as stack_kind, Heap as heap_kind}

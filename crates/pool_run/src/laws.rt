@@ -1,5 +1,5 @@
 ghost use Rattle.pool_run.specs.Agreeing.{RunsAgree};
-ghost use Rattle.pool_run.specs.HeapFaults.{HeapFaultsAreListed};
+ghost use Rattle.pool_run.specs.HeapFaults.{HeapFaultsAreListed, HeapFaultsAreListedOnDemand};
 ghost use Rattle.pool_run.specs.OnDemandAlike.{AllocatorsAgree};
 ghost use Rattle.pool_run.specs.Placed.{SlotsAreInOnePlace, UsedSlotsAreNotPicked};
 
@@ -11,10 +11,11 @@ pub fn runs_agree<P: Pages>()
     ensures { RunsAgree P }
 {}
 
-/// A request for a heap is refused because the party's maker of heaps failed at most as often as its list says. It does
+/// A party is told that its maker of heaps failed at most as often as its list says, whatever its commands ask for. It does
 /// nothing.
 pub fn heap_faults_are_listed()
-    ensures { HeapFaultsAreListed }
+    ensures pool { HeapFaultsAreListed }
+    ensures on_demand { HeapFaultsAreListedOnDemand }
 {}
 
 /// Where the slots of the pool are between two turns. It does nothing.

@@ -1,7 +1,6 @@
 ghost use Rattle.std.specs.Prelude.{◌≡◌, ◌↔◌, ℕ, ◌+◌, ◌==◌, ◌<◌, ◌≤◌, [], length, count_by, map, min, replicate, slice_index_or, true, false, vec_capacity, if◌then◌else◌, Err, Some, None, IfOk, IfErr, IfSome, OnOk};
 ghost use Rattle.pool_pages.specs.MakerTold.{MakerTold, no_calls};
 ghost use Rattle.pool_pages.specs.declared.bad_config.BadConfig.{BadConfig};
-ghost use Rattle.pool_memory.specs.Creators.{IsSameMaker};
 ghost use Rattle.pool_run.specs.Built.{broken_rule, is_built};
 ghost use Rattle.pool_run.specs.Made.{calls_made};
 ghost use Rattle.pool_run.specs.OnDemandRuns.{AreToldOnDemand, ArePartiesOnDemand, HasFaultedImages, HaveStepped, HaveAll, HaveNone, IsBackground, IsOnDemand, no_metrics, steps_in, steps_of};
@@ -32,7 +31,7 @@ fn make_parties<M: PageMaker>(
 ) -> Result<Vec<PartyOnDemand<M>>, AllocError>
     ghost common: { World }
     requires hosts { common.hosts ≡ map host_for input.now.parties }
-    ensures parties { IfOk result (λ v. ArePartiesOnDemand common input.now v.items) }
+    ensures parties { IfOk result (λ v. ArePartiesOnDemand common input.now common.maker v.items) }
     ensures none { IfOk result (λ v. HaveNone input.now v.items) }
 {
     let parties = input.parties.as_slice();
@@ -56,11 +55,10 @@ fn step<M: PageMaker>(
 )
     ghost common: { World }
     requires background { IsBackground common input.now calls.now }
-    requires maker { IsAllocatorFor common.terms allocator.now (M.told seat.old.maker) }
-    requires parties { ArePartiesOnDemand common input.now parties.old.items }
+    requires maker { IsAllocatorFor common.terms allocator.now common.maker }
+    requires parties { ArePartiesOnDemand common input.now (M.told seat.old.maker) parties.old.items }
     requires inside { i < length input.now.parties }
-    ensures parties { ArePartiesOnDemand common input.now parties.new.items }
-    ensures maker { IsSameMaker (M.told seat.old.maker) (M.told seat.new.maker) }
+    ensures parties { ArePartiesOnDemand common input.now (M.told seat.new.maker) parties.new.items }
     ensures borrows { M.borrows seat.new.maker ≡ M.borrows seat.old.maker }
     ensures stepped { HaveStepped input.now (steps_of i 1) parties.old.items parties.new.items }
 {
@@ -90,11 +88,10 @@ fn repeat<M: PageMaker>(
 )
     ghost common: { World }
     requires background { IsBackground common input.now calls.now }
-    requires maker { IsAllocatorFor common.terms allocator.now (M.told seat.old.maker) }
-    requires parties { ArePartiesOnDemand common input.now parties.old.items }
+    requires maker { IsAllocatorFor common.terms allocator.now common.maker }
+    requires parties { ArePartiesOnDemand common input.now (M.told seat.old.maker) parties.old.items }
     requires inside { i < length input.now.parties }
-    ensures parties { ArePartiesOnDemand common input.now parties.new.items }
-    ensures maker { IsSameMaker (M.told seat.old.maker) (M.told seat.new.maker) }
+    ensures parties { ArePartiesOnDemand common input.now (M.told seat.new.maker) parties.new.items }
     ensures borrows { M.borrows seat.new.maker ≡ M.borrows seat.old.maker }
     ensures stepped { HaveStepped input.now (steps_of i times) parties.old.items parties.new.items }
 {
@@ -115,11 +112,10 @@ fn follow<M: PageMaker>(
 )
     ghost common: { World }
     requires background { IsBackground common input.now calls.now }
-    requires maker { IsAllocatorFor common.terms allocator.now (M.told seat.old.maker) }
-    requires parties { ArePartiesOnDemand common input.now parties.old.items }
+    requires maker { IsAllocatorFor common.terms allocator.now common.maker }
+    requires parties { ArePartiesOnDemand common input.now (M.told seat.old.maker) parties.old.items }
     requires entries { (k : ℕ) (d : ScheduleEntry) → k < length schedule.now → (slice_index_or schedule.now k d).party < length input.now.parties }
-    ensures parties { ArePartiesOnDemand common input.now parties.new.items }
-    ensures maker { IsSameMaker (M.told seat.old.maker) (M.told seat.new.maker) }
+    ensures parties { ArePartiesOnDemand common input.now (M.told seat.new.maker) parties.new.items }
     ensures borrows { M.borrows seat.new.maker ≡ M.borrows seat.old.maker }
     ensures stepped { HaveStepped input.now (steps_in (turns_of schedule.now)) parties.old.items parties.new.items }
 {
@@ -149,10 +145,9 @@ fn finish<M: PageMaker>(
 )
     ghost common: { World }
     requires background { IsBackground common input.now calls.now }
-    requires maker { IsAllocatorFor common.terms allocator.now (M.told seat.old.maker) }
-    requires parties { ArePartiesOnDemand common input.now parties.old.items }
-    ensures parties { ArePartiesOnDemand common input.now parties.new.items }
-    ensures maker { IsSameMaker (M.told seat.old.maker) (M.told seat.new.maker) }
+    requires maker { IsAllocatorFor common.terms allocator.now common.maker }
+    requires parties { ArePartiesOnDemand common input.now (M.told seat.old.maker) parties.old.items }
+    ensures parties { ArePartiesOnDemand common input.now (M.told seat.new.maker) parties.new.items }
     ensures borrows { M.borrows seat.new.maker ≡ M.borrows seat.old.maker }
     ensures all { HaveAll input.now (length input.now.parties) parties.new.items }
 {

@@ -1,10 +1,11 @@
-ghost use Rattle.std.specs.Prelude.{◌≡◌, ◌<◌, All, length, slice_get, slice_index_or, slice_set, None};
+ghost use Rattle.std.specs.Prelude.{◌≡◌, ◌<◌, [], ◌∷◌, All, length, slice_get, slice_index_or, slice_set, None, Some};
 ghost use Rattle.pool_limits.specs.Growth.{GrowthRule};
 ghost use Rattle.pool_memory.specs.Creators.{IsSameMaker};
 ghost use Rattle.pool_memory.specs.MemoryStates.{state_of};
 ghost use Rattle.pool_run.specs.AtOnce.{given_op, MovesOnly};
 ghost use Rattle.pool_run.specs.Objects.{MovesNamed};
 ghost use Rattle.pool_run.specs.OnDemand.{BytesOnDemand, MovesOnDemand};
+ghost use Rattle.pool_run.specs.OnDemandLeft.{MemorySpends, LeasesSpend, GrantSpends, LiveSpends};
 ghost use Rattle.pool_run.specs.OnDemandSeen.{seen_made, seen_grant, grants_made, IsHeld, IsHeldInstance, IsHeldGrant, AreLive, BytesOfGrant, GrowsByRule, LeaseMovesOnDemand, PutsBack, with_memory};
 ghost use Rattle.pool_run.specs.PartyRules.{rule_of};
 ghost use Rattle.pool_run.specs.Private.{IsRead, grant_at, stack_grant};
@@ -41,6 +42,7 @@ pub(crate) fn act_on_demand<M: PageMaker>(
     ensures held { AreLive (M.told maker.old).tells live.new.items }
     ensures places { length live.new.items ≡ length live.old.items }
     ensures maker { IsSameMaker (M.told maker.old) (M.told maker.new) }
+    ensures spends { LiveSpends (M.told maker.old).tells (given_op op.now) (rule_of limits) (M.told maker.old) (M.told maker.new) of memory live.old.items live.new.items result }
     ensures borrows { M.borrows maker.new ≡ M.borrows maker.old }
 {
     match take_from(live, of) {
@@ -79,6 +81,7 @@ fn act_on_taken<M: PageMaker>(
     ensures held { AreLive (M.told maker.old).tells live.new.items }
     ensures places { length live.new.items ≡ length live.old.items }
     ensures maker { IsSameMaker (M.told maker.old) (M.told maker.new) }
+    ensures spends { LiveSpends (M.told maker.old).tells (given_op op.now) (rule_of limits) (M.told maker.old) (M.told maker.new) of memory (slice_set live.old.items of (Some grant)) live.new.items result }
     ensures borrows { M.borrows maker.new ≡ M.borrows maker.old }
 {
     let (grant, reply) = act_on_grant(alloc, maker, grant, memory, op, limits);
@@ -98,6 +101,7 @@ fn act_on_grant<M: PageMaker>(
     ensures moves { BytesOfGrant (given_op op.now) (rule_of limits) memory (seen_grant (M.told maker.old).tells grant) result.1 (seen_grant (M.told maker.old).tells result.0) }
     ensures held { IsHeldGrant (M.told maker.old).tells result.0 }
     ensures maker { IsSameMaker (M.told maker.old) (M.told maker.new) }
+    ensures spends { GrantSpends (M.told maker.old).tells (given_op op.now) (rule_of limits) (M.told maker.old) (M.told maker.new) memory grant result.0 result.1 }
     ensures borrows { M.borrows maker.new ≡ M.borrows maker.old }
 {
     match grant {
@@ -135,6 +139,7 @@ fn act_on_heap<M: PageMaker>(
     ensures moves { MovesOnly (LeaseMovesOnDemand (M.told maker.old).tells (given_op op.now) (rule_of limits)) memory lease result.1 result.0 }
     ensures held { IsHeld (M.told maker.old).tells (state_of result.0.memory) }
     ensures maker { IsSameMaker (M.told maker.old) (M.told maker.new) }
+    ensures spends { LeasesSpend (M.told maker.old).tells (given_op op.now) (rule_of limits) (M.told maker.old) (M.told maker.new) memory (lease ∷ []) (result.0 ∷ []) result.1 }
     ensures borrows { M.borrows maker.new ≡ M.borrows maker.old }
 {
     if memory > 0 {
@@ -175,6 +180,7 @@ fn act_on_instance<M: PageMaker>(
     ensures moves { MovesNamed (LeaseMovesOnDemand (M.told maker.old).tells (given_op op.now) (rule_of limits)) (slice_get instance.memories memory) (with_memory memory) instance result.1 result.0 }
     ensures held { IsHeldInstance (M.told maker.old).tells result.0 }
     ensures maker { IsSameMaker (M.told maker.old) (M.told maker.new) }
+    ensures spends { LeasesSpend (M.told maker.old).tells (given_op op.now) (rule_of limits) (M.told maker.old) (M.told maker.new) memory instance.memories result.0.memories result.1 }
     ensures borrows { M.borrows maker.new ≡ M.borrows maker.old }
 {
     let OnDemandInstance { memories, tables } = instance;
@@ -199,6 +205,7 @@ fn act_in_list<M: PageMaker>(
     ensures moves { MovesNamed (LeaseMovesOnDemand (M.told maker.old).tells (given_op op.now) (rule_of limits)) (slice_get memories.old.items memory) (λ l ls. slice_set ls memory l) memories.old.items result memories.new.items }
     ensures held { All (λ l. IsHeld (M.told maker.old).tells (state_of l.memory)) memories.new.items }
     ensures maker { IsSameMaker (M.told maker.old) (M.told maker.new) }
+    ensures spends { LeasesSpend (M.told maker.old).tells (given_op op.now) (rule_of limits) (M.told maker.old) (M.told maker.new) memory memories.old.items memories.new.items result }
     ensures borrows { M.borrows maker.new ≡ M.borrows maker.old }
 {
     if memory >= memories.len() {
@@ -218,6 +225,7 @@ fn act_on_memory<M: PageMaker>(
     ensures moves { MovesOnDemand (given_op op.now) (rule_of limits) (seen_made (M.told maker.old).tells (state_of memory.old)) (seen_made (M.told maker.old).tells (state_of memory.new)) result }
     ensures held { IsHeld (M.told maker.old).tells (state_of memory.new) }
     ensures maker { IsSameMaker (M.told maker.old) (M.told maker.new) }
+    ensures spends { MemorySpends (M.told maker.old).tells (given_op op.now) (rule_of limits) (M.told maker.old) (M.told maker.new) (state_of memory.old) (state_of memory.new) result }
     ensures borrows { M.borrows maker.new ≡ M.borrows maker.old }
 {
     match op {

@@ -1,8 +1,11 @@
 ghost use Rattle.std.specs.Prelude.{◌≡◌, ℕ, ◌+◌, ◌<◌, ◌≤◌, length, min, slice_get, slice_index_or, replicate, None, Some, IfOk, IfSome};
+ghost use Rattle.pool_pages.specs.MakerTold.{MakerTold};
 ghost use Rattle.pool_memory.specs.Creators.{IsSameMaker};
 ghost use Rattle.pool_run.specs.AtOnce.{given_act};
 ghost use Rattle.pool_run.specs.OnDemand.{ActsOnDemand};
-ghost use Rattle.pool_run.specs.OnDemandSeen.{AreCallsOnDemand, AreLive, IsAllocatorFor, IsPartyOnDemand, state_seen};
+ghost use Rattle.pool_run.specs.OnDemandLeft.{ActSpends, live_left};
+ghost use Rattle.pool_run.specs.OnDemandRuns.{IsPartyOnDemand, IsPartyReady, IsPartyTurned};
+ghost use Rattle.pool_run.specs.OnDemandSeen.{AreCallsOnDemand, AreLive, IsAllocatorFor, state_seen};
 ghost use Rattle.pool_run.specs.PartyRules.{host_for, host_of};
 ghost use Rattle.pool_run.specs.Private.{Terms};
 ghost use Rattle.pool_run.specs.Worlds.{NamesModule, NameModules};
@@ -41,7 +44,8 @@ pub(crate) fn make_party_on_demand<M: PageMaker>(
     alloc: Global,
     party: &Party,
 ) -> Result<PartyOnDemand<M>, AllocError>
-    ensures party { (t : Terms) → t.host ≡ host_for party.now → IfOk result (IsPartyOnDemand t party.now.commands) }
+    ensures party { (t : Terms) → t.host ≡ host_for party.now → (start : MakerTold) → IfOk result (IsPartyOnDemand t start party.now.commands 0) }
+    ensures left { IfOk result (λ p. live_left p.live.items ≡ 0) }
     ensures told { IfOk result (λ p. length p.told.items ≡ 0) }
 {
     let count = party.commands.len();
@@ -72,8 +76,8 @@ pub(crate) fn turn_on_demand<M: PageMaker>(
     requires maker { IsAllocatorFor terms allocator.now (M.told seat.old.maker) }
     requires calls { AreCallsOnDemand terms tunables.now calls.now }
     requires named { NameModules (length calls.now) given.now.commands }
-    requires party { IsPartyOnDemand terms given.now.commands party.old }
-    ensures party { IsPartyOnDemand terms given.now.commands party.new }
+    requires ready { IsPartyReady terms given.now.commands party.old }
+    ensures party { (start : MakerTold) (met : ℕ) → (M.told seat.old.maker).plan ≡ start.plan → IsPartyOnDemand terms start given.now.commands met party.old → IsPartyTurned terms start given.now.commands met (M.told seat.old.maker) (M.told seat.new.maker) party.old party.new }
     ensures told { length party.new.told.items ≡ min (length party.old.told.items + 1) (length given.now.commands) }
     ensures maker { IsSameMaker (M.told seat.old.maker) (M.told seat.new.maker) }
     ensures borrows { M.borrows seat.new.maker ≡ M.borrows seat.old.maker }
@@ -105,6 +109,7 @@ fn act<M: PageMaker>(
     requires place { n < length party.old.live.items }
     requires held { AreLive terms.tells party.old.live.items }
     ensures moves { ActsOnDemand terms n (state_seen terms.tells party.old.live.items party.old.store party.old.heaps) (given_act act.now) result (state_seen terms.tells party.new.live.items party.new.store party.new.heaps) }
+    ensures spends { ActSpends terms (M.told seat.old.maker) (M.told seat.new.maker) party.old.live.items (given_act act.now) result party.new.live.items }
     ensures held { AreLive terms.tells party.new.live.items }
     ensures places { length party.new.live.items ≡ length party.old.live.items }
     ensures limits { party.new.limits ≡ party.old.limits }

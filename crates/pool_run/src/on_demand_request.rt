@@ -1,4 +1,4 @@
-ghost use Rattle.std.specs.Prelude.{Bool, ◌≡◌, ℕ, ◌<◌, length, replicate, true, false, None, Some, IfOk, IfErr};
+ghost use Rattle.std.specs.Prelude.{Bool, ◌≡◌, ℕ, ◌<◌, ◌≤◌, length, replicate, true, false, None, Some, IfOk, IfErr};
 ghost use Rattle.pool_pages.specs.MemoryTypes.{refused_limits};
 ghost use Rattle.pool_pages.specs.Told.{risen};
 ghost use Rattle.pool_memory.specs.Creators.{IsSameMaker};
@@ -8,6 +8,7 @@ ghost use Rattle.pool_alloc.specs.Refusals.{first_refused, offset_refused};
 ghost use Rattle.pool_run.specs.Acts.{requests};
 ghost use Rattle.pool_run.specs.AtOnce.{given_wanted};
 ghost use Rattle.pool_run.specs.OnDemand.{Makes, MakesHeap, MakesStack, MakesWanted, request_on_demand};
+ghost use Rattle.pool_run.specs.OnDemandLeft.{AreLaidLive, HeapSpends, InstanceSpends, Laying, LeaseSpends, RequestSpends, laid_for_heap, laying_of, live_left};
 ghost use Rattle.pool_run.specs.OnDemandSeen.{AnswersHeap, AnswersHeapMemory, AnswersOnDemand, AreCallsOnDemand, AreLive, IsAllocatorFor, IsCallOnDemand, grants_made};
 ghost use Rattle.pool_run.specs.PartyRules.{rule_of};
 ghost use Rattle.pool_run.specs.Private.{Terms, Drops, grant_at};
@@ -59,6 +60,7 @@ pub(crate) fn ask_on_demand<M: PageMaker>(
     requires held { AreLive terms.tells live.old.items }
     ensures makes { (stores : ℕ) → MakesWanted terms n (given_wanted wanted.now) (record { grants = grants_made terms.tells live.old.items; stores = stores; heaps = heaps.old.made }) result (record { grants = grants_made terms.tells live.new.items; stores = stores; heaps = heaps.new.made }) }
     ensures failing { heaps.new.failing ≡ heaps.old.failing }
+    ensures spends { RequestSpends (laying_of terms (M.told seat.old.maker)) (M.told seat.old.maker) (M.told seat.new.maker) live.old.items live.new.items result }
     ensures held { AreLive terms.tells live.new.items }
     ensures places { length live.new.items ≡ length live.old.items }
     ensures maker { IsSameMaker (M.told seat.old.maker) (M.told seat.new.maker) }
@@ -102,6 +104,7 @@ fn request_stack<M: PageMaker>(
     requires place { n < length live.old.items }
     requires held { AreLive terms.tells live.old.items }
     ensures makes { MakesStack terms n (grants_made terms.tells live.old.items) result (grants_made terms.tells live.new.items) }
+    ensures spends { RequestSpends (laying_of terms (M.told seat.old.maker)) (M.told seat.old.maker) (M.told seat.new.maker) live.old.items live.new.items result }
     ensures held { AreLive terms.tells live.new.items }
     ensures places { length live.new.items ≡ length live.old.items }
     ensures maker { IsSameMaker (M.told seat.old.maker) (M.told seat.new.maker) }
@@ -142,6 +145,7 @@ fn request_heap<M: PageMaker>(
     requires held { AreLive terms.tells live.old.items }
     ensures makes { (stores : ℕ) → MakesHeap terms n ty.now (record { grants = grants_made terms.tells live.old.items; stores = stores; heaps = heaps.old.made }) result (record { grants = grants_made terms.tells live.new.items; stores = stores; heaps = heaps.new.made }) }
     ensures failing { heaps.new.failing ≡ heaps.old.failing }
+    ensures spends { RequestSpends (laying_of terms (M.told seat.old.maker)) (M.told seat.old.maker) (M.told seat.new.maker) live.old.items live.new.items result }
     ensures held { AreLive terms.tells live.new.items }
     ensures places { length live.new.items ≡ length live.old.items }
     ensures maker { IsSameMaker (M.told seat.old.maker) (M.told seat.new.maker) }
@@ -183,6 +187,7 @@ fn make_heap<M: PageMaker>(
     ensures answer { AnswersHeap terms ty.now heaps.old heaps.new result }
     ensures failing { heaps.new.failing ≡ heaps.old.failing }
     ensures maker { IsSameMaker (M.told seat.old.maker) (M.told seat.new.maker) }
+    ensures spends { HeapSpends (laying_of terms (M.told seat.old.maker)) (M.told seat.old.maker) (M.told seat.new.maker) result }
     ensures borrows { M.borrows seat.new.maker ≡ M.borrows seat.old.maker }
 {
     if !tunables.collector {
@@ -216,6 +221,7 @@ fn heap_memory<M: PageMaker>(
     requires check { refused_limits ty.now.limits ≡ None }
     ensures answer { AnswersHeapMemory terms ty.now result }
     ensures maker { IsSameMaker (M.told seat.old.maker) (M.told seat.new.maker) }
+    ensures spends { LeaseSpends (laid_for_heap (laying_of terms (M.told seat.old.maker))) (M.told seat.old.maker) (M.told seat.new.maker) result }
     ensures borrows { M.borrows seat.new.maker ≡ M.borrows seat.old.maker }
 {
     let none = no_module(alloc);
@@ -250,6 +256,7 @@ fn memory_for_heap<'x, M: PageMaker, R: ResourceLimiter>(
     requires none { IsModule none.now }
     ensures answer { AnswersHeapMemory terms ty.now result }
     ensures maker { IsSameMaker (M.told seat.old.maker) (M.told seat.new.maker) }
+    ensures spends { LeaseSpends (laid_for_heap (laying_of terms (M.told seat.old.maker))) (M.told seat.old.maker) (M.told seat.new.maker) result }
     ensures borrows { M.borrows seat.new.maker ≡ M.borrows seat.old.maker }
 {
     let images: Option<&'x ModuleMemoryImages> = None;
@@ -334,6 +341,7 @@ fn request_on_demand<M: PageMaker>(
     requires place { n < length live.old.items }
     requires held { AreLive terms.tells live.old.items }
     ensures makes { Makes terms n (request_on_demand terms call.now.id.0) (grants_made terms.tells live.old.items) result (grants_made terms.tells live.new.items) }
+    ensures spends { RequestSpends (laying_of terms (M.told seat.old.maker)) (M.told seat.old.maker) (M.told seat.new.maker) live.old.items live.new.items result }
     ensures held { AreLive terms.tells live.new.items }
     ensures places { length live.new.items ≡ length live.old.items }
     ensures maker { IsSameMaker (M.told seat.old.maker) (M.told seat.new.maker) }
@@ -366,6 +374,7 @@ fn request<M: PageMaker>(
     requires rule { terms.host.rule ≡ rule_of limits }
     ensures answer { AnswersOnDemand terms (request_on_demand terms call.now.id.0) result }
     ensures maker { IsSameMaker (M.told seat.old.maker) (M.told seat.new.maker) }
+    ensures spends { InstanceSpends (laying_of terms (M.told seat.old.maker)) (M.told seat.old.maker) (M.told seat.new.maker) result }
     ensures borrows { M.borrows seat.new.maker ≡ M.borrows seat.old.maker }
 {
     if let Some(rule) = offsets_refused(seat.maker.page(), call.info.memories.as_slice()) {
@@ -396,6 +405,7 @@ fn allocate<'x, M: PageMaker, R: ResourceLimiter>(
     requires offsets { first_refused (λ d. offset_refused terms.settings.page d.image) call.now.info.memories ≡ None }
     ensures answer { AnswersOnDemand terms (request_on_demand terms call.now.id.0) result }
     ensures maker { IsSameMaker (M.told seat.old.maker) (M.told seat.new.maker) }
+    ensures spends { InstanceSpends (laying_of terms (M.told seat.old.maker)) (M.told seat.old.maker) (M.told seat.new.maker) result }
     ensures borrows { M.borrows seat.new.maker ≡ M.borrows seat.old.maker }
 {
     let _page = seat.maker.page().get();
@@ -436,6 +446,8 @@ pub(crate) fn give_back_on_demand<M: PageMaker>(
     ensures drops { Drops (grant_at (grants_made tells live.old.items) of) (grants_made tells live.old.items) of result (grants_made tells live.new.items) }
     ensures held { AreLive tells live.new.items }
     ensures places { length live.new.items ≡ length live.old.items }
+    ensures left { live_left live.new.items ≤ live_left live.old.items }
+    ensures laid { (y : Laying) → AreLaidLive y live.old.items → AreLaidLive y live.new.items }
     ensures seat { seat.new ≡ seat.old }
 {
     match take_from(live, of) {

@@ -5,6 +5,7 @@ ghost use Rattle.pool_alloc.specs.TableLeases.{HasType};
 ghost use Rattle.pool_run.specs.Acts.{sets};
 ghost use Rattle.pool_run.specs.AtOnce.{given_table_op};
 ghost use Rattle.pool_run.specs.Objects.{MovesNamed, MovesObject, object_at};
+ghost use Rattle.pool_run.specs.OnDemandLeft.{KeepsLive, KeepsMemories};
 ghost use Rattle.pool_run.specs.OnDemandSeen.{ViewMovesOnDemand, IsHeldInstance, IsHeldGrant, AreLive, LengthensByRule, TableLeaseMovesOnDemand, made_tables, tables_of_grant, with_table_in, with_table};
 ghost use Rattle.pool_run.specs.PartyRules.{rule_of};
 
@@ -38,6 +39,7 @@ pub(crate) fn act_on_table_on_demand<M: PageMaker>(
     ensures moves { MovesObject made_tables (TableLeaseMovesOnDemand (given_table_op op.now) (rule_of limits) store.old store.new) of table live.old.items result live.new.items }
     ensures unasked { object_at made_tables of table live.old.items ≡ None → store.new ≡ store.old }
     ensures failing { store.new.failing ≡ store.old.failing }
+    ensures memories { KeepsLive live.old.items live.new.items }
     ensures held { AreLive tells live.new.items }
     ensures places { length live.new.items ≡ length live.old.items }
 {
@@ -64,6 +66,7 @@ fn act_on_taken<M: PageMaker>(
     ensures moves { MovesNamed (TableLeaseMovesOnDemand (given_table_op op.now) (rule_of limits) store.old store.new) (slice_get (tables_of_grant grant) table) (λ l live. slice_set live of (Some (with_table_in table l grant))) (slice_set live.old.items of (Some grant)) result live.new.items }
     ensures unasked { slice_get (tables_of_grant grant) table ≡ None → store.new ≡ store.old }
     ensures failing { store.new.failing ≡ store.old.failing }
+    ensures memories { KeepsLive (slice_set live.old.items of (Some grant)) live.new.items }
     ensures held { AreLive tells live.new.items }
     ensures places { length live.new.items ≡ length live.old.items }
 {
@@ -84,6 +87,7 @@ fn act_on_grant<M: PageMaker>(
     ensures moves { MovesNamed (TableLeaseMovesOnDemand (given_table_op op.now) (rule_of limits) store.old store.new) (slice_get (tables_of_grant grant) table) (with_table_in table) grant result.1 result.0 }
     ensures unasked { slice_get (tables_of_grant grant) table ≡ None → store.new ≡ store.old }
     ensures failing { store.new.failing ≡ store.old.failing }
+    ensures memories { KeepsMemories grant result.0 }
     ensures held { IsHeldGrant tells result.0 }
 {
     match grant {
@@ -125,6 +129,7 @@ fn act_on_instance<M: PageMaker>(
     ensures moves { MovesNamed (TableLeaseMovesOnDemand (given_table_op op.now) (rule_of limits) store.old store.new) (slice_get instance.tables table) (with_table table) instance result.1 result.0 }
     ensures unasked { slice_get instance.tables table ≡ None → store.new ≡ store.old }
     ensures failing { store.new.failing ≡ store.old.failing }
+    ensures memories { result.0.memories ≡ instance.memories }
     ensures held { IsHeldInstance tells result.0 }
 {
     let OnDemandInstance { memories, tables } = instance;

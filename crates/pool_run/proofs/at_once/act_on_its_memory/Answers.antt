@@ -1,4 +1,4 @@
-use Rattle.std.proofs.Common.{◌≡◌, refl, replicate, sym, subst}
+use Rattle.std.proofs.Common.{replicate, sym, subst}
 use Rattle.pool_limits.specs.Growth.{GrowthRule}
 use Rattle.pool_alloc.specs.Leases.{Lease}
 use Rattle.pool_run.specs.AtOnce.{given_op}

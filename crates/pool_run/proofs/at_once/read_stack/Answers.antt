@@ -1,4 +1,4 @@
-use Rattle.std.proofs.Common.{◌≡◌, ℕ, length, arith}
+use Rattle.std.proofs.Common.{◌≡◌, length, arith}
 use Rattle.pool_run.proofs.BytesMoved.{stack_read}
 use Rattle.pool_run.proofs.at_once.read_stack.Goals as goal
 

@@ -6,15 +6,11 @@ use Rattle.pool_run.specs.declared.command.Command.{Command}
 use Rattle.pool_run.specs.declared.input.Party.{Party}
 use Rattle.pool_run.proofs.Following.{commands_read}
 use Rattle.pool_run.proofs.OnDemandFolding.{finished}
-use Rattle.pool_run.proofs.OnDemandGrants.{same_allocator_for}
-use Rattle.pool_run.proofs.OnDemandRefused.{still_same}
-use Rattle.pool_run.proofs.OnDemandRequests.{same_twice}
 use Rattle.pool_run.proofs.on_demand.finish.Goals as goal
 
 pub loop-i-init : goal.loop-i-init
 loop-i-init g c = record {
   parties = c.requires.1.1.1.1;
-  maker = still_same (g.M.PageMaker.told c.args.seat.now.maker);
   borrows = refl;
   all = λ j d below. absurd (omega (arith, below));
   given = c.as_slice-given.ensures;
@@ -22,10 +18,8 @@ loop-i-init g c = record {
 
 pub repeat-requires : goal.repeat-requires
 repeat-requires g c κs within =
-    let told = g.M.PageMaker.told in
     let below : c.loop-i.i < length c.args.input.now.parties = omega (arith, c.loop-i-test.true, ap (λ (ps : List Party). length ps) c.loop-i.invariant.given) in
-    let maker = same_allocator_for g.common.terms c.args.allocator.now (told c.args.seat.now.maker) (told c.loop-i.seat.maker) c.requires.1.1.1.0 c.loop-i.invariant.maker in
-    (search rules, (search rules, (c.requires.1.1.0, (maker, (c.loop-i.invariant.parties, below)))))
+    (search rules, (search rules, (c.requires.1.1.0, (c.requires.1.1.1.0, (c.loop-i.invariant.parties, below)))))
 
 pub returns-clause-all : goal.returns-clause-all
 returns-clause-all g c =
@@ -35,7 +29,6 @@ returns-clause-all g c =
 
 pub loop-i-preserved : goal.loop-i-preserved
 loop-i-preserved g c =
-    let told = g.M.PageMaker.told in
     let input = c.args.input.now in
     let i : ℕ = c.loop-i.i in
     let q : Party = c.index-given-i.result in
@@ -44,8 +37,7 @@ loop-i-preserved g c =
     let Stepped : List Command → Type 0 = λ cs. HaveStepped input (steps_of i (length cs)) c.loop-i.parties.items c.repeat.new.parties.items in
     record {
       parties = c.repeat.ensures.parties;
-      maker = same_twice (told c.args.seat.now.maker) (told c.loop-i.seat.maker) (told c.repeat.new.seat.maker) c.loop-i.invariant.maker c.repeat.ensures.maker;
       borrows = c.repeat.ensures.borrows ∙ c.loop-i.invariant.borrows;
-      all = finished input g.common i c.loop-i.parties.items c.repeat.new.parties.items c.loop-i.invariant.parties below c.loop-i.invariant.all (subst Stepped same c.repeat.ensures.stepped);
+      all = finished input i c.loop-i.parties.items c.repeat.new.parties.items below c.loop-i.invariant.all (subst Stepped same c.repeat.ensures.stepped);
       given = c.loop-i.invariant.given;
     }

@@ -1,5 +1,4 @@
 use Rattle.std.proofs.Common.{◌≡◌}
-use Rattle.pool_memory.specs.Creators.{IsSameMaker}
 use Rattle.pool_run.specs.OnDemandRuns.{ArePartiesOnDemand, HaveAll}
 use Rattle.pool_run.proofs.on_demand.finish.Given as goal
 
@@ -9,8 +8,7 @@ ghost-repeat g a = g.common
 -- the parties so far have made all their commands
 abbrev pub invariant-loop-i : goal.invariant-loop-i
 invariant-loop-i g l = record {
-  parties : ArePartiesOnDemand g.common l.input l.parties.items;
-  maker : IsSameMaker (g.M.PageMaker.told l.fn.seat.maker) (g.M.PageMaker.told l.seat.maker);
+  parties : ArePartiesOnDemand g.common l.input (g.M.PageMaker.told l.seat.maker) l.parties.items;
   borrows : g.M.PageMaker.borrows l.seat.maker ≡ g.M.PageMaker.borrows l.fn.seat.maker;
   all : HaveAll l.input l.i l.parties.items;
   given : l.given ≡ l.input.parties;

@@ -1,40 +1,32 @@
-use Rattle.std.proofs.Common.{rules, ◌≡◌, ℕ, ◌+◌, List, [], take, refl, ◌∙◌, subst, arith}
+use Rattle.std.proofs.Common.{rules, ℕ, ◌+◌, List, [], take, refl, ◌∙◌, subst, arith}
 use Rattle.std.specs.Prelude.{slice_index_or}
 use Rattle.pool_run.specs.OnDemandRuns.{HaveStepped, steps_in}
 use Rattle.pool_run.specs.Schedules.{turns_of}
 use Rattle.pool_run.specs.declared.input.ScheduleEntry.{ScheduleEntry}
 use Rattle.pool_run.proofs.Following.{turns_more, turns_all}
 use Rattle.pool_run.proofs.OnDemandFolding.{followed, stepped_none}
-use Rattle.pool_run.proofs.OnDemandGrants.{same_allocator_for}
-use Rattle.pool_run.proofs.OnDemandRefused.{still_same}
-use Rattle.pool_run.proofs.OnDemandRequests.{same_twice}
 use Rattle.pool_run.proofs.on_demand.follow.Goals as goal
 
 pub loop-at-init : goal.loop-at-init
 loop-at-init g c = record {
   parties = c.requires.1.1.1.1.0;
-  maker = still_same (g.M.PageMaker.told c.args.seat.now.maker);
   borrows = refl;
-  stepped = stepped_none c.args.input.now g.common (steps_in []) c.args.parties.now.items c.requires.1.1.1.1.0 (λ j. refl);
+  stepped = stepped_none c.args.input.now g.common (g.M.PageMaker.told c.args.seat.now.maker) (steps_in []) c.args.parties.now.items c.requires.1.1.1.1.0 (λ j. refl);
 }
 
 pub repeat-requires : goal.repeat-requires
 repeat-requires g c κs within =
-    let told = g.M.PageMaker.told in
     let none : ScheduleEntry = record { party = 0; times = 0 } in
-    let maker = same_allocator_for g.common.terms c.args.allocator.now (told c.args.seat.now.maker) (told c.loop-at.seat.maker) c.requires.1.1.1.0 c.loop-at.invariant.maker in
-    (search rules, (search rules, (c.requires.1.1.0, (maker, (c.loop-at.invariant.parties, c.requires.1.1.1.1.1 c.loop-at.at none c.loop-at-test.true)))))
+    (search rules, (search rules, (c.requires.1.1.0, (c.requires.1.1.1.0, (c.loop-at.invariant.parties, c.requires.1.1.1.1.1 c.loop-at.at none c.loop-at-test.true)))))
 
 pub loop-at-preserved : goal.loop-at-preserved
 loop-at-preserved g c =
-    let told = g.M.PageMaker.told in
     let i : ℕ = c.loop-at.at in
     let schedule : List ScheduleEntry = c.args.schedule.now in
     let none : ScheduleEntry = record { party = 0; times = 0 } in
     let entry : ScheduleEntry = slice_index_or schedule i none in
     record {
       parties = c.repeat.ensures.parties;
-      maker = same_twice (told c.args.seat.now.maker) (told c.loop-at.seat.maker) (told c.repeat.new.seat.maker) c.loop-at.invariant.maker c.repeat.ensures.maker;
       borrows = c.repeat.ensures.borrows ∙ c.loop-at.invariant.borrows;
       stepped = followed c.args.input.now (turns_of (take i schedule)) (turns_of (take (i + 1) schedule)) entry.party entry.times c.args.parties.now.items c.loop-at.parties.items c.repeat.new.parties.items (turns_more schedule i none c.loop-at-test.true) c.loop-at.invariant.stepped c.repeat.ensures.stepped;
     }

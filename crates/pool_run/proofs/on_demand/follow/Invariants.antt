@@ -1,5 +1,4 @@
 use Rattle.std.proofs.Common.{◌≡◌, take}
-use Rattle.pool_memory.specs.Creators.{IsSameMaker}
 use Rattle.pool_run.specs.OnDemandRuns.{ArePartiesOnDemand, HaveStepped, steps_in}
 use Rattle.pool_run.specs.Schedules.{turns_of}
 use Rattle.pool_run.proofs.on_demand.follow.Given as goal
@@ -10,8 +9,7 @@ ghost-repeat g a = g.common
 -- the steps of the entries so far
 abbrev pub invariant-loop-at : goal.invariant-loop-at
 invariant-loop-at g l = record {
-  parties : ArePartiesOnDemand g.common l.input l.parties.items;
-  maker : IsSameMaker (g.M.PageMaker.told l.fn.seat.maker) (g.M.PageMaker.told l.seat.maker);
+  parties : ArePartiesOnDemand g.common l.input (g.M.PageMaker.told l.seat.maker) l.parties.items;
   borrows : g.M.PageMaker.borrows l.seat.maker ≡ g.M.PageMaker.borrows l.fn.seat.maker;
   stepped : HaveStepped l.input (steps_in (turns_of (take l.at l.schedule))) l.fn.parties.items l.parties.items;
 }

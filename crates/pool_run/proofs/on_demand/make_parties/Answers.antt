@@ -1,14 +1,13 @@
 use Rattle.std.proofs.Common.{rules, ◌≡◌, ℕ, ◌+◌, ◌<◌, List, length, refl, sym, ap, ◌∙◌, subst, arith}
 use Rattle.std.specs.Prelude.{slice_index_or}
 use Rattle.pool_run.specs.Folds.{commands_of}
-use Rattle.pool_run.specs.OnDemandSeen.{IsPartyOnDemand}
-use Rattle.pool_run.specs.OnDemandRuns.{party_terms}
+use Rattle.pool_run.specs.OnDemandRuns.{party_terms, IsPartyOnDemand}
 use Rattle.pool_run.specs.PartyRules.{host_for}
 use Rattle.pool_run.specs.RunsMade.{commands_in}
 use Rattle.pool_run.specs.declared.command.Command.{Command}
 use Rattle.pool_run.specs.declared.input.Party.{Party}
 use Rattle.pool_run.proofs.Following.{commands_there}
-use Rattle.pool_run.proofs.OnDemandFolding.{AreBegun, begun_none, begun_more, begun_are, begun_told, hosted}
+use Rattle.pool_run.proofs.OnDemandFolding.{AreBegun, begun_more, begun_are, begun_told, hosted}
 use Rattle.pool_run.proofs.on_demand.make_parties.Goals as goal
 
 pub loop-at-preserved : goal.loop-at-preserved
@@ -23,9 +22,9 @@ loop-at-preserved g c =
     let is : x ≡ slice_index_or input.parties i x = here ∙ ap (λ (ps : List Party). slice_index_or ps i x) all in
     let host = hosted input g.common i x c.requires.1.1 below ∙ ap host_for (sym is) in
     let commands : x.commands ≡ commands_of (commands_in input.parties) i = ap (λ (p : Party). p.commands) is ∙ commands_there (commands_in input.parties) input.parties i x refl below in
-    let party = subst (λ (cs : List Command). IsPartyOnDemand (party_terms g.common i) cs c.in_ok-party.party) commands (c.in_ok-party.ensures.party (party_terms g.common i) host) in
+    let party = subst (λ (cs : List Command). IsPartyOnDemand (party_terms g.common i) g.common.maker cs 0 c.in_ok-party.party) commands (c.in_ok-party.ensures.party (party_terms g.common i) host g.common.maker) in
     record {
-      begun = subst (AreBegun input g.common (i + 1)) (sym c.in_ok-push.ensures.items) (begun_more input g.common i c.loop-at.made.items c.in_ok-party.party c.loop-at.invariant.begun party c.in_ok-party.ensures.told);
+      begun = subst (AreBegun input g.common (i + 1)) (sym c.in_ok-push.ensures.items) (begun_more input g.common i c.loop-at.made.items c.in_ok-party.party c.loop-at.invariant.begun party c.in_ok-party.ensures.told c.in_ok-party.ensures.left);
       all = all;
     }
 

@@ -1,5 +1,4 @@
 use Rattle.std.proofs.Common.{◌≡◌}
-use Rattle.pool_memory.specs.Creators.{IsSameMaker}
 use Rattle.pool_run.specs.OnDemandRuns.{ArePartiesOnDemand, HaveStepped, steps_of}
 use Rattle.pool_run.proofs.on_demand.repeat.Given as goal
 
@@ -9,8 +8,7 @@ ghost-step g a = g.common
 -- the steps so far
 abbrev pub invariant-loop-turn : goal.invariant-loop-turn
 invariant-loop-turn g l = record {
-  parties : ArePartiesOnDemand g.common l.input l.parties.items;
-  maker : IsSameMaker (g.M.PageMaker.told l.fn.seat.maker) (g.M.PageMaker.told l.seat.maker);
+  parties : ArePartiesOnDemand g.common l.input (g.M.PageMaker.told l.seat.maker) l.parties.items;
   borrows : g.M.PageMaker.borrows l.seat.maker ≡ g.M.PageMaker.borrows l.fn.seat.maker;
   stepped : HaveStepped l.input (steps_of l.i l.turn) l.fn.parties.items l.parties.items;
 }

@@ -1,12 +1,9 @@
-use Rattle.std.proofs.Common.{rules, ◌≡◌, List, Err, true, sym, ap, ◌∙◌, subst}
+use Rattle.std.proofs.Common.{◌≡◌, List, true, sym, subst}
 use Rattle.std.specs.List.{list_all}
 use Rattle.pool_pages.specs.declared.module_types.ModuleInfo.{ModuleInfo}
-use Rattle.pool_run.specs.Built.{is_built_module, broken_rule}
+use Rattle.pool_run.specs.Built.{is_built_module}
 use Rattle.pool_run.specs.Validity.{is_valid_module}
-use Rattle.pool_run.specs.declared.output.RunFault.TheVariants.{PageFault}
 use Rattle.pool_run.proofs.BuiltInputs.{built_modules}
-use Rattle.pool_run.proofs.OnDemandStarted.{images_fault_on_demand, is_on_demand}
-use Rattle.pool_run.proofs.RulesNamed.{names_none}
 use Rattle.pool_run.proofs.Valid.{valid_modules}
 use Rattle.pool_run.proofs.on_demand.run_in_seat.Goals as goal
 

@@ -1,14 +1,14 @@
-use Rattle.std.proofs.Common.{rules, ◌≡◌, ℕ, List, length, refl, sym, ap, ◌∙◌, subst, arith}
+use Rattle.std.proofs.Common.{rules, ◌≡◌, ℕ, List, length, refl, sym, ap, ◌∙◌, subst}
 use Rattle.std.specs.Prelude.{slice_index_or}
 use Rattle.pool_run.specs.Folds.{commands_of}
-use Rattle.pool_run.specs.OnDemandRuns.{ArePartiesOnDemand}
 use Rattle.pool_run.specs.PartyRules.{host_of}
 use Rattle.pool_run.specs.RunsMade.{commands_in}
 use Rattle.pool_run.specs.Worlds.{NameModules}
 use Rattle.pool_run.specs.declared.command.Command.{Command}
 use Rattle.pool_run.specs.declared.input.Party.{Party}
 use Rattle.pool_run.proofs.Following.{commands_read}
-use Rattle.pool_run.proofs.OnDemandFolding.{calls_under, are_turned, one_stepped, step_party, step_back, step_told}
+use Rattle.pool_run.proofs.OnDemandFolding.{calls_under, step_are, step_ready, step_stepped}
+use Rattle.pool_run.proofs.OnDemandGrants.{same_allocator_for}
 use Rattle.pool_run.proofs.on_demand.step.Goals as goal
 
 pub turn_on_demand-requires : goal.turn_on_demand-requires
@@ -16,20 +16,23 @@ turn_on_demand-requires g c κs within =
     let i : ℕ = c.args.i in
     let parties : List Party = c.args.input.now.parties in
     let q : Party = c.index-given-i.result in
-    let p = c.index_mut-party.result.now in
     let commands : List Command = q.commands in
     let here : q ≡ slice_index_or c.as_slice-given.result.now i q = search rules in
-    let same : commands ≡ commands_of (commands_in parties) i = ap (λ (x : Party). x.commands) here ∙ commands_read (commands_in parties) parties c.as_slice-given.result.now i q refl c.as_slice-given.ensures c.requires.1.1.1.1.1 in (
+    let same : commands ≡ commands_of (commands_in parties) i = ap (λ (x : Party). x.commands) here ∙ commands_read (commands_in parties) parties c.as_slice-given.result.now i q refl c.as_slice-given.ensures c.requires.1.1.1.1.1 in
+    let told = g.M.PageMaker.told in
+    let p = c.index_mut-party.result.now in
+    let are = c.requires.1.1.1.1.0 in
+    let maker = same_allocator_for g.common.terms c.args.allocator.now g.common.maker (told c.args.seat.now.maker) c.requires.1.1.1.0 are.maker in (
       search rules,
       (
         search rules,
         (
-          record { pages = record { tells = c.requires.1.1.1.0.pages.tells; page = c.requires.1.1.1.0.pages.page }; size = c.requires.1.1.1.0.size; zeroing = c.requires.1.1.1.0.zeroing },
+          record { pages = record { tells = maker.pages.tells; page = maker.pages.page }; size = maker.size; zeroing = maker.zeroing },
           (
             calls_under (host_of p.limits p.store.failing p.heaps.failing) g.common c.args.input.now.tunables c.args.calls.now c.requires.1.1.0.asked,
             (
               subst (NameModules (length c.args.calls.now)) (sym same) (c.requires.1.1.0.named i c.requires.1.1.1.1.1),
-              step_party c.args.input.now g.common c.args.parties.now.items c.requires.1.1.1.1.0 i p commands c.requires.1.1.1.1.1 c.index_mut-party.ensures.value same,
+              step_ready c.args.input.now g.common (told c.args.seat.now.maker) c.args.parties.now.items are i p commands c.requires.1.1.1.1.1 c.index_mut-party.ensures.value same,
             ),
           ),
         ),
@@ -44,8 +47,8 @@ returns-clause-parties g c =
     let commands : List Command = q.commands in
     let here : q ≡ slice_index_or c.as_slice-given.result.now i q = search rules in
     let same : commands ≡ commands_of (commands_in parties) i = ap (λ (x : Party). x.commands) here ∙ commands_read (commands_in parties) parties c.as_slice-given.result.now i q refl c.as_slice-given.ensures c.requires.1.1.1.1.1 in
-    are_turned c.args.input.now g.common c.args.parties.now.items c.requires.1.1.1.1.0 i c.turn_on_demand.new.party c.requires.1.1.1.1.1
-    (step_back c.args.input.now g.common c.args.parties.now.items c.requires.1.1.1.1.0 i c.index_mut-party.result.now commands c.requires.1.1.1.1.1 c.index_mut-party.ensures.value same c.turn_on_demand.new.party c.turn_on_demand.ensures.party)
+    let told = g.M.PageMaker.told in
+    step_are c.args.input.now g.common (told c.args.seat.now.maker) c.args.parties.now.items c.requires.1.1.1.1.0 i c.index_mut-party.result.now commands c.requires.1.1.1.1.1 c.index_mut-party.ensures.value same (told c.turn_on_demand.new.seat.maker) c.turn_on_demand.new.party c.turn_on_demand.ensures.maker c.turn_on_demand.ensures.party
 
 pub returns-clause-stepped : goal.returns-clause-stepped
 returns-clause-stepped g c =
@@ -55,5 +58,5 @@ returns-clause-stepped g c =
     let commands : List Command = q.commands in
     let here : q ≡ slice_index_or c.as_slice-given.result.now i q = search rules in
     let same : commands ≡ commands_of (commands_in parties) i = ap (λ (x : Party). x.commands) here ∙ commands_read (commands_in parties) parties c.as_slice-given.result.now i q refl c.as_slice-given.ensures c.requires.1.1.1.1.1 in
-    one_stepped c.args.input.now g.common c.args.parties.now.items c.requires.1.1.1.1.0 i c.turn_on_demand.new.party c.requires.1.1.1.1.1
-    (step_told c.args.input.now g.common c.args.parties.now.items c.requires.1.1.1.1.0 i c.index_mut-party.result.now commands c.requires.1.1.1.1.1 c.index_mut-party.ensures.value same c.turn_on_demand.new.party c.turn_on_demand.ensures.told)
+    let told = g.M.PageMaker.told in
+    step_stepped c.args.input.now g.common (told c.args.seat.now.maker) c.args.parties.now.items c.requires.1.1.1.1.0 i c.index_mut-party.result.now commands c.requires.1.1.1.1.1 c.index_mut-party.ensures.value same (told c.turn_on_demand.new.seat.maker) c.turn_on_demand.new.party c.turn_on_demand.ensures.told

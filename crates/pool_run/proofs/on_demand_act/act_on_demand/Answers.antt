@@ -1,11 +1,11 @@
-use Rattle.std.proofs.Common.{◌≡◌, List, Option, Some, None, sym, ap, ◌∙◌, subst, arith, length}
-use Rattle.std.specs.Prelude.{slice_index_or}
+use Rattle.std.proofs.Common.{None, sym, ap, ◌∙◌, subst, arith, length}
 use Rattle.std.proofs.lemmas.List.{length-set}
 use Rattle.pool_run.specs.AtOnce.{given_op}
 use Rattle.pool_run.specs.OnDemandSeen.{AreLive}
 use Rattle.pool_run.specs.PartyRules.{rule_of}
 use Rattle.pool_run.proofs.OnDemandGrants.{bytes_none, bytes_taken}
 use Rattle.pool_run.proofs.OnDemandParties.{taken_below, live_at, live_without}
+use Rattle.pool_run.proofs.OnDemandLive.{taken_spends, none_spends}
 use Rattle.pool_run.proofs.on_demand_act.act_on_demand.Goals as goal
 
 pub act_on_taken-requires-clause-place : goal.act_on_taken-requires-clause-place
@@ -34,3 +34,14 @@ returns-in-None-clause-held g c =
 pub returns-in-Some-clause-moves : goal.returns-in-Some-clause-moves
 returns-in-Some-clause-moves g c =
     bytes_taken (given_op c.args.op.now) (rule_of c.args.limits) c.args.memory (g.M.PageMaker.told c.args.maker.now).tells c.args.of c.args.live.now.items c.take_from.new.places.items c.act_on_taken.new.live.items c.act_on_taken.result c.in-Some.grant (sym c.take_from.ensures.value ∙ c.in-Some.is) c.take_from.ensures.rest c.act_on_taken.ensures.moves
+
+pub returns-in-None-clause-spends : goal.returns-in-None-clause-spends
+returns-in-None-clause-spends g c =
+    let maker = g.M.PageMaker.told c.args.maker.now in
+    none_spends c.args.live.now.items c.args.of maker.tells (given_op c.args.op.now) (rule_of c.args.limits) c.args.memory _ maker c.take_from.new.places.items (sym c.take_from.ensures.value ∙ c.in-None.is) c.take_from.ensures.rest
+
+pub returns-in-Some-clause-spends : goal.returns-in-Some-clause-spends
+returns-in-Some-clause-spends g c =
+    let told = g.M.PageMaker.told in
+    let call = c.act_on_taken in
+    taken_spends c.args.live.now.items c.args.of (told c.args.maker.now).tells (given_op c.args.op.now) (rule_of c.args.limits) c.args.memory call.result (told c.args.maker.now) (told call.new.maker) c.take_from.new.places.items call.new.live.items c.in-Some.grant (sym c.take_from.ensures.value ∙ c.in-Some.is) c.take_from.ensures.rest call.ensures.spends

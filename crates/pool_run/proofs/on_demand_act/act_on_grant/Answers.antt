@@ -1,11 +1,14 @@
-use Rattle.std.proofs.Common.{refl, sym, subst}
+use Rattle.std.proofs.Common.{sym, subst}
+use Rattle.pool_memory.specs.declared.creators.LinearMemory.{LinearMemory}
 use Rattle.pool_run.specs.AtOnce.{given_op}
 use Rattle.pool_run.specs.OnDemandSeen.{BytesOfGrant, IsHeldGrant, seen_grant, seen_lease}
 use Rattle.pool_run.specs.PartyRules.{rule_of}
 use Rattle.pool_run.specs.Private.{stack_grant, heap_grant}
 use Rattle.pool_run.specs.Turns.{seen_stack}
-use Rattle.pool_run.specs.declared.on_demand_grant.OnDemandGrant.TheVariants.{Instance}
 use Rattle.pool_run.proofs.OnDemandGrants.{instance_bytes, heap_bytes}
+use Rattle.pool_run.specs.OnDemandLeft.{GrantSpends}
+use Rattle.pool_run.specs.declared.on_demand_grant.OnDemandGrant.TheVariants.{Instance, Stack, Heap}
+use Rattle.pool_run.proofs.OnDemandLive.{instance_spends, heap_spends, stack_spends}
 use Rattle.pool_run.proofs.on_demand_act.act_on_grant.Goals as goal
 
 pub act_on_instance-instance-requires : goal.act_on_instance-instance-requires
@@ -41,3 +44,31 @@ returns-in-Heap-clause-moves g c =
     let call = c.act_on_heap-lease in
     let lease = c.in-Heap.heap in
     subst (λ x. BytesOfGrant op rule k (seen_grant tells x) call.result.1 (heap_grant lease.index.0 (seen_lease tells call.result.0))) (sym c.in-Heap.is) (heap_bytes op rule k tells lease.index.0 c.in-Heap.lease call.result.0 call.result.1 call.ensures.moves)
+
+pub returns-in-Instance-clause-spends : goal.returns-in-Instance-clause-spends
+returns-in-Instance-clause-spends g c =
+    let told = g.M.PageMaker.told in
+    let tells = (told c.args.maker.now).tells in
+    let op = given_op c.args.op.now in
+    let rule = rule_of c.args.limits in
+    let k = c.args.memory in
+    let call = c.act_on_instance-instance in
+    subst (λ x. GrantSpends tells op rule (told c.args.maker.now) (told call.new.maker) k x (Instance call.result.0) call.result.1) (sym c.in-Instance.is) (instance_spends tells op rule (told c.args.maker.now) (told call.new.maker) k c.in-Instance.instance call.result.0 call.result.1 call.ensures.spends)
+
+pub returns-in-Stack-clause-spends : goal.returns-in-Stack-clause-spends
+returns-in-Stack-clause-spends g c =
+    let maker = g.M.PageMaker.told c.args.maker.now in
+    let op = given_op c.args.op.now in
+    let rule = rule_of c.args.limits in
+    let call = c.act_on_lease-lease in
+    subst (λ x. GrantSpends maker.tells op rule maker maker c.args.memory x (Stack call.result.0) call.result.1) (sym c.in-Stack.is) (stack_spends g.row.M.Denot (LinearMemory g.row.M-Region.Denot) g.row.M-Region.Denot maker.tells op rule maker c.args.memory call.result.1 c.in-Stack.lease call.result.0)
+
+pub returns-in-Heap-clause-spends : goal.returns-in-Heap-clause-spends
+returns-in-Heap-clause-spends g c =
+    let told = g.M.PageMaker.told in
+    let tells = (told c.args.maker.now).tells in
+    let op = given_op c.args.op.now in
+    let rule = rule_of c.args.limits in
+    let k = c.args.memory in
+    let call = c.act_on_heap-lease in
+    subst (λ x. GrantSpends tells op rule (told c.args.maker.now) (told call.new.maker) k x (Heap c.in-Heap.heap call.result.0) call.result.1) (sym c.in-Heap.is) (heap_spends tells op rule (told c.args.maker.now) (told call.new.maker) k g.row.M-Region.Denot c.in-Heap.heap c.in-Heap.lease call.result.0 call.result.1 call.ensures.spends)

@@ -1,4 +1,4 @@
-use Rattle.std.proofs.Common.{List, All, refl, sym, subst}
+use Rattle.std.proofs.Common.{All, refl, sym, subst}
 use Rattle.std.specs.Prelude.{slice_get, slice_set}
 use Rattle.pool_memory.specs.MemoryStates.{state_of}
 use Rattle.pool_run.specs.AtOnce.{given_op}
@@ -6,6 +6,7 @@ use Rattle.pool_run.specs.Objects.{MovesNamed}
 use Rattle.pool_run.specs.OnDemandSeen.{IsHeld, LeaseMovesOnDemand, with_memory}
 use Rattle.pool_run.specs.PartyRules.{rule_of}
 use Rattle.pool_run.proofs.Named.{named_under}
+use Rattle.pool_run.specs.OnDemandLeft.{LeasesSpend}
 use Rattle.pool_run.proofs.on_demand_act.act_on_instance.Goals as goal
 
 pub act_in_list-reply-requires : goal.act_in_list-reply-requires
@@ -27,3 +28,13 @@ returns-clause-held g c = record {
   memories = subst (All (λ l. IsHeld (g.M.PageMaker.told c.args.maker.now).tells (state_of l.memory))) (sym c.from_vec.ensures) c.act_in_list-reply.ensures.held;
   tables = c.requires.held.tables;
 }
+
+pub returns-clause-spends : goal.returns-clause-spends
+returns-clause-spends g c =
+    let told = g.M.PageMaker.told in
+    let tells = (told c.args.maker.now).tells in
+    let op = given_op c.args.op.now in
+    let rule = rule_of c.args.limits in
+    let call = c.act_in_list-reply in
+    let spent = subst (λ ls. LeasesSpend tells op rule (told c.args.maker.now) (told call.new.maker) c.args.memory ls call.new.memories.items call.result) c.into_vec-memories.ensures call.ensures.spends in
+    subst (λ ls. LeasesSpend tells op rule (told c.args.maker.now) (told call.new.maker) c.args.memory c.args.instance.memories ls call.result) (sym c.from_vec.ensures) spent

@@ -1,14 +1,17 @@
-use Rattle.std.proofs.Common.{◌≡◌, ℕ, ◌+◌, List, length, replicate, sym, ap, ◌∙◌, subst, refl}
+use Rattle.std.proofs.Common.{◌≡◌, ℕ, ◌+◌, length, replicate, sym, ap, ◌∙◌, subst, refl}
 use Rattle.std.proofs.lemmas.List.{length-replicate}
 use Rattle.pool_memory.specs.MemoryStates.{state_of}
 use Rattle.pool_memory.specs.Memories.{access_answer}
-use Rattle.pool_run.specs.AtOnce.{given_op, growth_reply}
+use Rattle.pool_run.specs.AtOnce.{given_op}
 use Rattle.pool_run.specs.OnDemand.{MovesOnDemand}
+use Rattle.pool_run.specs.OnDemandLeft.{MemorySpends}
 use Rattle.pool_run.specs.OnDemandSeen.{seen_made}
 use Rattle.pool_run.specs.PartyRules.{rule_of}
 use Rattle.pool_run.specs.declared.act.MemoryOp.{MemoryOp}
-use Rattle.pool_run.specs.declared.act.MemoryOp.TheVariants.{Read, Write, Fill, Grow, Size}
+use Rattle.pool_run.specs.declared.act.MemoryOp.TheVariants.{Write, Fill, Grow}
 use Rattle.pool_run.specs.declared.reply.Reply.{Reply}
+use Rattle.pool_run.specs.declared.reply.Reply.TheVariants.{Size as size_told}
+use Rattle.pool_run.proofs.OnDemandGrowing.{grows_spends, look_spends, write_spends}
 use Rattle.pool_run.proofs.OnDemandMoves.{read_made, writes_made, grows_made, growth_same}
 use Rattle.pool_run.proofs.on_demand_act.act_on_memory.Goals as goal
 
@@ -63,3 +66,44 @@ returns-in-Read-clause-moves g c =
     let tells = (g.M.PageMaker.told c.args.maker.now).tells in
     let Moved : MemoryOp → Type 0 = λ by. MovesOnDemand (given_op by) (rule_of c.args.limits) (seen_made tells (state_of c.args.memory.now)) (seen_made tells (state_of c.args.memory.now)) c.read.result in
     subst Moved (sym c.in-Read.is) (read_made tells (state_of c.args.memory.now) c.in-Read.at c.in-Read.len c.read.result c.read.ensures, refl)
+
+pub returns-in-Write-clause-spends : goal.returns-in-Write-clause-spends
+returns-in-Write-clause-spends g c =
+    let maker = g.M.PageMaker.told c.args.maker.now in
+    let old = state_of c.args.memory.now in
+    let new = state_of c.write.new.self in
+    let Spent : MemoryOp → Type 0 = λ by. MemorySpends maker.tells (given_op by) (rule_of c.args.limits) maker maker old new c.write_reply.result in
+    subst Spent (sym c.in-Write.is) (λ y same laid. write_spends y maker c.in-Write.at c.in-Write.bytes.now old new c.write.result c.write.ensures.written c.write.ensures.same laid)
+
+pub returns-in-Fill-clause-spends : goal.returns-in-Fill-clause-spends
+returns-in-Fill-clause-spends g c =
+    let maker = g.M.PageMaker.told c.args.maker.now in
+    let old = state_of c.args.memory.now in
+    let new = state_of c.fill.new.self in
+    let Spent : MemoryOp → Type 0 = λ by. MemorySpends maker.tells (given_op by) (rule_of c.args.limits) maker maker old new c.write_reply-in-Fill.result in
+    subst Spent (sym c.in-Fill.is) (λ y same laid. write_spends y maker c.in-Fill.at (replicate c.in-Fill.len c.in-Fill.byte) old new c.fill.result c.fill.ensures.written c.fill.ensures.same laid)
+
+pub returns-in-Grow-clause-spends : goal.returns-in-Grow-clause-spends
+returns-in-Grow-clause-spends g c =
+    let told = g.M.PageMaker.told in
+    let before = told c.args.maker.now in
+    let after = told c.grow.new.maker in
+    let old = state_of c.args.memory.now in
+    let new = state_of c.grow.new.memory in
+    let Spent : MemoryOp → Reply → Type 0 = λ by reply. MemorySpends before.tells (given_op by) (rule_of c.args.limits) before after old new reply in
+    subst (λ (by : MemoryOp). Spent by c.growth_reply.result) (sym c.in-Grow.is)
+    (subst (Spent (Grow c.in-Grow.pages)) (sym c.growth_reply.ensures) (grows_spends before.tells (rule_of c.args.limits) c.in-Grow.pages old new before after c.grow.result c.requires.held c.grow.ensures.growth))
+
+pub returns-in-Read-clause-spends : goal.returns-in-Read-clause-spends
+returns-in-Read-clause-spends g c =
+    let maker = g.M.PageMaker.told c.args.maker.now in
+    let old = state_of c.args.memory.now in
+    let Spent : MemoryOp → Type 0 = λ by. MemorySpends maker.tells (given_op by) (rule_of c.args.limits) maker maker old old c.read.result in
+    subst Spent (sym c.in-Read.is) (λ y same laid. look_spends y maker old laid)
+
+pub returns-in-Size-clause-spends : goal.returns-in-Size-clause-spends
+returns-in-Size-clause-spends g c =
+    let maker = g.M.PageMaker.told c.args.maker.now in
+    let old = state_of c.args.memory.now in
+    let Spent : MemoryOp → Type 0 = λ by. MemorySpends maker.tells (given_op by) (rule_of c.args.limits) maker maker old old (size_told c.byte_size.result) in
+    subst Spent (sym c.in-Size.is) (λ y same laid. look_spends y maker old laid)

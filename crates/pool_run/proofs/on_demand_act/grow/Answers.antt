@@ -1,8 +1,8 @@
 use Rattle.std.proofs.Common.{Option, Some, sym, ap, subst, refl}
-use Rattle.pool_limits.specs.Growth.{GrowthLimits, GrowthRule, always, limited_by}
+use Rattle.pool_limits.specs.Growth.{GrowthLimits, limited_by}
 use Rattle.pool_memory.specs.MemoryStates.{state_of}
 use Rattle.pool_run.specs.OnDemandSeen.{GrowsByRule}
-use Rattle.pool_run.specs.PartyRules.{growth_of, rule_of}
+use Rattle.pool_run.specs.PartyRules.{rule_of}
 use Rattle.pool_run.specs.declared.input.PartyLimits.{PartyLimits}
 use Rattle.pool_run.proofs.on_demand_act.grow.Goals as goal
 

@@ -1,4 +1,4 @@
-use Rattle.std.proofs.Common.{◌≡◌, ℕ, ◌<◌, List, Option, Some, refl, sym, ap, ◌∙◌, subst, arith}
+use Rattle.std.proofs.Common.{◌≡◌, ◌<◌, List, Option, Some, refl, sym, ap, ◌∙◌, subst, arith}
 use Rattle.std.specs.Prelude.{option_map}
 use Rattle.std.specs.Arc.{arc_value}
 use Rattle.pool_pages.specs.declared.module_types.MemoryKind.TheVariants.{LinearMemory}
@@ -10,9 +10,11 @@ use Rattle.pool_memory.specs.Creators.{default_design, default_refusal}
 use Rattle.pool_alloc.specs.Asked.{ModuleAsked}
 use Rattle.pool_alloc.specs.OnDemandInstances.{Stage, GrantsInstance}
 use Rattle.pool_alloc.specs.Requests.{if_leads, lent}
+use Rattle.pool_run.specs.OnDemandLeft.{laying_of}
 use Rattle.pool_run.proofs.OnDemandRequests.{answered_as}
 use Rattle.pool_run.proofs.on_demand_request.allocate.Given.{Over}
 use Rattle.pool_run.proofs.on_demand_request.allocate.Goals.{in-None, in-Some}
+use Rattle.pool_run.proofs.OnDemandPaid.{instance_paid}
 use Rattle.pool_run.proofs.on_demand_request.allocate.Goals as goal
 
 -- the images that are handed on are those of the call
@@ -62,3 +64,19 @@ returns-clause-maker g c =
     let given : MemoryTunables = record { tunables = c.args.tunables.now; kind = LinearMemory } in
     let is : Grants t.settings.tunables call.info call.images = subst (λ (s : MemoryTunables). Grants s call.info call.images) (sym of.settings) (subst (λ (m : ModuleInfo). Grants given m call.images) info (subst (Grants given c.deref-2.result.now) images c.allocate_module.ensures.made.0)) in
     (answered_as t c.args.tunables.now call of (told c.args.seat.now.maker) for.pages.page page limited leads _ _ _ from to c.requires.1.1.1.1.1.1.0 for.pages.tells refl c.requires.1.1.1.1.1.1.1 result is).1
+
+pub returns-clause-spends : goal.returns-clause-spends
+returns-clause-spends g c =
+    let told = g.M.PageMaker.told in
+    let t = g.terms in
+    let call : ModuleAsked = c.args.call.now in
+    let result = c.allocate_module.result in
+    let from : Stage (Option g.row.R.Denot) = record { maker = told c.args.seat.now.maker; limiter = Some c.args.limiter.now } in
+    let to : Stage (Option g.row.R.Denot) = record { maker = told c.allocate_module.new.seat.maker; limiter = lent c.allocate_module.new.request.limiter } in
+    let for = c.requires.1.1.1.1.0 in
+    let of = c.requires.1.1.1.1.1.0 in
+    let limited = limiter_told g.R.ResourceLimiter.told in
+    let leads = if_leads g.R.ResourceLimiter.leads in
+    let Grants : MemoryTunables → Type 0 = λ tunables. GrantsInstance limited leads (λ page x tunables minimum y. default_refusal page tunables minimum) (λ page x tunables minimum maximum. Some (default_design page tunables minimum maximum)) tunables c.deref-2.result.now (option_map (λ i. i.now) c.match-call.images) result from to in
+    let is : Grants t.settings.tunables = subst Grants (sym of.settings) c.allocate_module.ensures.made.0 in
+    instance_paid limited leads _ _ (laying_of t from.maker) (option_map (λ i. i.now) c.match-call.images) _ c.deref-2.result.now result from to (for.pages.page, refl) is

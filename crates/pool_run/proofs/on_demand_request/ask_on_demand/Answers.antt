@@ -1,17 +1,21 @@
 use Rattle.std.proofs.Common.{rules, ◌≡◌, ℕ, ◌<◌, List, Some, length, refl, sym, ap, subst, arith}
 use Rattle.std.specs.Prelude.{slice_index_or, slice_set}
+use Rattle.pool_pages.specs.MakerTold.{MakerTold}
 use Rattle.pool_pages.specs.declared.module_types.MemoryType.{MemoryType}
 use Rattle.pool_alloc.specs.Asked.{ModuleAsked}
-use Rattle.pool_run.specs.Acts.{requests, heap_type}
+use Rattle.pool_run.specs.Acts.{requests}
 use Rattle.pool_run.specs.AtOnce.{given_wanted}
 use Rattle.pool_run.specs.OnDemand.{Makes, MakesHeap, MakesWanted, request_on_demand}
 use Rattle.pool_run.specs.OnDemandSeen.{grants_made}
 use Rattle.pool_run.specs.Worlds.{NamesModule}
+use Rattle.pool_run.specs.OnDemandLeft.{laying_of}
 use Rattle.pool_run.specs.declared.act.Wanted.{Wanted}
 use Rattle.pool_run.specs.declared.reply.Reply.TheVariants.{Component as granted}
 use Rattle.pool_run.specs.declared.on_demand_grant.OnDemandGrant.TheVariants.{Component}
 use Rattle.pool_run.proofs.OnDemandGrants.{component_makes}
 use Rattle.pool_run.proofs.OnDemandParties.{call_at}
+use Rattle.pool_run.proofs.OnDemandPaid.{grant_spends}
+use Rattle.pool_run.proofs.Spending.{spends_none}
 use Rattle.pool_run.proofs.on_demand_request.ask_on_demand.Goals as goal
 
 pub request_on_demand-requires : goal.request_on_demand-requires
@@ -65,3 +69,9 @@ returns-in-Heap-clause-makes g c stores =
     let Makes_of : Wanted → Type 0 = λ w. MakesWanted t c.args.n (given_wanted w) (record { grants = grants_made t.tells c.args.live.now.items; stores = stores; heaps = c.args.heaps.now.made }) c.request_heap.result (record { grants = grants_made t.tells c.request_heap.new.live.items; stores = stores; heaps = c.request_heap.new.heaps.made }) in
     let Makes_for : MemoryType → Type 0 = λ ty. MakesHeap t c.args.n ty (record { grants = grants_made t.tells c.args.live.now.items; stores = stores; heaps = c.args.heaps.now.made }) c.request_heap.result (record { grants = grants_made t.tells c.request_heap.new.live.items; stores = stores; heaps = c.request_heap.new.heaps.made }) in
     subst Makes_of (sym c.in-Heap.is) (subst Makes_for c.heap_type-ty.ensures (c.request_heap.ensures.makes stores))
+
+pub returns-in-Component-clause-spends : goal.returns-in-Component-clause-spends
+returns-in-Component-clause-spends g c =
+    let told = g.M.PageMaker.told in
+    let maker : MakerTold = told c.args.seat.now.maker in
+    grant_spends (laying_of g.terms maker) maker maker c.args.live.now.items c.args.n c.requires.1.1.1.1.1.1.1.0 Component tt (spends_none maker 0)

@@ -1,6 +1,10 @@
-use Rattle.std.proofs.Common.{◌≡◌, true, sym, ◌∙◌, subst}
+use Rattle.std.proofs.Common.{◌≡◌, true, sym, ap, ◌∙◌, subst}
+use Rattle.pool_pages.specs.MakerTold.{MakerTold}
+use Rattle.pool_alloc.specs.OnDemandRefusals.{type_refused}
 use Rattle.pool_run.specs.OnDemandSeen.{AnswersHeapMemory}
+use Rattle.pool_run.specs.OnDemandLeft.{Laying, HeapSpends, LeaseSpends, laid_for_heap, laying_of}
 use Rattle.pool_run.proofs.OnDemandHeaps.{heap_answered, none_barred, without_memory}
+use Rattle.pool_run.proofs.OnDemandPaid.{barred_spends, heap_spends}
 use Rattle.pool_run.proofs.on_demand_request.make_heap.Goals as goal
 
 pub returns-in-Ok-clause-answer : goal.returns-in-Ok-clause-answer
@@ -23,3 +27,20 @@ returns-in-Err-heap_memory-clause-answer g c =
     let on : tunables.collector ≡ true = c.if-not-tunables.false in
     let free = none_barred t ty tunables settings on (sym c.in_default.is ∙ c.validate_memory.ensures.answer) in
     without_memory t ty tunables settings c.args.heaps.now.failing c.args.heaps.now.made c.in-Err-heap_memory.error free (subst (AnswersHeapMemory t ty) c.in-Err-heap_memory.is c.heap_memory.ensures.answer)
+
+pub returns-in-Ok-clause-spends : goal.returns-in-Ok-clause-spends
+returns-in-Ok-clause-spends g c =
+    let told = g.M.PageMaker.told in
+    let before : MakerTold = told c.args.seat.now.maker in
+    let after : MakerTold = told c.heap_memory.new.seat.maker in
+    let y : Laying = laying_of g.terms before in
+    let kept : told c.validate_memory.new._seat.maker ≡ before = ap (λ seat. told seat.maker) c.validate_memory.ensures.seat in
+    let From : MakerTold → Type 0 = λ m. LeaseSpends (laid_for_heap (laying_of g.terms m)) m after c.heap_memory.result in
+    let made = subst From kept c.heap_memory.ensures.spends in
+    let To : MakerTold → Type 0 = λ m. HeapSpends y before m c.with_heap.result in
+    subst To (sym (ap (λ seat. told seat.maker) c.with_heap.ensures.seat)) (heap_spends y before after c.in-Ok.memory (subst (LeaseSpends (laid_for_heap y) before after) c.in-Ok.is made) _ _ _ c.with_heap.result c.with_heap.ensures.made c.with_heap.ensures.unmade)
+
+pub returns-in-Err-clause-spends : goal.returns-in-Err-clause-spends
+returns-in-Err-clause-spends g c =
+    let told = g.M.PageMaker.told in
+    barred_spends (type_refused c.args.ty.now) c.in-Err.error (told c.args.seat.now.maker) (told c.validate_memory.new._seat.maker) (ap (λ seat. told seat.maker) c.validate_memory.ensures.seat) (sym c.in-Err.is ∙ c.validate_memory.ensures.answer)

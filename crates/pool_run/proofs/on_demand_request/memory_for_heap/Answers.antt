@@ -1,11 +1,12 @@
-use Rattle.std.proofs.Common.{◌≡◌, ℕ, Option, Some, None, Result, sym, subst}
+use Rattle.std.proofs.Common.{Option, Some, None, refl, sym, subst}
 use Rattle.pool_pages.specs.declared.module_types.MemoryTunables.{MemoryTunables}
 use Rattle.pool_limits.specs.LimiterTold.{limiter_told}
 use Rattle.pool_memory.specs.Creators.{default_design, default_refusal}
 use Rattle.pool_alloc.specs.OnDemandInstances.{Stage, IsMemoryTurn}
 use Rattle.pool_alloc.specs.Requests.{if_leads, lent}
-use Rattle.pool_run.specs.OnDemand.{heap_terms}
+use Rattle.pool_run.specs.OnDemandLeft.{laid_for_heap, laying_of}
 use Rattle.pool_run.proofs.OnDemandHeaps.{heap_memory_answered, heap_settings}
+use Rattle.pool_run.proofs.OnDemandPaid.{turn_paid}
 use Rattle.pool_run.proofs.on_demand_request.memory_for_heap.Goals as goal
 
 pub returns-clause-answer : goal.returns-clause-answer
@@ -22,3 +23,16 @@ returns-clause-answer g c =
 
 pub returns-clause-maker : goal.returns-clause-maker
 returns-clause-maker g c = c.allocate_memory.ensures.made.0.maker
+
+pub returns-clause-spends : goal.returns-clause-spends
+returns-clause-spends g c =
+    let told = g.M.PageMaker.told in
+    let t = g.terms in
+    let result = c.allocate_memory.result in
+    let from : Stage (Option g.row.R.Denot) = record { maker = told c.args.seat.now.maker; limiter = Some c.args.limiter.now } in
+    let to : Stage (Option g.row.R.Denot) = record { maker = told c.allocate_memory.new.seat.maker; limiter = lent c.allocate_memory.new.request.limiter } in
+    let limited = limiter_told g.R.ResourceLimiter.told in
+    let leads = if_leads g.R.ResourceLimiter.leads in
+    let Turn : MemoryTunables → Type 0 = λ s. IsMemoryTurn limited leads (λ page x tunables minimum y. default_refusal page tunables minimum) (λ page x tunables minimum maximum. Some (default_design page tunables minimum maximum)) s None c.args.ty.now result from to in
+    let turn = subst Turn (sym (heap_settings t c.args.tunables.now c.requires.1.1.1.1.1.0)) c.allocate_memory.ensures.made.0 in
+    turn_paid limited leads _ _ (laid_for_heap (laying_of t from.maker)) None c.args.ty.now result from to (c.requires.1.1.1.1.0.pages.page, refl) turn

@@ -1,12 +1,15 @@
-use Rattle.std.proofs.Common.{◌≡◌, ℕ, length, replicate, sym, ap, ◌∙◌, subst}
+use Rattle.std.proofs.Common.{◌≡◌, length, replicate, ap, ◌∙◌, subst}
+use Rattle.pool_pages.specs.MakerTold.{MakerTold}
 use Rattle.pool_pages.specs.declared.module_types.ModuleInfo.{ModuleInfo}
 use Rattle.pool_alloc.specs.Asked.{ModuleAsked}
 use Rattle.pool_alloc.specs.OnDemandAnswers.{no_slot}
 use Rattle.pool_run.specs.OnDemand.{request_on_demand}
 use Rattle.pool_run.specs.OnDemandSeen.{AnswersOnDemand}
+use Rattle.pool_run.specs.OnDemandLeft.{Laying, InstanceSpends, laying_of}
 use Rattle.pool_run.specs.declared.on_demand_grant.OnDemandGrant.TheVariants.{Instance}
 use Rattle.pool_run.proofs.OnDemandParties.{granted_makes, live_with}
 use Rattle.pool_run.proofs.OnDemandRequests.{memories_in_none, tables_in_none}
+use Rattle.pool_run.proofs.OnDemandPaid.{grant_spends, refusal_spends}
 use Rattle.pool_run.proofs.on_demand_request.request_on_demand.Goals as goal
 
 pub returns-in-Ok-request-clause-makes : goal.returns-in-Ok-request-clause-makes
@@ -25,3 +28,20 @@ returns-in-Ok-request-clause-held g c =
     let t = g.terms in
     let is = subst (AnswersOnDemand t (request_on_demand t c.args.call.now.id.0)) c.in-Ok-request.is c.request.ensures.answer in
     live_with t.tells c.args.live.now.items c.args.n (Instance c.in-Ok-request.grant) is.1.1 c.requires.1.1.1.1.1.1
+
+pub returns-in-Ok-request-clause-spends : goal.returns-in-Ok-request-clause-spends
+returns-in-Ok-request-clause-spends g c =
+    let told = g.M.PageMaker.told in
+    let before : MakerTold = told c.args.seat.now.maker in
+    let after : MakerTold = told c.request.new.seat.maker in
+    let y : Laying = laying_of g.terms before in
+    let is = subst (InstanceSpends y before after) c.in-Ok-request.is c.request.ensures.spends in
+    grant_spends y before after c.args.live.now.items c.args.n c.requires.1.1.1.1.1.0 (Instance c.in-Ok-request.grant) is.0 is.1
+
+pub returns-in-Err-clause-spends : goal.returns-in-Err-clause-spends
+returns-in-Err-clause-spends g c =
+    let told = g.M.PageMaker.told in
+    let before : MakerTold = told c.args.seat.now.maker in
+    let after : MakerTold = told c.request.new.seat.maker in
+    let y : Laying = laying_of g.terms before in
+    refusal_spends y before after c.args.live.now.items c.in-Err.error (subst (InstanceSpends y before after) c.in-Err.is c.request.ensures.spends)

@@ -1,8 +1,14 @@
-use Rattle.std.proofs.Common.{rules, ◌≡◌, ℕ, ◌<◌, refl, subst, arith}
-use Rattle.pool_memory.specs.Creators.{IsSameMaker}
+use Rattle.std.proofs.Common.{◌<◌, refl, subst, arith}
+use Rattle.pool_pages.specs.MakerTold.{MakerTold}
+use Rattle.pool_alloc.specs.OnDemandAnswers.{Allocates}
+use Rattle.pool_alloc.specs.OnDemandRefusals.{stack_refused}
+use Rattle.pool_alloc.specs.OnDemandStacks.{IsStackMade}
+use Rattle.pool_run.specs.OnDemandLeft.{laying_of}
 use Rattle.pool_run.specs.declared.on_demand_grant.OnDemandGrant.TheVariants.{Stack}
 use Rattle.pool_run.proofs.OnDemandGrants.{StackAnswer, stack_answered, stack_makes, stack_same}
 use Rattle.pool_run.proofs.OnDemandParties.{live_with}
+use Rattle.pool_run.proofs.OnDemandPaid.{grant_spends, refusal_spends, stack_refusal_spends}
+use Rattle.pool_run.proofs.Spending.{same_spends}
 use Rattle.pool_run.proofs.on_demand_request.request_stack.Goals as goal
 
 pub returns-in-Ok-clause-makes : goal.returns-in-Ok-clause-makes
@@ -27,3 +33,21 @@ returns-in-Err-clause-makes g c =
 
 pub returns-in-Err-clause-maker : goal.returns-in-Err-clause-maker
 returns-in-Err-clause-maker g c = stack_same _ _ c.allocate_fiber_stack.result _ _ c.allocate_fiber_stack.ensures.1.0
+
+pub returns-in-Ok-clause-spends : goal.returns-in-Ok-clause-spends
+returns-in-Ok-clause-spends g c =
+    let told = g.M.PageMaker.told in
+    let before : MakerTold = told c.args.seat.now.maker in
+    let after : MakerTold = told c.allocate_fiber_stack.new.seat.maker in
+    let same = stack_same _ _ c.allocate_fiber_stack.result before after c.allocate_fiber_stack.ensures.1.0 in
+    grant_spends (laying_of g.terms before) before after c.args.live.now.items c.args.n c.requires.1.1.1.0 (Stack c.in-Ok.lease) tt (same_spends before after 0 same)
+
+pub returns-in-Err-clause-spends : goal.returns-in-Err-clause-spends
+returns-in-Err-clause-spends g c =
+    let told = g.M.PageMaker.told in
+    let allocator = c.args.allocator.now in
+    let before : MakerTold = told c.args.seat.now.maker in
+    let after : MakerTold = told c.allocate_fiber_stack.new.seat.maker in
+    let same = stack_same _ _ c.allocate_fiber_stack.result before after c.allocate_fiber_stack.ensures.1.0 in
+    let is = subst (λ r. Allocates (stack_refused allocator.stack_size) (IsStackMade allocator.stack_size allocator.stack_zeroing before) r before after) c.in-Err.is c.allocate_fiber_stack.ensures.0 in
+    refusal_spends (laying_of g.terms before) before after c.args.live.now.items c.in-Err.error (stack_refusal_spends allocator.stack_size (IsStackMade allocator.stack_size allocator.stack_zeroing before) c.in-Err.error before after same is)

@@ -1,4 +1,4 @@
-use Rattle.std.proofs.Common.{rules, ◌≡◌, None, refl, sym, ap, ◌∙◌, subst}
+use Rattle.std.proofs.Common.{rules, refl, sym, ap, ◌∙◌, subst}
 use Rattle.std.specs.Prelude.{slice_get}
 use Rattle.pool_run.specs.AtOnce.{given_table_op}
 use Rattle.pool_run.specs.Objects.{MovesNamed}
@@ -6,6 +6,8 @@ use Rattle.pool_run.specs.OnDemandSeen.{IsHeldGrant, TableLeaseMovesOnDemand, ta
 use Rattle.pool_run.specs.PartyRules.{rule_of}
 use Rattle.pool_run.specs.declared.on_demand_grant.OnDemandGrant.TheVariants.{Instance}
 use Rattle.pool_run.proofs.Named.{named_under}
+use Rattle.pool_run.specs.OnDemandLeft.{KeepsMemories}
+use Rattle.pool_run.proofs.OnDemandLive.{instance_keeps}
 use Rattle.pool_run.proofs.on_demand_tables.act_on_grant.Goals as goal
 
 pub act_on_instance-instance-requires : goal.act_on_instance-instance-requires
@@ -22,3 +24,8 @@ returns-in-Instance-clause-moves g c =
 
 pub returns-in-Instance-clause-unasked : goal.returns-in-Instance-clause-unasked
 returns-in-Instance-clause-unasked g c none = c.act_on_instance-instance.ensures.unasked (ap (λ x. slice_get (tables_of_grant x) c.args.table) (sym c.in-Instance.is) ∙ none)
+
+pub returns-in-Instance-clause-memories : goal.returns-in-Instance-clause-memories
+returns-in-Instance-clause-memories g c =
+    let call = c.act_on_instance-instance in
+    subst (λ x. KeepsMemories x (Instance call.result.0)) (sym c.in-Instance.is) (instance_keeps c.in-Instance.instance call.result.0 call.ensures.memories)

@@ -1,4 +1,4 @@
-use Rattle.std.proofs.Common.{List, All, None, refl, sym, ap, ◌∙◌, subst}
+use Rattle.std.proofs.Common.{All, refl, sym, ap, ◌∙◌, subst}
 use Rattle.std.specs.Prelude.{slice_get, slice_set}
 use Rattle.pool_alloc.specs.TableLeases.{HasType}
 use Rattle.pool_run.specs.AtOnce.{given_table_op}

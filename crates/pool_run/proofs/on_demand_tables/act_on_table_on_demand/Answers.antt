@@ -1,14 +1,13 @@
-use Rattle.std.proofs.Common.{rules, ◌≡◌, Option, Some, None, sym, ap, ◌∙◌, subst, arith, length}
-use Rattle.std.specs.Prelude.{slice_index_or, slice_get, slice_set}
+use Rattle.std.proofs.Common.{rules, None, sym, ap, ◌∙◌, subst, arith, length}
+use Rattle.std.specs.Prelude.{slice_get}
 use Rattle.std.specs.Option.{option_and_then}
 use Rattle.std.proofs.lemmas.List.{length-set}
-use Rattle.pool_memory.specs.declared.creators.LinearMemory.{LinearMemory}
-use Rattle.pool_alloc.specs.declared.on_demand_lease.OnDemandInstance.{OnDemandInstance}
 use Rattle.pool_run.specs.AtOnce.{given_table_op}
 use Rattle.pool_run.specs.OnDemandSeen.{AreLive, TableLeaseMovesOnDemand, made_tables}
 use Rattle.pool_run.specs.PartyRules.{rule_of}
 use Rattle.pool_run.proofs.Named.{taken_moved}
 use Rattle.pool_run.proofs.OnDemandParties.{taken_below, live_at, live_without}
+use Rattle.pool_run.proofs.OnDemandLive.{taken_keeps, none_keeps}
 use Rattle.pool_run.proofs.on_demand_tables.act_on_table_on_demand.Goals as goal
 
 pub act_on_taken-requires : goal.act_on_taken-requires
@@ -32,3 +31,9 @@ returns-in-Some-clause-moves g c =
 pub returns-in-Some-clause-unasked : goal.returns-in-Some-clause-unasked
 returns-in-Some-clause-unasked g c none =
     c.act_on_taken.ensures.unasked (sym (ap (option_and_then (λ g. slice_get (made_tables.in_grant g) c.args.table)) (sym c.take_from.ensures.value ∙ c.in-Some.is)) ∙ none)
+
+pub returns-in-None-clause-memories : goal.returns-in-None-clause-memories
+returns-in-None-clause-memories g c = none_keeps c.args.live.now.items c.args.of c.take_from.new.places.items (sym c.take_from.ensures.value ∙ c.in-None.is) c.take_from.ensures.rest
+
+pub returns-in-Some-clause-memories : goal.returns-in-Some-clause-memories
+returns-in-Some-clause-memories g c = taken_keeps c.args.live.now.items c.args.of c.take_from.new.places.items c.act_on_taken.new.live.items c.in-Some.grant (sym c.take_from.ensures.value ∙ c.in-Some.is) c.take_from.ensures.rest c.act_on_taken.ensures.memories

@@ -4,6 +4,7 @@ use Rattle.pool_run.specs.OnDemandSeen.{TableLeaseMovesOnDemand, made_tables}
 use Rattle.pool_run.specs.PartyRules.{rule_of}
 use Rattle.pool_run.proofs.Named.{put_back}
 use Rattle.pool_run.proofs.OnDemandParties.{live_with}
+use Rattle.pool_run.proofs.OnDemandLive.{live_keeps}
 use Rattle.pool_run.proofs.on_demand_tables.act_on_taken.Goals as goal
 
 pub returns-clause-moves : goal.returns-clause-moves
@@ -12,3 +13,6 @@ returns-clause-moves g c =
 
 pub returns-clause-held : goal.returns-clause-held
 returns-clause-held g c = live_with g.tells c.args.live.now.items c.args.of c.act_on_grant-grant.result.0 c.act_on_grant-grant.ensures.held c.requires.1.1.1.1
+
+pub returns-clause-memories : goal.returns-clause-memories
+returns-clause-memories g c = live_keeps c.args.live.now.items c.args.of c.args.grant c.act_on_grant-grant.result.0 c.requires.1.1.0 c.act_on_grant-grant.ensures.memories

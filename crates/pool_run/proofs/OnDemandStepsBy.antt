@@ -1,0 +1,13 @@
+-- Steps that meet faults are steps by the same relation, whatever they meet.
+use Rattle.std.proofs.Common.{ℕ, ◌+◌, List, [], ◌∷◌}
+use Rattle.pool_run.specs.OnDemand.{StepOnDemand}
+use Rattle.pool_run.specs.OnDemandFaults.{StepsMeeting}
+use Rattle.pool_run.specs.Private.{Terms, PrivateState, StepsBy}
+use Rattle.pool_run.specs.declared.command.Command.{Command}
+use Rattle.pool_run.specs.declared.reply.Reply.{Reply}
+
+pub meeting_by : (t : Terms) (n : ℕ) (commands : List Command) (replies : List Reply) (s : PrivateState) (met : ℕ) (end : PrivateState) → StepsMeeting t n commands replies s met end → StepsBy (StepOnDemand t) n commands replies s end
+meeting_by t n commands [] s met end steps = steps.0
+meeting_by t n [] (reply ∷ replies) s met end steps = absurd steps
+meeting_by t n (command ∷ commands) (reply ∷ replies) s met end steps =
+    (steps.0, steps.1.0, meeting_by t (n + 1) commands replies steps.0 steps.1.1.0 end steps.1.1.1.1)
