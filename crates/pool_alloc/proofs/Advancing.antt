@@ -1,10 +1,7 @@
 -- A step that the code makes, as a row of the table.
-use Rattle.std.proofs.Common.{◌≡◌, true, false, List, length, sym, ap, subst, ◌∙◌, Option, Some, None, Ok, Err, refl}
-use Rattle.std.specs.Prelude.{IfSome, slice_get}
-use Rattle.pool_memory.specs.Linear.{no_slot as no_image_slot}
-use Rattle.pool_slots.specs.SlotQueues.{empty_queue}
+use Rattle.std.proofs.Common.{◌≡◌, true, false, List, length, sym, ap, subst, ◌∙◌, Option, Some, None, Ok, Err, refl, IfSome, slice_get}
+use Rattle.pool_alloc.proofs.Imports.{no_image_slot, empty_queue, Exchange, Exchanged}
 use Rattle.pool_slots.specs.declared.heap_maker.HeapMakeFault.TheVariants as no_heap
-use Rattle.pool_limits.specs.Exchanges.{Exchange, Exchanged}
 use Rattle.pool_alloc.specs.PartyTold.{PartyTold}
 use Rattle.pool_alloc.specs.Answers.{MayBeTold, IsPlanned, AsksOf, MakesOf, LimiterHears}
 use Rattle.pool_alloc.specs.Steps.{tables_wanted, StepGiven, memories_wanted}

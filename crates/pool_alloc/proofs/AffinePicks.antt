@@ -1,16 +1,7 @@
 -- A pick by affinity alone leaves a shard, and gives out the slot that it answers.
-use Rattle.std.proofs.Common.{◌≡◌, ℕ, ◌+◌, ◌^◌, ◌<◌, length, refl, arith, Option, Some, None}
-use Rattle.std.specs.Prelude.{◌%◌, IfSome, option_map}
-use Rattle.std.specs.Option.{option_map_or}
-use Rattle.std.proofs.Math.Nat.{mod-lt}
-use Rattle.pool_hall.specs.Sum.{total}
-use Rattle.pool_index.specs.Part.{shard_units, slot_unit}
-use Rattle.pool_index.specs.Shard.{ShardState, IsShard, IsSameShard, Choice, warm_at, next_cold, affine_choice, affine_answer, after_affine_pick, after_choice, entry_at, slot_and_bytes}
-use Rattle.pool_index.specs.declared.ids.MemoryInModule.{MemoryInModule}
-use Rattle.pool_index.specs.declared.ids.SlotId.{SlotId}
-use Rattle.pool_index.proofs.Shards.{IsFree, warm_slot_free, after_warm_sound, after_cold_sound}
+use Rattle.std.proofs.Common.{◌≡◌, ℕ, ◌+◌, ◌^◌, ◌<◌, length, refl, arith, Option, Some, None, ◌%◌, IfSome, option_map}
+use Rattle.pool_alloc.proofs.Imports.{option_map_or, mod-lt, IsChoice, affine_taken, total, shard_units, slot_unit, ShardState, IsShard, IsSameShard, Choice, warm_at, next_cold, affine_choice, affine_answer, after_affine_pick, after_choice, entry_at, slot_and_bytes, MemoryInModule, SlotId, IsFree, warm_slot_free, after_warm_sound, after_cold_sound}
 use Rattle.pool_alloc.specs.Places.{Thing}
-use Rattle.pool_alloc.proofs.Picks.{IsChoice, affine_taken}
 use Rattle.pool_alloc.proofs.SlotCounts.{choice_more}
 
 -- where no slot is affine

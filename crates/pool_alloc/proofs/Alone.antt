@@ -1,10 +1,8 @@
 -- What the steps of one call do together, with no step of another call between them.
+use Rattle.std.proofs.Common.{◌≡◌, arith, refl, sym, ap, ◌∙◌, true, not, List, [], ◌∷◌, None, Some, ℕ, is_some}
+use Rattle.pool_alloc.proofs.Imports.{second_true, MakerTold, AllocError}
 use Rattle.pool_alloc.specs.declared.frame.Grant.{Grant}
 use Rattle.pool_alloc.specs.declared.frame.Call.{Call}
-use Rattle.std.proofs.Common.{◌≡◌, arith, refl, sym, ap, ◌∙◌, Bool, true, false, not, List, [], ◌∷◌, None, Some, ℕ}
-use Rattle.std.specs.Prelude.{◌&&◌, is_some}
-use Rattle.pool_pages.specs.MakerTold.{MakerTold}
-use Rattle.pool_slots.specs.declared.errors.AllocError.{AllocError}
 use Rattle.pool_alloc.specs.Alone.{IsStep, AreSteps, HasSameCounts, IsAsking}
 use Rattle.pool_alloc.specs.Calls.{MayBegin, begun_call}
 use Rattle.pool_alloc.specs.Places.{Thing, right_to, region_of, leased_count, tables_count, queued_count, freed_count, phase_count, frame_count, phase_instances, frame_memories, frame_tables, frame_instances, instances_for, phase_stacks, phase_heaps, phase_components}
@@ -20,10 +18,6 @@ use Rattle.pool_alloc.specs.declared.frame.Phase.TheVariants.{Idle}
 use Rattle.pool_alloc.proofs.Hands.{counts_none}
 use Rattle.pool_alloc.proofs.BegunCalls.{at_rest, begun_frame, begun_count, begun_instances, begun_memories, begun_tables, begun_stacks, begun_components, begun_heaps, idle_of, call_has}
 use Rattle.pool_alloc.proofs.Steps.{step_ok, can_still}
-
-second : (a b : Bool) → (a && b) ≡ true → b ≡ true
-second true b both = both
-second false b both = absurd cc
 
 module _ {P H : Type 0} (maker : MakerTold) where
   idle_is : (p : Phase P H) → is_idle p ≡ true → p ≡ Idle
@@ -42,7 +36,7 @@ module _ {P H : Type 0} (maker : MakerTold) where
       record {
         conserves = ok.conserves;
         can = can_still maker steps.0 steps.1.0 c f a can steps.1.1;
-        ended = λ on. second (not (is_idle f.phase)) (is_idle a.frame.phase) (sym ok.ends.answer ∙ on);
+        ended = λ on. second_true (not (is_idle f.phase)) (is_idle a.frame.phase) (sym ok.ends.answer ∙ on);
       }
 
   -- where the first don't answer

@@ -1,19 +1,9 @@
 -- The rows of a request until it has a slot.
+use Rattle.std.proofs.Common.{◌≡◌, ℕ, ◌+◌, ◌-◌, ◌<◌, ◌≤◌, Bool, true, false, List, [], length, refl, sym, ap, subst, inl, arith, Option, Some, None, ◌==◌, ◌%◌, nat_lt, IfSome}
+use Rattle.pool_alloc.proofs.Imports.{told_weaker, of_kind, memory_kind, table_kind, stack_kind, heap_kind, Allocator, SlotName, SlotKind, pick_unit, ltb-true, ltb-false, eqb-true, eqb-false, All-nil, All-same, mod-lt, MakerTold, Unsupported, ShardState, slot_number, after_pick, pick_answer, SlotId, Queue, after_take, taken_into, AllocError, no_slots}
 use Rattle.pool_alloc.specs.declared.frame.Outcome.TheVariants as answer
 use Rattle.pool_alloc.proofs.RegionRows.{heap_is_next}
-use Rattle.pool_slots.specs.SlotNames.{of_kind}
-use Rattle.pool_hall.specs.declared.unit_name.SlotKind.TheVariants.{Memory as memory_kind, Table as table_kind, Stack as stack_kind, Heap as heap_kind}
-use Rattle.pool_slots.specs.declared.plan.Allocator.{Allocator}
-use Rattle.pool_slots.specs.declared.slot_name.SlotName.{SlotName}
-use Rattle.pool_hall.specs.declared.unit_name.SlotKind.{SlotKind}
-use Rattle.pool_hall.specs.Unit.{pick_unit}
 use Rattle.pool_alloc.proofs.PlanPlaces.{allocator_is, IsShardPlace, IsQueuePlace, apart_places, tried_role, tried_is_shard, tried_is_queue, allocator_most, allocator_holds}
-use Rattle.std.proofs.Common.{◌≡◌, ℕ, ◌+◌, ◌-◌, ◌<◌, ◌≤◌, Bool, true, false, List, [], length, refl, sym, ap, subst, inl, arith, Option, Some, None}
-use Rattle.std.specs.Prelude.{◌==◌, ◌%◌, nat_lt, IfSome}
-use Rattle.std.proofs.lemmas.Bool.{ltb-true, ltb-false, eqb-true, eqb-false}
-use Rattle.std.proofs.lemmas.List.Elements.{All-nil, All-same}
-use Rattle.std.proofs.Math.Nat.{mod-lt}
-use Rattle.pool_pages.specs.MakerTold.{MakerTold}
 use Rattle.pool_alloc.specs.PartyTold.{PartyTold}
 use Rattle.pool_alloc.specs.declared.pool_core.PoolCore.{PoolCore}
 use Rattle.pool_alloc.specs.declared.frame.Ending.{Ending}
@@ -24,13 +14,7 @@ use Rattle.pool_alloc.specs.declared.frame.Frame.{Frame}
 use Rattle.pool_alloc.specs.declared.frame.FreedSlot.{FreedSlot}
 use Rattle.pool_alloc.specs.declared.frame.Phase.{Phase}
 use Rattle.pool_alloc.specs.declared.frame.Phase.TheVariants.{Idle, Key, Validate, TestStack, CountInstance, Pick, TakeQueue, TakeRegion, TakeHeap}
-use Rattle.pool_pages.specs.declared.unsupported.Unsupported.{Unsupported}
-use Rattle.pool_index.specs.Shard.{ShardState, slot_number, after_pick, pick_answer}
-use Rattle.pool_index.specs.declared.ids.SlotId.{SlotId}
-use Rattle.pool_slots.specs.SlotQueues.{Queue, after_take, taken_into}
-use Rattle.pool_slots.specs.declared.errors.AllocError.{AllocError}
 use Rattle.pool_slots.specs.declared.errors.AllocError.TheVariants as refusal
-use Rattle.pool_slots.proofs.SlotRuns.{no_slots}
 use Rattle.pool_alloc.specs.Bounds.{all_slots, flush_bound, PoolSizes, give_back_bound, sizes_of, flush_left, objects_left, steps_left}
 use Rattle.pool_alloc.specs.Leases.{Lease}
 use Rattle.pool_alloc.specs.PoolTables.{IsTableLease}
@@ -55,7 +39,6 @@ use Rattle.pool_alloc.proofs.Picks.{picked_sound, picked_same, picked_inside}
 use Rattle.pool_alloc.proofs.Searching.{tried_full, still_full, taken_empty, was_empty, still_empty, full_beside}
 use Rattle.pool_alloc.proofs.SlotCounts.{picked_count, pick_counts}
 use Rattle.pool_alloc.proofs.Supporting.{asked_supported}
-use Rattle.pool_alloc.proofs.Telling.{told_weaker}
 use Rattle.pool_alloc.proofs.Ways.{Can, aims_grant, same_times, first_object, next_round, next_queue, kept_part, same_way, full_way}
 use Rattle.pool_alloc.proofs.PoolParts.{planned_shard, sound_shard, sound_queue, shard_part, queue_part, slot_of_shard}
 use Rattle.pool_slots.specs.declared.part.PoolPart.TheVariants as part

@@ -1,13 +1,6 @@
 -- An instantiation seen as one of the answers that may come.
-use Rattle.std.proofs.Common.{◌≡◌, ◌⊎◌, ℕ, ◌≤◌, Bool, Option, Some, None, ap}
-use Rattle.std.specs.Prelude.{Result, Ok, Err, OnOk, OnErr, IfSome, is_err, is_ok, option_map}
-use Rattle.pool_pages.specs.Count.{rounded_up}
-use Rattle.pool_images.specs.Images.{Image}
-use Rattle.pool_images.specs.Orders.{Follows, resizing, replacing}
-use Rattle.pool_images.specs.Slots.{Slot, SlotIdentity, IsSlot, FitsInto, IsLeft, IsBegun, IsSized, HasImage, reused, replaced, name_of}
-use Rattle.pool_memory.specs.Static.{CanHold}
-use Rattle.pool_memory.specs.Making.{EndsWithin}
-use Rattle.pool_memory.proofs.Begun.{instantiated_holds}
+use Rattle.std.proofs.Common.{◌≡◌, ◌⊎◌, ℕ, ◌≤◌, Bool, Option, Some, None, ap, Result, Ok, Err, OnOk, OnErr, IfSome, is_err, is_ok, option_map}
+use Rattle.pool_alloc.proofs.Imports.{rounded_up, Image, Follows, resizing, replacing, Slot, SlotIdentity, IsSlot, FitsInto, IsLeft, IsBegun, IsSized, HasImage, reused, replaced, name_of, CanHold, EndsWithin, instantiated_holds}
 use Rattle.pool_alloc.specs.Answers.{InstantiatesAs, FollowsPlan}
 
 pub instantiates_as : {T E : Type 0} (r : Result T E) (initial : ℕ) (hide : Bool) (image : Option Image) (old new : Slot)

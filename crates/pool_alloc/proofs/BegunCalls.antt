@@ -1,10 +1,8 @@
 -- A party's frame as it is made, and as a call begins in it.
+use Rattle.std.proofs.Common.{◌≡◌, ℕ, ◌+◌, ◌≤◌, false, List, [], ◌∷◌, length, refl, subst, ap, ◌∙◌, arith, ◌*◌, inl, Bool, true, ◌<◌, nat_lt}
+use Rattle.pool_alloc.proofs.Imports.{Plan, All-nil, All-head, All-tail, MakerTold, ltb-true, and_parts, CompiledModuleId}
 use Rattle.pool_alloc.specs.declared.frame.Object.TheVariants.{Memory, Table}
-use Rattle.pool_slots.specs.declared.plan.Plan.{Plan}
-use Rattle.std.proofs.Common.{◌≡◌, ℕ, ◌+◌, ◌≤◌, false, List, [], ◌∷◌, length, refl, subst, ap, ◌∙◌, arith, ◌*◌, inl, Bool, true, ◌<◌}
-use Rattle.std.proofs.lemmas.List.Elements.{All-nil, All-head, All-tail}
-use Rattle.pool_pages.specs.MakerTold.{MakerTold}
-use Rattle.pool_alloc.specs.Bounds.{PoolSizes, return_bound, give_back_bound, bound_of, sizes_of, steps_at, steps_left}
+use Rattle.pool_alloc.specs.Bounds.{PoolSizes, return_bound, give_back_bound, bound_of, sizes_of, steps_at, steps_left, purge_left, purge_bound}
 use Rattle.pool_alloc.specs.Leases.{Lease}
 use Rattle.pool_alloc.specs.PoolTables.{IsTableLease}
 use Rattle.pool_alloc.specs.TableLeases.{LeasedTable}
@@ -28,10 +26,6 @@ use Rattle.pool_alloc.specs.declared.frame.Call.TheVariants as call
 use Rattle.pool_alloc.proofs.FlushFinds.{none_waits}
 use Rattle.pool_alloc.proofs.Hands.{Held, held_of, frame_of, one_more, counts_none}
 use Rattle.pool_alloc.proofs.QueueCounts.{leased_first, tables_first}
-use Rattle.std.specs.Prelude.{nat_lt}
-use Rattle.std.proofs.lemmas.Bool.{ltb-true, and_parts}
-use Rattle.pool_pages.specs.declared.module_types.CompiledModuleId.{CompiledModuleId}
-use Rattle.pool_alloc.specs.Bounds.{purge_left, purge_bound}
 use Rattle.pool_alloc.specs.Purges.{has_turns, purge_begun}
 use Rattle.pool_alloc.specs.declared.purge.PurgeStep.TheVariants as purging_step
 use Rattle.pool_alloc.proofs.PurgeBounds.{picks_of, purge_begins}

@@ -1,21 +1,11 @@
 -- Sums over the numbers below one, and that a list which has each of them once at most is no longer than that number.
-use Rattle.std.proofs.lemmas.List.Elements.{All-head, All-tail}
 use Rattle.std.proofs.Common.{◌≡◌, ℕ, zero, suc, ◌+◌, ◌<◌, ◌≤◌, List, [], ◌∷◌, length, refl, subst, inl, inr, arith, All}
-use Rattle.std.proofs.lemmas.Bool.{cases_lt}
-use Rattle.pool_slots.specs.SlotNames.{of_kind}
-use Rattle.pool_slots.specs.SlotQueues.{Queued}
-use Rattle.pool_slots.specs.declared.plan.Plan.{Plan}
-use Rattle.pool_slots.specs.declared.slot_name.SlotName.{SlotName}
+use Rattle.pool_alloc.proofs.Imports.{All-head, All-tail, cases_lt, of_kind, Queued, Plan, SlotName, SlotKind, memory_kind, table_kind, stack_kind, heap_kind, RegionNumbers, MakerTold, Slot}
 use Rattle.pool_alloc.specs.Leases.{memory_slot}
 use Rattle.pool_alloc.specs.Places.{right_to, both_count, queued_count}
-use Rattle.pool_hall.specs.declared.unit_name.SlotKind.{SlotKind}
-use Rattle.pool_hall.specs.declared.unit_name.SlotKind.TheVariants.{Memory as memory_kind, Table as table_kind, Stack as stack_kind, Heap as heap_kind}
-use Rattle.pool_slots.specs.declared.slot_name.RegionNumbers.{RegionNumbers}
 use Rattle.pool_alloc.specs.Bounds.{all_slots}
 use Rattle.pool_alloc.specs.StackLeases.{stack_slot}
 use Rattle.pool_alloc.specs.TableLeases.{table_slot}
-use Rattle.pool_pages.specs.MakerTold.{MakerTold}
-use Rattle.pool_images.specs.Slots.{Slot}
 use Rattle.pool_alloc.specs.declared.pool_core.Settings.{Settings}
 use Rattle.pool_alloc.specs.Sound.{HasCells, MayQueue, IsQueuedOf}
 use Rattle.pool_alloc.proofs.SlotCounts.{slot_once, region_rights}

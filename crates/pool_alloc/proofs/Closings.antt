@@ -1,12 +1,6 @@
 -- A pool is closed: each flush of a queue keeps what holds, and in the end no slot is used.
-use Rattle.std.proofs.Common.{◌≡◌, ℕ, zero, suc, ◌+◌, ◌<◌, ◌≤◌, Bool, true, false, List, [], ◌∷◌, length, All, refl, sym, ap, subst, ◌∙◌, arith, Option, Some, None, get_or}
-use Rattle.std.specs.Prelude.{if◌then◌else◌, not, sum_by, count_by, is_some, ◌^◌}
-use Rattle.std.proofs.lemmas.List.Elements.{All-nil, All-cons}
-use Rattle.pool_hall.specs.declared.unit_name.SlotKind.{SlotKind}
-use Rattle.pool_hall.specs.declared.unit_name.UnitName.{UnitName}
-use Rattle.pool_pages.specs.MakerTold.{MakerTold}
-use Rattle.pool_limits.specs.LimiterTold.{default_quotas, no_refusals}
-use Rattle.pool_slots.specs.SlotQueues.{Queue, Queued, after_take, first_of_kind, others_of_kind, IsSpareOf}
+use Rattle.std.proofs.Common.{◌≡◌, ℕ, zero, suc, ◌+◌, ◌<◌, ◌≤◌, Bool, true, false, List, [], ◌∷◌, length, All, refl, sym, ap, subst, ◌∙◌, arith, Option, Some, None, get_or, if◌then◌else◌, not, sum_by, count_by, is_some, ◌^◌}
+use Rattle.pool_alloc.proofs.Imports.{All-nil, All-cons, SlotKind, UnitName, MakerTold, default_quotas, no_refusals, Queue, Queued, after_take, first_of_kind, others_of_kind, IsSpareOf, list_all, eq-eqb, sum_by-cons, mod-eq_of_lt, total, shard_units, used_units, ShardState, used_count, one_if, MemoryInModule, all_away, all_kept, part_kept, units_of_slots, part_at, IsAt, Role, shard_role, queue_role, role_at, PoolPart}
 use Rattle.pool_slots.specs.declared.part.PoolPart.TheVariants as part
 use Rattle.pool_alloc.specs.Calls.{frame_made}
 use Rattle.pool_alloc.specs.Closing.{nth_queue, AreEmptied, IsClosingAt, IsBare, IsFlushing, IsClosing, IsClosed, closing_phase, queue_taken, frame_taking, frame_closing, AreAtHome, IsGivenBack, has_free}
@@ -45,19 +39,6 @@ use Rattle.pool_alloc.proofs.Searching.{still_empty, taken_empty}
 use Rattle.pool_alloc.proofs.Stages.{first_can_be_put, first_can_be_freed, local_is_spare}
 use Rattle.pool_alloc.proofs.Steps.{step_ok, can_still, step_fewer, can_try_queue}
 use Rattle.pool_alloc.proofs.Wholes.{whole_fits, call_has_slots}
-use Rattle.std.specs.List.{list_all}
-use Rattle.std.proofs.lemmas.Bool.{eq-eqb}
-use Rattle.std.proofs.lemmas.List.Sums.{sum_by-cons}
-use Rattle.std.proofs.Math.Nat.{mod-eq_of_lt}
-use Rattle.pool_hall.specs.Sum.{total}
-use Rattle.pool_index.specs.Part.{shard_units, used_units}
-use Rattle.pool_index.specs.Shard.{ShardState, used_count, one_if}
-use Rattle.pool_index.specs.declared.ids.MemoryInModule.{MemoryInModule}
-use Rattle.pool_slots.specs.ListUnits.{all_away, all_kept}
-use Rattle.pool_slots.specs.PartUnits.{part_kept, units_of_slots}
-use Rattle.pool_slots.specs.Parts.{part_at, IsAt}
-use Rattle.pool_slots.specs.Plans.{Role, shard_role, queue_role, role_at}
-use Rattle.pool_slots.specs.declared.part.PoolPart.{PoolPart}
 use Rattle.pool_alloc.specs.CanStep.{CanTryQueue}
 use Rattle.pool_alloc.proofs.MadePools.{none_of_all}
 use Rattle.pool_alloc.proofs.Ways.{aims_back}
@@ -272,9 +253,6 @@ module _ {P H : Type 0} (maker : MakerTold) where
   idle_nothing : (t : Thing) (p : Phase P H) → p ≡ Idle → (phase_count t p ≡ 0) × (phase_instances p ≡ 0) × (phase_components p ≡ 0) × (phase_memories p ≡ 0) × (phase_tables p ≡ 0) × (phase_stacks p ≡ 0) × (phase_heaps p ≡ 0)
   idle_nothing t p idle = rw idle (refl, refl, refl, refl, refl, refl, refl)
 
-  abbrev place_of : ℕ → PoolCore P H → ℕ
-  place_of n c = nth_queue n c
-
   place_is : (n : ℕ) (c : PoolCore P H) → IsCore maker c → IsQueuePlace c.plan (nth_queue n c)
   place_is n c core = tried_is_queue n c.plan (length c.parts) (frame_made {P = P} {H = H} 0 c.settings) core.plan
 
@@ -340,9 +318,9 @@ module _ {P H : Type 0} (maker : MakerTold) where
       kept_by queue_role (part.Queue q) role at is =
           let found = queue_of_role c.plan (length c.parts) p core.plan role in
           let i : ℕ = found.0 in
-          let home : nth_queue i c ≡ p = queue_tried_at c.plan i (frame_made {P = P} {H = H} 0 c.settings) core.plan.shared ∙ ap (λ (m : ℕ). c.plan.first_queue + m) (mod-eq_of_lt (let low : 0 + i < c.plan.queues = omega (arith, found.1) in low)) ∙ omega (arith, found.2) in
+          let home : nth_queue i c ≡ p = queue_tried_at c.plan i (frame_made {P = P} {H = H} 0 c.settings) ∙ ap (λ (m : ℕ). c.plan.first_queue + m) (mod-eq_of_lt (let low : 0 + i < c.plan.queues = omega (arith, found.1) in low)) ∙ omega (arith, found.2) in
           let S : ℕ → Type 0 = λ m. (queue_at m c).slots ≡ [] in
-          let none : (queue_at p c).slots ≡ [] = subst S home (emptied i (omega (arith, found.1, queues_all c.plan core.plan.shared))) in
+          let none : (queue_at p c).slots ≡ [] = subst S home (emptied i (omega (arith, found.1, queues_all c.plan))) in
           let Q : PoolPart P H → Type 0 = λ y. (queue_in y).slots ≡ [] in
           ap units_of_slots (subst Q at none)
       kept_by r (part.Queue q) role at is = absurd is
@@ -415,12 +393,12 @@ module _ {P H : Type 0} (maker : MakerTold) where
   closed_by n c f is closed = subst (λ (m : ℕ). IsClosed maker m c f) is closed
 
   -- What the code of the first step needs.
-  pub can_take : (n : ℕ) (c : PoolCore P H) (f : Frame P H) → IsClosed maker n c f → CanTryQueue c.plan 0 × IsAt IsQueuePart (nth_queue n c) c.parts × IsSpareOf (queue_at (nth_queue n c) c) f.local × (c.counters.core_instances + 1 < 2 ^ 64)
+  pub can_take : (n : ℕ) (c : PoolCore P H) (f : Frame P H) → IsClosed maker n c f → CanTryQueue c.plan × IsAt IsQueuePart (nth_queue n c) c.parts × IsSpareOf (queue_at (nth_queue n c) c) f.local × (c.counters.core_instances + 1 < 2 ^ 64)
   can_take n c f closed =
       let is = closed.0 in
       let rest = at_rest maker c.settings c.plan f is.frame closed.1 in
       let below : IsQueuePlace c.plan (nth_queue n c) = place_is n c is.core in (
-        can_try_queue maker 0 c is.core,
+        can_try_queue maker c is.core,
         queue_part maker (nth_queue n c) c is.core below,
         local_is_spare maker (nth_queue n c) c f is.core is.frame below rest.settled.no_ranges rest.settled.no_slots,
         omega (arith, is.whole.instances, instances_are f is.flushing.1.asked, (idle_nothing (λ u. 0) f.phase closed.1).1),

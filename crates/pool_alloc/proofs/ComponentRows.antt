@@ -1,10 +1,6 @@
 -- The rows of a component.
-use Rattle.std.proofs.Common.{◌≡◌, ℕ, ◌+◌, ◌-◌, Bool, true, false, refl, sym, ap, subst, arith, Option, Some, None}
-use Rattle.std.specs.Prelude.{nat_lt}
-use Rattle.std.proofs.lemmas.Bool.{ltb-true, ltb-false}
-use Rattle.pool_pages.specs.MakerTold.{MakerTold}
-use Rattle.pool_pages.specs.declared.module_types.ComponentInfo.{ComponentInfo}
-use Rattle.pool_pages.specs.declared.unsupported.Unsupported.{Unsupported}
+use Rattle.std.proofs.Common.{◌≡◌, ℕ, ◌+◌, ◌-◌, Bool, true, false, refl, sym, ap, subst, arith, Option, Some, None, nat_lt}
+use Rattle.pool_alloc.proofs.Imports.{ltb-true, ltb-false, MakerTold, ComponentInfo, Unsupported}
 use Rattle.pool_alloc.specs.PartyTold.{PartyTold}
 use Rattle.pool_slots.specs.declared.errors.AllocError.TheVariants as refusal
 use Rattle.pool_alloc.specs.Refusals.{component_refused}

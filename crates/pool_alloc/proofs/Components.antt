@@ -1,22 +1,7 @@
 -- Components are counted by the rows of their own, and by no other.
-use Rattle.pool_slots.specs.declared.slot_name.SlotName.{SlotName}
-use Rattle.pool_slots.specs.declared.heap_maker.HeapMakeFault.{HeapMakeFault}
-use Rattle.pool_slots.specs.HeapLists.{heap_in}
+use Rattle.std.proofs.Common.{◌≡◌, ◌+◌, ◌-◌, ◌<◌, ◌≤◌, ℕ, Bool, true, false, List, [], ◌∷◌, length, refl, arith, Option, Some, None, drop, ◌==◌, ◌||◌, nat_lt, nat_le, if◌then◌else◌, Result, Ok, Err}
+use Rattle.pool_alloc.proofs.Imports.{SlotName, HeapMakeFault, heap_in, MakerTold, Told, Unsupported, SlotKind, memory_kind, table_kind, stack_kind, heap_kind, Slot, ShardState, pick_answer, slot_number, affine_answer, SlotId, MemoryState, slot_of, Cell, unmapped, unknown, previously_used, taken, Queue, Queued, first_of_kind, others_of_kind, after_append, taken_into, drained, AllocError, Plan}
 use Rattle.pool_alloc.specs.HeapLeases.{LeasedHeap}
-use Rattle.std.proofs.Common.{◌≡◌, ◌+◌, ◌-◌, ◌<◌, ◌≤◌, ℕ, Bool, true, false, List, [], ◌∷◌, length, refl, arith, Option, Some, None}
-use Rattle.std.specs.Prelude.{drop, ◌==◌, ◌||◌, nat_lt, nat_le, if◌then◌else◌, Result, Ok, Err}
-use Rattle.pool_pages.specs.MakerTold.{MakerTold}
-use Rattle.pool_pages.specs.Told.{Told}
-use Rattle.pool_pages.specs.declared.unsupported.Unsupported.{Unsupported}
-use Rattle.pool_hall.specs.declared.unit_name.SlotKind.{SlotKind}
-use Rattle.pool_hall.specs.declared.unit_name.SlotKind.TheVariants.{Memory as memory_kind, Table as table_kind, Stack as stack_kind, Heap as heap_kind}
-use Rattle.pool_images.specs.Slots.{Slot}
-use Rattle.pool_index.specs.Shard.{ShardState, pick_answer, slot_number}
-use Rattle.pool_index.specs.declared.ids.SlotId.{SlotId}
-use Rattle.pool_memory.specs.Memories.{MemoryState, slot_of}
-use Rattle.pool_slots.specs.Cells.{Cell, unmapped, unknown, previously_used, taken}
-use Rattle.pool_slots.specs.SlotQueues.{Queue, Queued, first_of_kind, others_of_kind, after_append, taken_into, drained}
-use Rattle.pool_slots.specs.declared.errors.AllocError.{AllocError}
 use Rattle.pool_alloc.specs.Leases.{Lease, slot_taken}
 use Rattle.pool_alloc.specs.Objects.{objects_in, objects_wanted}
 use Rattle.pool_alloc.specs.Own.{memory_made, reset_into}
@@ -43,9 +28,7 @@ use Rattle.pool_alloc.specs.declared.frame.Outcome.{Outcome}
 use Rattle.pool_alloc.specs.declared.frame.Outcome.TheVariants as answer
 use Rattle.pool_alloc.specs.declared.frame.Phase.{Phase}
 use Rattle.pool_alloc.specs.declared.frame.Phase.TheVariants.{Idle, Key, Validate, TestStack, CountInstance, Pick, TakeQueue, TakeRegion, Empty, Instantiate, MakeMemory, MakeTable, CountObject, PutBack, FreeOne, UncountObject, Reset, Merge, Flush, UncountInstance, ValidateComponent, CountComponent, UncountComponent, Purge, Release, TestHeap, TakeHeap, MakeHeap, CountHeap, PutNoHeap, UncountHeap, PutHeap, FreeHeap}
-use Rattle.pool_slots.specs.declared.plan.Plan.{Plan}
 use Rattle.pool_alloc.specs.declared.frame.TakenSlot.{TakenSlot}
-use Rattle.pool_index.specs.Shard.{affine_answer}
 use Rattle.pool_alloc.specs.Purges.{has_turns, purged_memory, purged_stripe, behind_memory, behind_turn, purge_to, affine_picked, pick_affine_row, purge_row}
 use Rattle.pool_alloc.specs.Releases.{released_stripe, taking, not_resident, releasing, behind_stripe, free_first, drain_at, drain_from, reserve_row, warm_taken, release_row}
 use Rattle.pool_alloc.specs.declared.frame.FreedSlot.{FreedSlot}

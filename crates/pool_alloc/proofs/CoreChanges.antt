@@ -1,25 +1,13 @@
 -- The pool's parts stay sound where one of them changes.
 use Rattle.std.proofs.Common.{◌≡◌, ℕ, ◌<◌, List, length, sym, ◌∙◌, subst, inl, inr, get_or, set}
-use Rattle.std.proofs.lemmas.Bool.{cases_eq}
-use Rattle.std.proofs.lemmas.List.{length-set, get_or-set_same, get_or-set_other}
-use Rattle.pool_pages.specs.MakerTold.{MakerTold}
-use Rattle.pool_index.specs.Shard.{ShardState, IsShard, IsSameShard}
-use Rattle.pool_slots.specs.RegionCells.{CellState}
-use Rattle.pool_slots.specs.SlotQueues.{Queue}
+use Rattle.pool_alloc.proofs.Imports.{cases_eq, length-set, get_or-set_same, get_or-set_other, MakerTold, ShardState, IsShard, IsSameShard, CellState, Queue, IsShardOf, Role, cell_place, Allocator, HeapEntry, PoolPart, SlotName, part_at}
 use Rattle.pool_alloc.specs.Steps.{shard_at, heaps_at, with_shard, with_cell, with_queue, with_heaps, with_part, part_holding}
 use Rattle.pool_alloc.specs.Sound.{IsCore, IsPoolPlan, IsShared, IsPartAt, IsPartFor, IsSlotName, IsCellOf}
 use Rattle.pool_alloc.specs.declared.pool_core.PoolCore.{PoolCore}
 use Rattle.pool_alloc.specs.declared.pool_core.Counters.{Counters}
 use Rattle.pool_alloc.proofs.PlanPlaces.{IsShardPlace, IsQueuePlace, cell_role_at, heaps_place}
 use Rattle.pool_alloc.proofs.PoolParts.{planned_shard, heaps_long, cell_again, planned_cell}
-use Rattle.pool_slots.specs.ListUnits.{IsShardOf}
-use Rattle.pool_slots.specs.Plans.{Role, cell_place}
-use Rattle.pool_slots.specs.declared.plan.Allocator.{Allocator}
-use Rattle.pool_slots.specs.declared.heap_list.HeapEntry.{HeapEntry}
-use Rattle.pool_slots.specs.declared.part.PoolPart.{PoolPart}
 use Rattle.pool_slots.specs.declared.part.PoolPart.TheVariants as part
-use Rattle.pool_slots.specs.declared.slot_name.SlotName.{SlotName}
-use Rattle.pool_slots.specs.Parts.{part_at}
 
 -- what holds of an element at its place, where one was replaced
 pub at_set : {X : Type 0} (Q : ℕ → X → Type 0) (xs : List X) (j k : ℕ) (x d : X) → k < length xs → Q j x → Q k (get_or xs k d) → Q k (get_or (set xs j x) k d)

@@ -1,8 +1,7 @@
 -- A frame that fits the pool still fits after its step, and after another's.
-use Rattle.pool_alloc.specs.Leases.{memory_slot}
-use Rattle.pool_slots.specs.HeapUnits.{heap_slot}
 use Rattle.std.proofs.Common.{Option, Some, None, ◌≡◌, refl, arith}
-use Rattle.pool_slots.specs.declared.slot_name.SlotName.{SlotName}
+use Rattle.pool_alloc.proofs.Imports.{heap_slot, SlotName}
+use Rattle.pool_alloc.specs.Leases.{memory_slot}
 use Rattle.pool_alloc.specs.Places.{right_to, region_of}
 use Rattle.pool_alloc.specs.Sound.{FitsCore}
 use Rattle.pool_alloc.specs.Turns.{After}

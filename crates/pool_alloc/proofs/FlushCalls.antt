@@ -1,11 +1,6 @@
 -- A part of a flush that the code makes, as the row of a flush.
-use Rattle.std.proofs.Common.{◌≡◌, ℕ, ◌<◌, ◌≤◌, Bool, true, false, List, length, refl, sym, ap, ◌∙◌, subst, arith, Option, None}
-use Rattle.std.specs.Prelude.{◌==◌, is_some, if◌then◌else◌}
-use Rattle.std.specs.List.{list_any}
-use Rattle.std.proofs.lemmas.Bool.{eq-eqb, ne_eqb}
-use Rattle.pool_hall.specs.declared.unit_name.SlotKind.{SlotKind}
-use Rattle.pool_hall.specs.declared.unit_name.SlotKind.TheVariants.{Memory as memory_kind, Table as table_kind}
-use Rattle.pool_slots.specs.SlotQueues.{Queue, Queued, is_to_zero, first_of_kind, others_of_kind, first_zeroed}
+use Rattle.std.proofs.Common.{◌≡◌, ℕ, ◌<◌, ◌≤◌, Bool, true, false, List, length, refl, sym, ap, ◌∙◌, subst, arith, Option, None, ◌==◌, is_some, if◌then◌else◌}
+use Rattle.pool_alloc.proofs.Imports.{list_any, eq-eqb, ne_eqb, none_zeroed, SlotKind, memory_kind, table_kind, Queue, Queued, is_to_zero, first_of_kind, others_of_kind, first_zeroed}
 use Rattle.pool_alloc.specs.Answers.{FlushTold, FlushPlanned}
 use Rattle.pool_alloc.specs.CanStep.{CanFlush}
 use Rattle.pool_alloc.specs.Rows.{FlushStep, run, zero, put, free, SettlesTo, some_queued, kind_settled, put_step, settled_step, flush_step, flush_row}
@@ -15,7 +10,7 @@ use Rattle.pool_alloc.specs.declared.pool_core.PoolCore.{PoolCore}
 use Rattle.pool_alloc.specs.declared.frame.Frame.{Frame}
 use Rattle.pool_alloc.specs.declared.frame.FreedSlot.{FreedSlot}
 use Rattle.pool_alloc.proofs.Advancing.{nothing_told}
-use Rattle.pool_alloc.proofs.KindCounts.{none_others, none_zeroed}
+use Rattle.pool_alloc.proofs.KindCounts.{none_others}
 
 some_ranges : (n : ℕ) → 0 < n → (n == 0) ≡ false
 some_ranges n some = ne_eqb n 0 (λ e. omega (arith, some, e))

@@ -1,19 +1,6 @@
 -- What the next part of a flush finds: of which kinds slots are queued, and wait to be freed.
-use Rattle.pool_slots.specs.SlotNames.{of_kind}
-use Rattle.std.proofs.Common.{◌≡◌, ◌≢◌, ℕ, ◌<◌, Bool, true, false, List, [], ◌∷◌, ◌++◌, length, refl, sym, ap, ◌∙◌, subst, arith, inl, inr, ◌⊎◌, Option, None, Some, true≢false, All}
-use Rattle.std.specs.Prelude.{◌==◌, ◌&&◌, not, is_some, IsSome, IfSome, All, if◌then◌else◌}
-use Rattle.std.specs.List.{AllByRecursion, list_any}
-use Rattle.std.proofs.lemmas.Bool.{cases_Bool, or_parts}
-use Rattle.std.proofs.lemmas.List.Elements.{All-nil, All-cons, All-head, All-tail, All-same, All-push}
-use Rattle.pool_hall.specs.declared.unit_name.SlotKind.{SlotKind}
-use Rattle.pool_hall.specs.declared.unit_name.SlotKind.TheVariants.{Memory as memory_kind, Table as table_kind, Stack as stack_kind, Heap as heap_kind}
-use Rattle.pool_slots.specs.Plans.{Role, shard_role, role_at, home_of}
-use Rattle.pool_slots.specs.SlotQueues.{Queue, Queued, IsQueue, IsLeftBy, CanBeZeroed, same_kind, same_slot, first_slot, after_run, is_to_zero, first_of_kind, others_of_kind, first_zeroed}
-use Rattle.pool_slots.specs.declared.plan.Allocator.{Allocator}
-use Rattle.pool_slots.specs.declared.plan.Plan.{Plan}
-use Rattle.pool_slots.specs.declared.slot_name.SlotName.{SlotName}
-use Rattle.pool_slots.proofs.SlotNames.{kind_self}
-use Rattle.pool_slots.proofs.SlotPops.{can_zero}
+use Rattle.std.proofs.Common.{◌≡◌, ◌≢◌, ℕ, ◌<◌, Bool, true, false, List, [], ◌∷◌, ◌++◌, length, refl, sym, ap, ◌∙◌, subst, arith, inl, inr, ◌⊎◌, Option, None, Some, true≢false, All, ◌==◌, ◌&&◌, not, is_some, IsSome, IfSome, if◌then◌else◌}
+use Rattle.pool_alloc.proofs.Imports.{of_kind, AllByRecursion, list_any, cases_Bool, or_parts, All-nil, All-cons, All-head, All-tail, All-same, All-push, SlotKind, memory_kind, table_kind, stack_kind, heap_kind, Role, shard_role, role_at, home_of, Queue, Queued, IsQueue, IsLeftBy, CanBeZeroed, same_kind, same_slot, first_slot, after_run, is_to_zero, first_of_kind, others_of_kind, first_zeroed, Allocator, Plan, SlotName, kind_self, can_zero}
 use Rattle.pool_alloc.specs.Answers.{Decommits}
 use Rattle.pool_alloc.specs.Places.{right_to, queued_count}
 use Rattle.pool_alloc.specs.Rows.{FlushStep, run, zero, put, free, flush_kinds, some_queued, kind_queued, kind_settled, settled_step, flush_step}
@@ -22,7 +9,7 @@ use Rattle.pool_alloc.specs.Steps.{no_allocator, first_shard}
 use Rattle.pool_alloc.specs.declared.frame.FreedSlot.{FreedSlot}
 use Rattle.pool_alloc.proofs.FreedSlots.{first_of}
 use Rattle.pool_alloc.proofs.Hands.{empty_length, some_length}
-use Rattle.pool_alloc.proofs.KindCounts.{first_has, first_kind, none_first, first_none, others_have, zeroed_kinds, kinds_zip, kinds_map}
+use Rattle.pool_alloc.proofs.KindCounts.{first_has, first_kind, none_first}
 use Rattle.pool_alloc.proofs.PlanPlaces.{at_home}
 use Rattle.pool_alloc.proofs.SlotCounts.{slot_once}
 

@@ -1,26 +1,11 @@
 -- What a flush does, and what each part of it leaves.
+use Rattle.std.proofs.Common.{◌≡◌, ◌≢◌, ℕ, zero, suc, ◌+◌, ◌*◌, ◌<◌, ◌≤◌, Bool, true, false, List, [], ◌∷◌, ◌++◌, length, refl, sym, ap, ◌∙◌, subst, inl, inr, arith, ◌⊎◌, Option, None, Some, map, true≢false, All, ◌==◌, nat_lt, filter, min, sum_by, if◌then◌else◌, is_some, ◌&&◌, ◌||◌, not}
+use Rattle.pool_alloc.proofs.Imports.{zeroed_long, one_at_most, memory_kind, table_kind, stack_kind, SlotKind, SlotName, shard_below, AllByRecursion, AllZip, list_any, Home, Allocator, allocators_of, have_number, has_number, home_among, home_in, home_of, eq-eqb, ne_eqb, eqb-true, lt-ltb, cases_eq, cases_lt, cases_Bool, and_parts, length_all_zip, All-weaker, All-head, All-tail, All-append, sum_by-cons, sum_by_push, MakerTold, one_if, Queue, Queued, after_append, after_run, first_slot, IsLeftBy, first_of_kind, first_zeroed, is_to_zero, others_of_kind, same_kind, zeroed_by, change_at, is_of, front, same_slot, zeroed, QueuedRange, Plan, decommitted_all}
 use Rattle.pool_alloc.proofs.PoolParts.{sound_queue}
-use Rattle.pool_hall.specs.declared.unit_name.SlotKind.TheVariants.{Memory as memory_kind}
-use Rattle.pool_hall.specs.declared.unit_name.SlotKind.{SlotKind}
-use Rattle.pool_slots.specs.declared.slot_name.SlotName.{SlotName}
 use Rattle.pool_alloc.proofs.Held.{right_is_out}
 use Rattle.pool_alloc.proofs.FreedSlots.{first_of}
 use Rattle.pool_alloc.proofs.PlanPlaces.{has_home, IsQueuePlace}
-use Rattle.pool_slots.proofs.PlanSizes.{shard_below}
-use Rattle.std.specs.List.{AllByRecursion, AllZip, list_any}
 use Rattle.pool_alloc.specs.Sound.{IsStripe, IsPoolPlan, HasCells, IsSlotName, IsCore, IsFreedOf, IsQueuedOf}
-use Rattle.pool_slots.specs.declared.plan.Home.{Home}
-use Rattle.pool_slots.specs.declared.plan.Allocator.{Allocator}
-use Rattle.pool_slots.specs.Plans.{allocators_of, have_number, has_number, home_among, home_in, home_of}
-use Rattle.std.proofs.Common.{◌≡◌, ◌≢◌, ℕ, zero, suc, ◌+◌, ◌*◌, ◌<◌, ◌≤◌, Bool, true, false, List, [], ◌∷◌, ◌++◌, length, refl, sym, ap, ◌∙◌, subst, inl, inr, arith, ◌⊎◌, Option, None, Some, map, true≢false, All}
-use Rattle.std.specs.Prelude.{◌==◌, nat_lt, filter, min, sum_by, if◌then◌else◌, All, is_some}
-use Rattle.std.proofs.lemmas.Bool.{eq-eqb, ne_eqb, eqb-true, lt-ltb, cases_eq, cases_lt, cases_Bool, and_parts}
-use Rattle.std.proofs.lemmas.List.Elements.{length_all_zip, All-weaker, All-head, All-tail, All-append}
-use Rattle.std.proofs.lemmas.List.Sums.{sum_by-cons, sum_by_push}
-use Rattle.pool_pages.specs.MakerTold.{MakerTold}
-use Rattle.pool_index.specs.Shard.{one_if}
-use Rattle.pool_slots.specs.SlotQueues.{Queue, Queued, after_append, after_run, first_slot, IsLeftBy, first_of_kind, first_zeroed, is_to_zero, others_of_kind, same_kind, zeroed_by, change_at, is_of, front, same_slot, zeroed}
-use Rattle.pool_slots.specs.declared.queued_range.QueuedRange.{QueuedRange}
 use Rattle.pool_alloc.specs.Answers.{Decommits}
 use Rattle.pool_alloc.specs.declared.pool_core.Settings.{Settings}
 use Rattle.pool_alloc.specs.Bounds.{PoolSizes, sizes_of, all_shards, is_home, waiting_for, shards_waiting, all_waiting, flush_left, flushed_allocators, may_zero, zeroings}
@@ -30,7 +15,6 @@ use Rattle.pool_alloc.specs.Reserved.{Reserved, with_item}
 use Rattle.pool_alloc.specs.Steps.{queue_at, freed_of, freed_elsewhere, first_shard}
 use Rattle.pool_alloc.specs.Stepping.{CanStep}
 use Rattle.pool_alloc.specs.declared.pool_core.PoolCore.{PoolCore}
-use Rattle.pool_slots.specs.declared.plan.Plan.{Plan}
 use Rattle.pool_alloc.specs.declared.frame.Frame.{Frame}
 use Rattle.pool_alloc.specs.declared.frame.FreedSlot.{FreedSlot}
 use Rattle.pool_alloc.proofs.Below.{few_queued, queued_cells}
@@ -38,11 +22,7 @@ use Rattle.pool_alloc.proofs.KeptCounts.{queue_kept, out_once}
 use Rattle.pool_alloc.proofs.QueueCounts.{queued_joined, run_names, faulted_names}
 use Rattle.pool_alloc.proofs.Runs.{runs_fewer}
 use Rattle.pool_alloc.proofs.SlotIdentity.{length_after_run}
-use Rattle.std.specs.Prelude.{◌&&◌, ◌||◌, not}
-use Rattle.std.specs.List.{AllZip}
-use Rattle.pool_hall.specs.declared.unit_name.SlotKind.TheVariants.{Table as table_kind, Stack as stack_kind}
-use Rattle.pool_alloc.proofs.KindCounts.{others_long, sum_first, zeroed_long, zeroed_names}
-use Rattle.pool_images.specs.Slots.{decommitted_all}
+use Rattle.pool_alloc.proofs.KindCounts.{others_long, sum_first, zeroed_names}
 
 -- the slots that are left once those of the first shard are freed
 kept_one : (p : FreedSlot → Bool) (x : FreedSlot) (xs : List FreedSlot) → p x ≡ true → 1 ≤ length (filter p (x ∷ xs))
@@ -181,10 +161,6 @@ flushed_at plan places kind slot is pooled has = absurd pooled
 
 flushed_home : (plan : Plan) (places : ℕ) (name : SlotName) → IsPoolPlan plan places → IsSlotName plan name → IsAmong (flushed_allocators plan) (home_of plan name).place
 flushed_home plan places name is named = flushed_at plan places name.kind name.slot is named.cells (has_home plan places name is named.inside)
-
-one_at_most : (b : Bool) → one_if b ≤ 1
-one_at_most true = omega arith
-one_at_most false = omega arith
 
 shards_few : (z : PoolSizes) (first n : ℕ) (ms : List Queued) (xs : List FreedSlot) → shards_waiting z first n ms xs ≤ n
 shards_few z first zero ms xs = omega arith

@@ -1,15 +1,9 @@
 -- The slots of one shard are freed in turns, one for each slot of the list.
-use Rattle.std.proofs.Common.{◌≡◌, ℕ, ◌+◌, ◌<◌, Bool, true, false, List, [], ◌∷◌, ◌++◌, length, take, drop, get_or, refl, sym, ap, subst, ◌∙◌, arith}
-use Rattle.std.specs.Prelude.{◌==◌, All, IsSome, if◌then◌else◌, not, min}
-use Rattle.std.proofs.lemmas.List.{take_more, drop_more, append-nil, append_assoc}
-use Rattle.std.proofs.lemmas.List.Elements.{filter-append, All-get_or}
-use Rattle.std.proofs.lemmas.Bool.{eq-eqb}
-use Rattle.pool_index.specs.Shard.{ShardState, use_of, after_free}
+use Rattle.std.proofs.Common.{◌≡◌, ℕ, ◌+◌, ◌<◌, Bool, true, false, List, [], ◌∷◌, ◌++◌, length, take, drop, get_or, refl, sym, ap, subst, ◌∙◌, arith, ◌==◌, All, IsSome, if◌then◌else◌, not, min}
+use Rattle.pool_alloc.proofs.Imports.{take_more, drop_more, append-nil, append_assoc, filter-append, All-get_or, eq-eqb, ShardState, use_of, after_free, home_of, Plan}
 use Rattle.pool_alloc.specs.Freeing.{AreUsedInTurn, CanFreeNext, shard_after_next, freed_after_next, CanBeFreed}
 use Rattle.pool_alloc.specs.Steps.{freed_of, freed_elsewhere, first_shard, after_frees}
 use Rattle.pool_alloc.specs.declared.frame.FreedSlot.{FreedSlot}
-use Rattle.pool_slots.specs.Plans.{home_of}
-use Rattle.pool_slots.specs.declared.plan.Plan.{Plan}
 use Rattle.pool_alloc.specs.Leases.{memory_slot}
 
 -- with one slot more at the end

@@ -1,19 +1,10 @@
 -- What a shard has given out once several slots were freed, and that each was used when its turn came.
 use Rattle.std.proofs.Common.{◌≡◌, ℕ, ◌+◌, ◌<◌, ◌≤◌, true, List, [], ◌∷◌, length-set, None, ap, ◌∙◌, subst, arith}
-use Rattle.std.specs.List.{AllByRecursion}
-use Rattle.pool_hall.specs.Sum.{total}
-use Rattle.pool_hall.specs.Unit.{pick_unit}
-use Rattle.pool_hall.specs.declared.unit_name.SlotKind.{SlotKind}
-use Rattle.pool_index.specs.Part.{shard_units, slot_unit}
-use Rattle.pool_index.specs.Shard.{ShardState, after_free, is_used}
-use Rattle.pool_slots.proofs.Lists.{each_weaker}
+use Rattle.pool_alloc.proofs.Imports.{AllByRecursion, total, pick_unit, SlotKind, shard_units, slot_unit, ShardState, after_free, is_used, each_weaker, home_of, SlotName, Plan}
 use Rattle.pool_alloc.specs.Freeing.{AreUsedInTurn}
 use Rattle.pool_alloc.specs.Places.{Thing, right_to, slot_count, freed_count}
-use Rattle.pool_slots.specs.Plans.{home_of}
-use Rattle.pool_slots.specs.declared.slot_name.SlotName.{SlotName}
 use Rattle.pool_alloc.specs.Steps.{after_frees}
 use Rattle.pool_alloc.specs.declared.frame.FreedSlot.{FreedSlot}
-use Rattle.pool_slots.specs.declared.plan.Plan.{Plan}
 use Rattle.pool_alloc.proofs.Held.{step_once}
 use Rattle.pool_alloc.proofs.PoolParts.{HasPlace}
 use Rattle.pool_alloc.proofs.SlotCounts.{slot_once, used_as, free_counts}

@@ -1,42 +1,17 @@
 -- A shard whose pick found nothing has no free slot, and a pool that was searched through has none.
-use Rattle.pool_slots.specs.SlotQueues.{Queued}
-use Rattle.pool_hall.specs.declared.unit_name.SlotKind.{SlotKind}
-use Rattle.pool_hall.specs.declared.unit_name.SlotKind.TheVariants.{Heap as heap_kind, Memory as memory_kind, Table as table_kind, Stack as stack_kind}
-use Rattle.std.proofs.lemmas.List.Elements.{All-head, All-tail}
+use Rattle.std.proofs.Common.{◌≡◌, ℕ, ◌+◌, ◌-◌, ◌*◌, ◌/◌, ◌%◌, ◌<◌, ◌≤◌, Bool, true, false, [], length, Option, Some, None, is_some, refl, ap, ◌∙◌, subst, inl, inr, arith, sym, All, ◌⊎◌, ◌∷◌, List, ◌==◌, nat_lt, if◌then◌else◌, option_map, IsSome}
+use Rattle.pool_alloc.proofs.Imports.{none_mapped, Queued, SlotKind, heap_kind, memory_kind, table_kind, stack_kind, All-head, All-tail, inside, total_zero, read_at, kept_parts, part_kept, total, numbered, Plan, Allocator, Role, queue_role, role_at, has_number, home_of, queues_for, option_or, option_map_or, cases_lt, ltb-false, lt-ltb, count_by-le-length, mod-mul-add, div-add-mod', mod-lt, MakerTold, ShardState, warm_at, next_cold, IsShard, choice, affine_choice, warm_choice, cold_choice, slot_and_bytes, pick_answer, one_if, is_used, Choice, use_of, after_choice, after_full, after_pick, MemoryInModule, WarmSlot, of_kind, SlotName, part_at, PoolPart}
 use Rattle.pool_alloc.proofs.SlotCounts.{slot_other, region_rights}
 use Rattle.pool_alloc.proofs.Below.{queued_cells}
 use Rattle.pool_alloc.proofs.UsedSlots.{used_is_out}
-use Rattle.pool_hall.proofs.Totals.{inside, total_zero}
-use Rattle.pool_slots.proofs.ListUnits.{read_at, kept_parts}
-use Rattle.pool_slots.specs.PartUnits.{part_kept}
-use Rattle.pool_hall.specs.Sum.{total}
-use Rattle.pool_slots.proofs.Planning.{numbered}
 use Rattle.pool_alloc.proofs.PoolParts.{sound_shard, place_of}
 use Rattle.pool_alloc.proofs.PlanPlaces.{slot_at, allocator_holds, queue_of_role, queue_tried_at, queues_all, allocator_role, IsQueuePlace, IsSlotAt, home_place}
-use Rattle.pool_slots.specs.declared.plan.Plan.{Plan}
-use Rattle.pool_slots.specs.declared.plan.Allocator.{Allocator}
-use Rattle.pool_slots.specs.Plans.{Role, queue_role, role_at, has_number, home_of, queues_for}
-use Rattle.std.proofs.Common.{◌≡◌, ℕ, ◌+◌, ◌-◌, ◌*◌, ◌/◌, ◌%◌, ◌<◌, ◌≤◌, Bool, true, false, [], length, Option, Some, None, is_some, refl, ap, ◌∙◌, subst, inl, inr, arith, sym, All, ◌⊎◌, ◌∷◌, List}
-use Rattle.std.specs.Prelude.{◌==◌, nat_lt, if◌then◌else◌, option_map, IsSome, is_some}
-use Rattle.std.specs.Option.{option_or, option_map_or}
-use Rattle.std.proofs.lemmas.Bool.{cases_lt, ltb-false, lt-ltb}
-use Rattle.std.proofs.lemmas.List.Sums.{count_by-le-length}
-use Rattle.std.proofs.lemmas.Nat.{mod-mul-add, div-add-mod'}
-use Rattle.std.proofs.Math.Nat.{mod-lt}
-use Rattle.pool_pages.specs.MakerTold.{MakerTold}
 use Rattle.pool_alloc.specs.Sound.{IsCore, IsPoolPlan, IsPartFor, HasCells, IsQueuedOf}
-use Rattle.pool_index.specs.Shard.{ShardState, warm_at, next_cold, IsShard, choice, affine_choice, warm_choice, cold_choice, slot_and_bytes, pick_answer, one_if, is_used, Choice, use_of, after_choice, after_full, after_pick}
-use Rattle.pool_index.specs.declared.ids.MemoryInModule.{MemoryInModule}
-use Rattle.pool_index.specs.declared.warm_slot.WarmSlot.{WarmSlot}
 use Rattle.pool_alloc.specs.Places.{Thing, right_to, queued_count, kept_count, away_count}
-use Rattle.pool_slots.specs.SlotNames.{of_kind}
-use Rattle.pool_slots.specs.declared.slot_name.SlotName.{SlotName}
 use Rattle.pool_alloc.specs.Steps.{shard_at, queue_at, queue_in, queues_searched, allocator_for, kind_next, slot_next, queues_next}
 use Rattle.pool_alloc.specs.declared.pool_core.PoolCore.{PoolCore}
 use Rattle.pool_alloc.specs.declared.frame.Frame.{Frame}
 use Rattle.pool_alloc.specs.Searches.{HasNoSlot, AreFull, AreEmpty}
-use Rattle.pool_slots.specs.Parts.{part_at}
-use Rattle.pool_slots.specs.declared.part.PoolPart.{PoolPart}
 use Rattle.pool_alloc.specs.declared.pool_core.Settings.{Settings}
 use Rattle.pool_slots.specs.declared.part.PoolPart.TheVariants as part
 
@@ -53,10 +28,6 @@ if_none : {X : Type 0} (b : Bool) (x : X) → (if b then Some x else None) ≡ N
 if_none true x e = absurd cc
 if_none false x e = refl
 
-unmapped : {X Y : Type 0} (f : X → Y) (o : Option X) → option_map f o ≡ None → o ≡ None
-unmapped f None e = refl
-unmapped f (Some x) e = absurd cc
-
 -- there is no warm slot, and no cold one
 pub record HasNone (s : ShardState) : Type 0 where
   pub warm : length s.warm ≡ 0
@@ -64,7 +35,7 @@ pub record HasNone (s : ShardState) : Type 0 where
 
 none_chosen : (want : Option MemoryInModule) (s : ShardState) → pick_answer want s ≡ None → HasNone s
 none_chosen want s e =
-    let rest = (neither (affine_choice want s) _ (unmapped (slot_and_bytes s) (choice want s) e)).1 in
+    let rest = (neither (affine_choice want s) _ (none_mapped (slot_and_bytes s) (choice want s) e)).1 in
     let two = both_none (nat_lt (length s.warm) s.budget) (cold_choice s) (warm_choice s) rest in
     record {
       warm = omega (arith, ltb-false 0 (length s.warm) (if_none (nat_lt 0 (length s.warm)) (warm_at 0) two.1));
@@ -189,7 +160,7 @@ module _ {P H : Type 0} where
               let i = queue_of_role c.plan (length c.parts) q core.plan role in
               let taken = around f.home i.0 c.plan.queues i.1 in
               let Q : ℕ → Type 0 = λ n. (queue_at n c).slots ≡ [] in
-              subst Q (queue_tried_at c.plan taken.0 f core.plan.shared ∙ ap (λ (n : ℕ). c.plan.first_queue + n) taken.2 ∙ i.2) (empty taken.0 (omega (arith, taken.1, all, queues_all c.plan core.plan.shared))))
+              subst Q (queue_tried_at c.plan taken.0 f ∙ ap (λ (n : ℕ). c.plan.first_queue + n) taken.2 ∙ i.2) (empty taken.0 (omega (arith, taken.1, all, queues_all c.plan))))
           | inr heap ↦ no_heap_kept maker name c core heap
         ],
         used_is_out maker name c core home.2.inside used,

@@ -1,29 +1,8 @@
 -- A region behind its first page, which is hidden.
-use Rattle.std.proofs.Common.{◌≡◌, ℕ, ◌+◌, ◌-◌, ◌*◌, ◌/◌, ◌%◌, ◌^◌, ◌<◌, ◌≤◌, Bool, true, false, List, length, refl, sym, ap, ◌∙◌, subst, inr, arith, slice_range, replicate, get_or, Option, Some, None, Err}
-use Rattle.std.specs.Prelude.{IfSome, ◌++◌, ◌||◌, ◌==◌, not, option_map}
-use Rattle.std.specs.List.{list_any}
-use Rattle.std.proofs.Math.Nat.{zero-div, le-div_iff_mul-le}
-use Rattle.std.proofs.lemmas.List.{length-replicate, get_or-replicate, get_or_append_left}
-use Rattle.std.proofs.lemmas.Bool.Decides.{nat_tests}
-use Rattle.pool_pages.specs.Count.{count, IsPageSize, rounded_up}
-use Rattle.pool_pages.specs.Contents.{Contents, CanReach, hidden, put_all}
-use Rattle.pool_pages.specs.MakerTold.{MakerTold, fresh, plan_for}
-use Rattle.pool_pages.specs.Told.{Told, TellsShaped, hiding, succeeded}
+use Rattle.std.proofs.Common.{◌≡◌, ℕ, ◌+◌, ◌-◌, ◌*◌, ◌/◌, ◌%◌, ◌^◌, ◌<◌, ◌≤◌, Bool, true, false, List, length, refl, sym, ap, ◌∙◌, subst, inr, arith, slice_range, replicate, get_or, Option, Some, None, Err, IfSome, ◌++◌, ◌||◌, ◌==◌, not, option_map}
+use Rattle.pool_alloc.proofs.Imports.{list_any, zero-div, le-div_iff_mul-le, length-replicate, get_or-replicate, get_or_append_left, nat_tests, count, IsPageSize, rounded_up, Contents, CanReach, hidden, put_all, MakerTold, fresh, plan_for, Told, TellsShaped, hiding, succeeded, page_below, sub_whole, IsFresh, HasColour, rounded_up_above, fresh_keeps, fresh_clean, marked_above, range-zeros, rounded_same, followed, HasFaulted, Layout, IsMadeRegion, IsRefusedFor, next_name, mapped_leaves, IsPlain, plain_slot}
 use Rattle.pool_pages.specs.declared.maker.MakeFault.TheVariants as making
-use Rattle.pool_pages.proofs.Multiples.{page_below, sub_whole}
-use Rattle.pool_images.specs.Slots.{IsFresh, HasColour}
-use Rattle.pool_images.proofs.Begun.{rounded_up_above}
-use Rattle.pool_images.proofs.Making.{fresh_keeps, fresh_clean}
-use Rattle.pool_images.proofs.Marks.{marked_above, range-zeros}
-use Rattle.pool_images.proofs.PageSizes.{rounded_same}
-use Rattle.pool_images.proofs.Ready.{followed}
-use Rattle.pool_memory.specs.Creators.{HasFaulted}
-use Rattle.pool_memory.specs.Layouts.{Layout}
-use Rattle.pool_memory.specs.Moving.{IsMadeRegion, IsRefusedFor, next_name}
 use Rattle.pool_memory.specs.declared.memory_error.MemoryError.TheVariants as refused
-use Rattle.pool_memory.proofs.Creations.{mapped_leaves}
-use Rattle.pool_slots.specs.PlainSlots.{IsPlain}
-use Rattle.pool_slots.specs.SlotQueues.{plain_slot}
 use Rattle.pool_alloc.specs.Guards.{IsOpen, guarding}
 
 -- what the region tells behind its guard page

@@ -1,18 +1,8 @@
 -- All that is shown of a row, before its turn; and that the turn leaves it.
+use Rattle.std.proofs.Common.{◌≡◌, ℕ, ◌+◌, ◌*◌, ◌<◌, ◌≤◌, Bool, true, false, List, [], ◌∷◌, length, All, refl, sym, ap, subst, ◌∙◌, arith, Option, Some, None, ◌==◌, nat_lt, if◌then◌else◌, is_some}
+use Rattle.pool_alloc.proofs.Imports.{Plan, SlotKind, memory_kind, table_kind, stack_kind, heap_kind, queues_for, ltb-true, ltb-false, eqb-true, eqb-false, and_parts, nil_from_length, All-nil, All-head, All-tail, All-same, MakerTold, Queue, no_slots}
 use Rattle.pool_alloc.proofs.PlanPlaces.{allocator_is}
-use Rattle.pool_slots.specs.declared.plan.Plan.{Plan}
-use Rattle.std.proofs.Common.{◌≡◌, ℕ, ◌+◌, ◌*◌, ◌<◌, ◌≤◌, Bool, true, false, List, [], ◌∷◌, length, All, refl, sym, ap, subst, ◌∙◌, arith, Option, Some, None}
-use Rattle.pool_hall.specs.declared.unit_name.SlotKind.{SlotKind}
-use Rattle.pool_hall.specs.declared.unit_name.SlotKind.TheVariants.{Memory as memory_kind, Table as table_kind, Stack as stack_kind, Heap as heap_kind}
-use Rattle.pool_slots.specs.Plans.{queues_for}
-use Rattle.std.specs.Prelude.{◌==◌, nat_lt, if◌then◌else◌, is_some}
-use Rattle.std.proofs.lemmas.Bool.{ltb-true, ltb-false, eqb-true, eqb-false, and_parts}
-use Rattle.std.proofs.lemmas.List.{nil_from_length}
-use Rattle.std.proofs.lemmas.List.Elements.{All-nil, All-head, All-tail, All-same}
-use Rattle.pool_pages.specs.MakerTold.{MakerTold}
 use Rattle.pool_alloc.specs.PartyTold.{PartyTold}
-use Rattle.pool_slots.specs.SlotQueues.{Queue}
-use Rattle.pool_slots.proofs.SlotRuns.{no_slots}
 use Rattle.pool_alloc.proofs.QueueCounts.{leased_first, tables_first}
 use Rattle.pool_alloc.specs.Bounds.{PoolSizes, give_back_bound, sizes_of, flush_left, returns_left, objects_left, queues_left, next_left, steps_at, steps_left}
 use Rattle.pool_alloc.specs.Calls.{IsGrantOf, IfGranted}

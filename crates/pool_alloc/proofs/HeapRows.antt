@@ -1,24 +1,9 @@
 -- The rows of a call for a heap: its test, the heap's slot out of the list and back, the making, the counts.
+use Rattle.std.proofs.Common.{◌≡◌, ℕ, ◌+◌, ◌<◌, Bool, true, false, List, [], ◌∷◌, length, refl, sym, ap, subst, ◌∙◌, arith, Option, None, Some, Result, Ok, Err, inl, inr, All, ◌-◌, slice_get, slice_index_or, IfSome}
+use Rattle.pool_alloc.proofs.Imports.{RegionNumbers, length-set, nil_from_length, All-nil, All-head, ShardState, after_free, MakerTold, MemoryType, Unsupported, IsHere, heap_in, heap_taken, heap_returned, heap_slot, home_of, of_kind, AllocError, HeapEntry, HeapMakeFault, SlotName}
 use Rattle.pool_alloc.specs.declared.frame.Ending.TheVariants.{Granted as granted}
-use Rattle.pool_slots.specs.declared.slot_name.RegionNumbers.{RegionNumbers}
-use Rattle.std.proofs.Common.{◌≡◌, ℕ, ◌+◌, ◌<◌, ◌≤◌, Bool, true, false, List, [], ◌∷◌, length, refl, sym, ap, subst, ◌∙◌, arith, Option, None, Some, Result, Ok, Err, inl, inr, All, ◌-◌}
-use Rattle.std.specs.Prelude.{slice_get, slice_index_or, IfSome}
-use Rattle.std.proofs.lemmas.List.{length-set, nil_from_length}
-use Rattle.std.proofs.lemmas.List.Elements.{All-nil, All-head}
-use Rattle.pool_index.specs.Shard.{ShardState, after_free}
-use Rattle.pool_pages.specs.MakerTold.{MakerTold}
-use Rattle.pool_pages.specs.declared.module_types.MemoryType.{MemoryType}
-use Rattle.pool_pages.specs.declared.unsupported.Unsupported.{Unsupported}
-use Rattle.pool_slots.specs.HeapLists.{IsHere, heap_in, heap_taken, heap_returned}
-use Rattle.pool_slots.specs.HeapUnits.{heap_slot}
-use Rattle.pool_slots.specs.Plans.{home_of}
-use Rattle.pool_slots.specs.SlotNames.{of_kind}
-use Rattle.pool_slots.specs.declared.errors.AllocError.{AllocError}
 use Rattle.pool_slots.specs.declared.errors.AllocError.TheVariants as refusal
-use Rattle.pool_slots.specs.declared.heap_list.HeapEntry.{HeapEntry}
 use Rattle.pool_slots.specs.declared.heap_list.HeapEntry.TheVariants as entry
-use Rattle.pool_slots.specs.declared.heap_maker.HeapMakeFault.{HeapMakeFault}
-use Rattle.pool_slots.specs.declared.slot_name.SlotName.{SlotName}
 use Rattle.pool_alloc.specs.Bounds.{PoolSizes, sizes_of, allocation_bound, give_back_bound, flush_bound, objects_left}
 use Rattle.pool_alloc.specs.Calls.{IsHeapOf}
 use Rattle.pool_alloc.specs.HeapLeases.{LeasedHeap, heap_numbers, heap_slot_taken}
@@ -77,10 +62,6 @@ seeks asked n one = absurd (omega (arith, one))
 no_stack_for : (asked : Asked) → heaps_wanted asked ≡ 1 → stacks_wanted asked ≡ 0
 no_stack_for (heap_asked ty) one = refl
 no_stack_for asked one = absurd (omega (arith, one))
-
--- a call that has the first of one memory has no other
-one_memory : (memory : Lease) (rest : List Lease) → length (memory ∷ rest) ≤ 1 → rest ≡ []
-one_memory memory rest few = nil_from_length rest (omega (arith, few))
 
 module _ {P H : Type 0} (maker : MakerTold) (old new : PartyTold) where
   abbrev Shows : Phase P H → PoolCore P H → Frame P H → Row (PoolCore P H) P H → Type 0

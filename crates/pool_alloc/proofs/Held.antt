@@ -1,37 +1,11 @@
 -- What follows for a slot, and for a region, that a frame has, where the frame fits the pool.
-use Rattle.pool_slots.specs.ListUnits.{all_kept}
-use Rattle.pool_index.specs.Part.{shard_units}
-use Rattle.std.proofs.Common.{◌≡◌, ℕ, ◌+◌, ◌*◌, ◌/◌, ◌<◌, ◌≤◌, true, false, refl, sym, ap, subst, ◌∙◌, arith, Bool, List, [], ◌∷◌, length, inl, inr}
-use Rattle.std.proofs.lemmas.Bool.{false_from_ne_true, cases_lt}
-use Rattle.std.proofs.Math.Nat.{mul-div_cancel}
-use Rattle.pool_hall.specs.Sum.{one_if, total}
-use Rattle.pool_hall.specs.Unit.{same}
-use Rattle.pool_hall.specs.declared.unit_name.UnitName.{UnitName}
-use Rattle.pool_hall.proofs.Totals.{inside, total_some, total_append}
-use Rattle.pool_hall.proofs.Units.{same_is, same_self}
-use Rattle.pool_pages.specs.MakerTold.{MakerTold}
-use Rattle.pool_index.specs.Shard.{ShardState, IsShard, is_used, one_if as one_warm}
-use Rattle.pool_slots.specs.Cells.{Cell, is_taken, unmapped, unknown, previously_used, taken}
-use Rattle.pool_slots.specs.RegionCells.{CellState, cell_away, away_by, region_of as unit_region}
-use Rattle.pool_slots.specs.PartUnits.{part_away, part_kept}
-use Rattle.pool_slots.specs.Parts.{part_at, cell_of_part}
-use Rattle.pool_slots.specs.Plans.{Role, shard_role, cell_role, queue_role, heaps_role, role_at}
-use Rattle.pool_slots.specs.declared.slot_name.RegionNumbers.{RegionNumbers}
-use Rattle.pool_slots.specs.declared.slot_name.SlotName.{SlotName}
-use Rattle.pool_slots.specs.declared.part.PoolPart.{PoolPart}
+use Rattle.std.proofs.Common.{◌≡◌, ℕ, ◌+◌, ◌*◌, ◌/◌, ◌<◌, ◌≤◌, true, false, refl, sym, ap, subst, ◌∙◌, arith, Bool, List, [], ◌∷◌, length, inl, inr, remove, nat_lt}
+use Rattle.pool_alloc.proofs.Imports.{all_kept, shard_units, false_from_ne_true, cases_lt, mul-div_cancel, total, same, UnitName, inside, total_some, total_append, same_is, same_self, MakerTold, ShardState, IsShard, is_used, one_warm, Cell, is_taken, unmapped, unknown, previously_used, taken, CellState, cell_away, away_by, unit_region, part_away, part_kept, part_at, cell_of_part, Role, shard_role, cell_role, queue_role, heaps_role, role_at, home_of, RegionNumbers, SlotName, PoolPart, cell_at, list_at, units_of_out_slots, IsHere, IsOutOf, is_out, heap_entry, memory_of, heaps_away, IsOfOutHeap, heap_slot, HeapEntry, heap_kind, read_at, away_parts, of_kind}
+use Rattle.pool_hall.specs.Sum.{one_if}
 use Rattle.pool_slots.specs.declared.part.PoolPart.TheVariants as part
-use Rattle.pool_slots.proofs.AwayOnce.{cell_at, list_at}
-use Rattle.pool_slots.proofs.HeapUnits.{units_of_out_slots}
-use Rattle.pool_slots.specs.HeapLists.{IsHere, IsOut as IsOutOf, is_out, heap_entry, memory_of, heaps_away}
-use Rattle.pool_slots.specs.HeapUnits.{IsOfOutHeap, heap_slot}
-use Rattle.pool_slots.specs.declared.heap_list.HeapEntry.{HeapEntry}
-use Rattle.pool_hall.specs.declared.unit_name.SlotKind.TheVariants.{Heap as heap_kind}
 use Rattle.pool_alloc.specs.HeapLeases.{heap_numbers, heap_slot_taken}
 use Rattle.pool_alloc.specs.Leases.{slot_taken}
-use Rattle.pool_slots.proofs.ListUnits.{read_at, away_parts}
-use Rattle.pool_alloc.specs.Places.{Thing, right_to, region_of, region_count, taken_count, kept_count, away_count, phase_count, frame_count}
-use Rattle.pool_slots.specs.SlotNames.{of_kind}
-use Rattle.pool_slots.specs.Plans.{home_of}
+use Rattle.pool_alloc.specs.Places.{Thing, right_to, region_of, region_count, taken_count, kept_count, away_count, phase_count, frame_count, release_count, purge_count}
 use Rattle.pool_alloc.specs.Objects.{slot_of_object}
 use Rattle.pool_alloc.specs.declared.frame.TakenSlot.{TakenSlot}
 use Rattle.pool_alloc.specs.Steps.{shard_in, heaps_in, shard_at, heaps_at, cell_named}
@@ -40,19 +14,16 @@ use Rattle.pool_alloc.specs.Whole.{times_warm}
 use Rattle.pool_alloc.specs.declared.pool_core.PoolCore.{PoolCore}
 use Rattle.pool_alloc.specs.declared.frame.Frame.{Frame}
 use Rattle.pool_alloc.specs.declared.frame.Phase.{Phase}
-use Rattle.pool_alloc.specs.declared.frame.Phase.TheVariants.{TakeRegion, Empty, Instantiate, MakeMemory, MakeTable, CountObject, PutBack, FreeOne, UncountObject, TakeHeap, MakeHeap, CountHeap, PutNoHeap, UncountHeap, PutHeap, FreeHeap, Reset}
+use Rattle.pool_alloc.specs.declared.frame.Phase.TheVariants.{TakeRegion, Empty, Instantiate, MakeMemory, MakeTable, CountObject, PutBack, FreeOne, UncountObject, TakeHeap, MakeHeap, CountHeap, PutNoHeap, UncountHeap, PutHeap, FreeHeap, Reset, Purge, Release}
 use Rattle.pool_alloc.proofs.KeptCounts.{out_once, cell_away_in, heaps_away_in, away_is_taken}
 use Rattle.pool_alloc.proofs.PlanPlaces.{IsShardPlace, at_home, cell_below}
 use Rattle.pool_alloc.proofs.PoolParts.{HasPlace, place_of, name_in, sound_shard, sound_cell, slot_of_shard}
 use Rattle.pool_alloc.proofs.QueueCounts.{queued_regions, leased_regions, tables_regions, freed_regions}
 use Rattle.pool_alloc.proofs.SlotCounts.{IsUsedAs, used_as, region_rights, region_once, slot_regions, both_regions, one_true, no_units}
-use Rattle.pool_alloc.specs.declared.frame.Phase.TheVariants.{Purge, Release}
-use Rattle.pool_alloc.specs.Places.{release_count, purge_count}
 use Rattle.pool_alloc.specs.declared.purge.PurgeStep.{PurgeStep}
 use Rattle.pool_alloc.specs.declared.purge.PurgeStep.TheVariants as purging_step
 use Rattle.pool_alloc.specs.declared.release.ReleaseStep.{ReleaseStep}
 use Rattle.pool_alloc.specs.declared.release.ReleaseStep.TheVariants as releasing_step
-use Rattle.std.specs.Prelude.{remove, nat_lt}
 
 -- a number is that of one slot
 pub step_once : (first step m l k : ℕ) → 0 < step → first + m * step ≡ k → first + l * step ≡ k → m ≡ l

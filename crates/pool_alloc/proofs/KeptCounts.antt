@@ -1,28 +1,7 @@
 -- What the pool has given out, and what its queues keep, once one shard, one cell, one queue or the list of heaps changed.
-use Rattle.std.specs.Prelude.{Option}
-use Rattle.std.proofs.Common.{◌≡◌, ℕ, ◌+◌, ◌<◌, ◌≤◌, true, false, List, length, refl, sym, ap, ◌∙◌, arith}
-use Rattle.pool_hall.specs.Sum.{total}
-use Rattle.pool_hall.proofs.Totals.{element, total_at}
-use Rattle.pool_pages.specs.MakerTold.{MakerTold}
-use Rattle.pool_index.specs.Part.{shard_units}
-use Rattle.pool_index.specs.Shard.{ShardState}
-use Rattle.pool_slots.specs.Cells.{Cell, is_taken, taken}
-use Rattle.pool_slots.specs.RegionCells.{CellState, cell_numbers, cell_emptied, cell_filled, cell_away}
-use Rattle.pool_slots.specs.HeapLists.{IsHere, IsOut, memory_of, heap_taken, heap_returned, heaps_away}
-use Rattle.pool_slots.specs.HeapUnits.{heap_slot}
-use Rattle.pool_slots.specs.declared.heap_list.HeapEntry.{HeapEntry}
-use Rattle.pool_slots.specs.PartUnits.{part_away, part_kept}
-use Rattle.pool_slots.specs.ListUnits.{StandsAs}
-use Rattle.pool_slots.specs.Parts.{IsAt, IsShardPart, part_at, cell_of_part, IsCellPart}
-use Rattle.pool_slots.specs.Plans.{Role, shard_role, cell_role, queue_role, heaps_role, role_at, cell_place}
-use Rattle.pool_slots.specs.SlotQueues.{Queue}
-use Rattle.pool_slots.specs.declared.slot_name.SlotName.{SlotName}
-use Rattle.pool_slots.specs.declared.part.PoolPart.{PoolPart}
+use Rattle.std.proofs.Common.{Option, ◌≡◌, ℕ, ◌+◌, ◌<◌, ◌≤◌, true, false, List, length, refl, sym, ap, ◌∙◌, arith}
+use Rattle.pool_alloc.proofs.Imports.{total, element, total_at, MakerTold, shard_units, ShardState, Cell, is_taken, taken, CellState, cell_numbers, cell_emptied, cell_filled, cell_away, IsHere, IsOut, memory_of, heap_taken, heap_returned, heaps_away, heap_slot, HeapEntry, part_away, part_kept, StandsAs, IsAt, IsShardPart, part_at, cell_of_part, IsCellPart, Role, shard_role, cell_role, queue_role, heaps_role, role_at, cell_place, Queue, SlotName, PoolPart, away_once, read_at, away_parts, kept_parts, away_follows, kept_follows, heap_takes_count, heap_returns_count, takes_count, puts_count}
 use Rattle.pool_slots.specs.declared.part.PoolPart.TheVariants as part
-use Rattle.pool_slots.proofs.AwayOnce.{away_once}
-use Rattle.pool_slots.proofs.ListUnits.{read_at, away_parts, kept_parts, away_follows, kept_follows}
-use Rattle.pool_slots.proofs.HeapUnits.{takes_count as heap_takes_count, returns_count as heap_returns_count}
-use Rattle.pool_slots.proofs.PartUnits.{takes_count, puts_count}
 use Rattle.pool_alloc.specs.HeapLeases.{heap_numbers}
 use Rattle.pool_alloc.specs.Places.{Thing, right_to, region_of, region_count, queued_count, away_count, kept_count}
 use Rattle.pool_alloc.specs.Sound.{IsPartFor, IsCore, IsSlotName}

@@ -1,17 +1,7 @@
 -- What queued slots have together once the first of a kind is taken out, or zeroed.
-use Rattle.std.proofs.Common.{◌≡◌, ℕ, ◌+◌, false, List, [], ◌∷◌, length, refl, sym, ap, ◌∙◌, inl, inr, arith, Option, Some, None, subst, map}
-use Rattle.std.specs.Prelude.{sum_by}
-use Rattle.std.specs.List.{AllByRecursion, AllZip, list_any}
-use Rattle.std.proofs.lemmas.Bool.{cases_Bool, or_parts}
-use Rattle.std.proofs.lemmas.Option.{same_Some}
-use Rattle.std.proofs.lemmas.List.Sums.{sum_by-cons}
-use Rattle.pool_hall.specs.declared.unit_name.SlotKind.{SlotKind}
-use Rattle.pool_slots.specs.SlotQueues.{Queued, same_kind, is_to_zero, zeroed_by, zeroed, first_of_kind, others_of_kind, first_zeroed}
-use Rattle.pool_slots.specs.declared.slot_name.RegionNumbers.{RegionNumbers}
-use Rattle.pool_slots.specs.declared.slot_name.SlotName.{SlotName}
+use Rattle.std.proofs.Common.{◌≡◌, ℕ, ◌+◌, false, List, [], ◌∷◌, length, refl, sym, ap, ◌∙◌, inl, inr, arith, Option, Some, None, subst, sum_by}
+use Rattle.pool_alloc.proofs.Imports.{AllByRecursion, cases_Bool, same_Some, sum_by-cons, SlotKind, Queued, same_kind, is_to_zero, zeroed_by, zeroed, first_of_kind, others_of_kind, first_zeroed, RegionNumbers, SlotName, kind_is}
 use Rattle.pool_alloc.specs.Places.{Thing, both_count, queued_count}
-use Rattle.std.specs.List.{AllZip}
-use Rattle.pool_slots.proofs.SlotNames.{kind_is}
 use Rattle.pool_alloc.proofs.QueueCounts.{queued_sum}
 
 -- all are the first of a kind and the others
@@ -79,10 +69,6 @@ none_first kind (m ∷ ms) none =
       | inr other ↦ let first : first_of_kind kind (m ∷ ms) ≡ first_of_kind kind ms = rw other refl in (other, none_first kind ms (sym first ∙ none))
     ]
 
-pub first_none : (kind : SlotKind) (ms : List Queued) → AllByRecursion (λ m. same_kind kind m.name.kind ≡ false) ms → first_of_kind kind ms ≡ None
-first_none kind [] each = refl
-first_none kind (m ∷ ms) each = let first : first_of_kind kind (m ∷ ms) ≡ first_of_kind kind ms = rw (each.0) refl in first ∙ first_none kind ms each.1
-
 pub none_others : (kind : SlotKind) (ms : List Queued) → first_of_kind kind ms ≡ None → others_of_kind kind ms ≡ ms
 none_others kind [] none = refl
 none_others kind (m ∷ ms) none =
@@ -92,22 +78,6 @@ none_others kind (m ∷ ms) none =
           let first : first_of_kind kind (m ∷ ms) ≡ first_of_kind kind ms = rw other refl in
           let others : others_of_kind kind (m ∷ ms) ≡ m ∷ others_of_kind kind ms = rw other refl in
           others ∙ ap (λ (xs : List Queued). m ∷ xs) (none_others kind ms (sym first ∙ none))
-    ]
-
--- and so are all where none is to be zeroed
-pub none_zeroed : (kind : SlotKind) (ms : List Queued) → list_any (is_to_zero kind) ms ≡ false → first_zeroed kind ms ≡ ms
-none_zeroed kind [] none = refl
-none_zeroed kind (m ∷ ms) none =
-    let parts = or_parts (is_to_zero kind m) (list_any (is_to_zero kind) ms) none in
-    let first : first_zeroed kind (m ∷ ms) ≡ m ∷ first_zeroed kind ms = rw (parts.0) refl in
-    first ∙ ap (λ (xs : List Queued). m ∷ xs) (none_zeroed kind ms parts.1)
-
-pub others_have : (Q : Queued → Type 0) (kind : SlotKind) (ms : List Queued) → AllByRecursion Q ms → AllByRecursion Q (others_of_kind kind ms)
-others_have Q kind [] each = tt
-others_have Q kind (m ∷ ms) each =
-    elim (cases_Bool (same_kind kind m.name.kind)) [
-      | inl here ↦ rw here each.1
-      | inr other ↦ rw other (each.0, others_have Q kind ms each.1)
     ]
 
 -- the names and the numbers stay as one is zeroed
@@ -130,35 +100,3 @@ zeroed_names of kind (m ∷ ms) =
 
 pub zeroed_counts : (t : Thing) (kind : SlotKind) (ms : List Queued) → queued_count t (first_zeroed kind ms) ≡ queued_count t ms
 zeroed_counts t kind ms = queued_sum t (first_zeroed kind ms) ∙ zeroed_names (both_count t) kind ms ∙ sym (queued_sum t ms)
-
-pub zeroed_long : (kind : SlotKind) (ms : List Queued) → length (first_zeroed kind ms) ≡ length ms
-zeroed_long kind [] = refl
-zeroed_long kind (m ∷ ms) =
-    elim (cases_Bool (is_to_zero kind m)) [
-      | inl here ↦ let first : first_zeroed kind (m ∷ ms) ≡ zeroed m ∷ ms = rw here refl in omega (arith, ap (length {A = Queued}) first)
-      | inr other ↦ let first : first_zeroed kind (m ∷ ms) ≡ m ∷ first_zeroed kind ms = rw other refl in omega (arith, ap (length {A = Queued}) first, zeroed_long kind ms)
-    ]
-
--- and so does the kind of each
-zeroed_of_kind : (Q : SlotKind → Type 0) (o : Option ℕ) (m : Queued) → Q m.name.kind → Q (zeroed_by o m).name.kind
-zeroed_of_kind Q None m is = is
-zeroed_of_kind Q (Some n) m is = is
-
-pub zeroed_kinds : (Q : SlotKind → Type 0) (kind : SlotKind) (ms : List Queued) → AllByRecursion (λ m. Q m.name.kind) ms → AllByRecursion (λ m. Q m.name.kind) (first_zeroed kind ms)
-zeroed_kinds Q kind [] each = tt
-zeroed_kinds Q kind (m ∷ ms) each =
-    elim (cases_Bool (is_to_zero kind m)) [
-      | inl here ↦ rw here (zeroed_of_kind Q m.by_hand m each.0, each.1)
-      | inr other ↦ rw other (each.0, zeroed_kinds Q kind ms each.1)
-    ]
-
--- or a run of ranges is decommitted, or that fails
-pub kinds_zip : (Q : SlotKind → Type 0) (R : Queued → Queued → Type 0) → ((m n : Queued) → R m n → n.name ≡ m.name) → (ms ns : List Queued) → AllZip R ms ns → AllByRecursion (λ m. Q m.name.kind) ms → AllByRecursion (λ m. Q m.name.kind) ns
-kinds_zip Q R same [] [] z each = tt
-kinds_zip Q R same [] (n ∷ ns) z each = absurd z
-kinds_zip Q R same (m ∷ ms) [] z each = absurd z
-kinds_zip Q R same (m ∷ ms) (n ∷ ns) z each = (subst (λ (x : SlotName). Q x.kind) (sym (same m n z.0)) each.0, kinds_zip Q R same ms ns z.1 each.1)
-
-pub kinds_map : (Q : SlotKind → Type 0) (f : Queued → Queued) → ((m : Queued) → (f m).name ≡ m.name) → (ms : List Queued) → AllByRecursion (λ m. Q m.name.kind) ms → AllByRecursion (λ m. Q m.name.kind) (map f ms)
-kinds_map Q f same [] each = tt
-kinds_map Q f same (m ∷ ms) each = (subst (λ (x : SlotName). Q x.kind) (sym (same m)) each.0, kinds_map Q f same ms each.1)

@@ -23,18 +23,13 @@ pub mod HeapRows
 pub mod HeapSlots
 pub mod Held
 pub mod Holding
+mod Imports
 pub mod KeptCounts
 pub mod KindCounts
 pub mod LocalQueues
 pub mod MadeNumbers
 pub mod MadePools
 pub mod Makings
-pub mod OnDemandGranted
-pub mod OnDemandGuarded
-pub mod OnDemandImages
-pub mod OnDemandLeased
-pub mod OnDemandRequested
-pub mod OnDemandTurns
 pub mod OneParts
 pub mod PhaseSlots
 pub mod Picks
@@ -50,7 +45,6 @@ pub mod RegionRows
 pub mod ReleaseBounds
 pub mod ReleaseRows
 pub mod ReturnRows
-pub mod Rounding
 pub mod Runs
 pub mod Searching
 pub mod ShardFrees
@@ -62,7 +56,6 @@ pub mod Steps
 pub mod Striping
 pub mod Supporting
 pub mod SweepSteps
-pub mod TableChanges
 pub mod TableRegions
 pub mod TableResets
 pub mod TableReturns

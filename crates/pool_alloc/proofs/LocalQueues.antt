@@ -1,21 +1,8 @@
 -- Local and shared queues stay what they are as ranges and slots come and go.
-use Rattle.std.proofs.Common.{◌≡◌, ℕ, ◌+◌, ◌^◌, ◌*◌, ◌<◌, ◌≤◌, Bool, true, false, List, [], ◌∷◌, ◌++◌, length, refl, sym, ap, ◌∙◌, subst, arith, All, None, Option, Some}
-use Rattle.std.specs.Prelude.{map, IfSome}
-use Rattle.std.specs.List.{AllByRecursion}
-use Rattle.std.proofs.lemmas.List.{length-append, length-map}
-use Rattle.std.proofs.lemmas.Bool.{or_left, cases_Bool}
-use Rattle.std.proofs.lemmas.List.Elements.{All-nil, All-cons, All-append, All-same, length_all_zip, All-head, All-tail}
-use Rattle.pool_pages.specs.MakerTold.{MakerTold}
-use Rattle.pool_pages.specs.declared.pages.DecommitBehavior.{DecommitBehavior}
-use Rattle.pool_pages.specs.declared.pages.DecommitBehavior.TheVariants.{Zero, RestoreOriginalMapping}
-use Rattle.pool_images.specs.declared.ranges.ByteRange.{ByteRange}
-use Rattle.pool_images.specs.Slots.{Slot, IsSlot, IsClean, IsPart, size_of, kept_bytes, left_ranges, reset_slot, decommitted_all}
-use Rattle.pool_images.proofs.Resets.{kept_at_most}
+use Rattle.std.proofs.Common.{◌≡◌, ℕ, ◌+◌, ◌^◌, ◌*◌, ◌<◌, ◌≤◌, Bool, true, false, List, [], ◌∷◌, ◌++◌, length, refl, sym, ap, ◌∙◌, subst, arith, All, None, Option, Some, map, IfSome, inl, inr}
+use Rattle.pool_alloc.proofs.Imports.{AllByRecursion, length-append, length-map, or_left, cases_Bool, All-nil, All-cons, All-append, All-same, length_all_zip, All-head, All-tail, MakerTold, DecommitBehavior, Zero, RestoreOriginalMapping, ByteRange, Slot, IsSlot, IsClean, IsPart, size_of, kept_bytes, left_ranges, reset_slot, decommitted_all, identity, kept_at_most, SlotName, QueuedRange, Queue, Queued, behind, is_of, empty_queue, AreDistinct, AreApart, LeavesClean, IsReset, IsLeftBy, holds, owner, with_slot, after_take, taken_into, drained, after_append, first_slot, after_run, CanBeZeroed, first_zeroed, is_to_zero, others_of_kind, same_kind, zeroed, zeroed_by, zeroed_slot, leaves_clean, queue_joined, owned_joined, slot_self, faulted_owned, SlotKind, stack_kind, QueueKind, slot_kind, can_zero, queue_popped, queue_zeroed, told_same}
 use Rattle.pool_alloc.specs.Leases.{memory_slot}
 use Rattle.pool_slots.specs.declared.queued_range.QueueKind.TheVariants.{Memory}
-use Rattle.pool_slots.specs.declared.slot_name.SlotName.{SlotName}
-use Rattle.pool_slots.specs.declared.queued_range.QueuedRange.{QueuedRange}
-use Rattle.pool_slots.specs.SlotQueues.{Queue, Queued, behind, is_of, empty_queue, AreDistinct, AreApart, LeavesClean, IsReset, IsLeftBy, holds, owner, with_slot, after_take, taken_into, drained, after_append, first_slot, after_run, CanBeZeroed, first_zeroed, is_to_zero, others_of_kind, same_kind, zeroed, zeroed_by, zeroed_slot}
 use Rattle.pool_alloc.specs.Answers.{Decommits, Resets}
 use Rattle.pool_alloc.specs.Sound.{IsSettings, IsShared, IsLocal, IsQueuedOf, MayBeRanged, MustBeByHand}
 use Rattle.pool_alloc.specs.RangeRuns.{runs}
@@ -23,18 +10,7 @@ use Rattle.pool_alloc.proofs.Runs.{one_run, no_runs, grouped_joined, grouped_dec
 use Rattle.pool_alloc.specs.declared.frame.TakenSlot.{TakenSlot}
 use Rattle.pool_alloc.specs.declared.pool_core.Settings.{Settings}
 use Rattle.pool_alloc.proofs.SlotIdentity.{IsOneSlot, first_ranged, queued_of_one, queued_after_run, length_after_run, queued_faulted}
-use Rattle.pool_slots.proofs.SlotChanges.{leaves_clean, queue_joined, owned_joined}
-use Rattle.pool_slots.proofs.SlotNames.{slot_self}
-use Rattle.pool_slots.proofs.SlotRuns.{faulted_owned}
 use Rattle.pool_alloc.proofs.QueueRuns.{run_queue, run_owners}
-use Rattle.pool_hall.specs.declared.unit_name.SlotKind.{SlotKind}
-use Rattle.pool_hall.specs.declared.unit_name.SlotKind.TheVariants.{Stack as stack_kind}
-use Rattle.pool_slots.specs.declared.queued_range.QueueKind.{QueueKind}
-use Rattle.pool_slots.specs.SlotNames.{slot_kind}
-use Rattle.pool_slots.proofs.SlotPops.{can_zero, queue_popped, queue_zeroed}
-use Rattle.std.proofs.Common.{inl, inr}
-use Rattle.pool_images.proofs.Identity.{told_same}
-use Rattle.pool_images.specs.Slots.{identity}
 
 -- a queue once it gave its ranges and slots away, by a take or without
 pub drained_shared : (maker : MakerTold) (s : Settings) (q : Queue) → IsSettings s → q.range_room ≡ 2 * s.batch → q.slot_room ≡ 2 * s.batch → IsShared maker s (drained q)

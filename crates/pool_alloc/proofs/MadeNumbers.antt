@@ -1,23 +1,6 @@
 -- A pool is made with the numbers of its settings: what the making of its parts says of those it says of the settings.
-use Rattle.std.proofs.Common.{◌≡◌, ℕ, ◌<◌, ◌^◌, Bool, false, List, Option, refl, sym, ap, subst, ◌∙◌}
-use Rattle.std.specs.Prelude.{IfSome}
-use Rattle.pool_pages.specs.MakerTold.{MakerTold, Planned}
-use Rattle.pool_pages.specs.Told.{Told}
-use Rattle.pool_pages.specs.SettingsRules.{slab_stripes}
-use Rattle.pool_pages.specs.declared.config.PoolingAllocationConfig.{PoolingAllocationConfig}
-use Rattle.pool_pages.specs.declared.module_types.Tunables.{Tunables}
-use Rattle.pool_pages.specs.declared.offered.Offered.{Offered}
-use Rattle.pool_slots.specs.Colourings.{RaisesUnlessGivenUp, RaisesBehindUnlessGivenUp}
-use Rattle.pool_slots.specs.Makings.{IsListedPoolFault}
-use Rattle.pool_slots.specs.PartsMade.{AreMadeTo, fails_some_slot, lists_some_making, SomeGivenUp}
-use Rattle.pool_slots.specs.PlansMade.{places_planned}
-use Rattle.pool_slots.specs.StripedPlans.{divided, IsStripedPlanOf}
-use Rattle.pool_slots.specs.declared.errors.PoolNewError.{PoolNewError}
-use Rattle.pool_slots.specs.declared.part_maker.PartSettings.{PartSettings}
-use Rattle.pool_slots.specs.declared.part.PoolPart.{PoolPart}
-use Rattle.pool_slots.specs.declared.plan.Plan.{Plan}
-use Rattle.pool_slots.specs.declared.striped_plan.StripedPlanSettings.{StripedPlanSettings}
-use Rattle.pool_slots.proofs.Plans.{mapped_told}
+use Rattle.std.proofs.Common.{◌≡◌, ℕ, ◌<◌, ◌^◌, Bool, false, List, Option, refl, sym, ap, subst, ◌∙◌, IfSome}
+use Rattle.pool_alloc.proofs.Imports.{told_weaker, MakerTold, Planned, Told, slab_stripes, PoolingAllocationConfig, Tunables, Offered, RaisesUnlessGivenUp, RaisesBehindUnlessGivenUp, IsListedPoolFault, AreMadeTo, fails_some_slot, lists_some_making, SomeGivenUp, places_planned, divided, IsStripedPlanOf, PoolNewError, PartSettings, PoolPart, Plan, StripedPlanSettings}
 use Rattle.pool_alloc.specs.Made.{slots_of, plan_settings, part_settings, lists_making, fails_slots, GivesUpRegion}
 
 -- the numbers and sizes as the code makes them, with a count of stripes that is that of the settings
@@ -29,10 +12,10 @@ module _ (page : ℕ) (config : PoolingAllocationConfig) (tunables : Tunables) (
   fails_as plan = ap (λ (z : StripedPlanSettings). fails_some_slot z ps plan) numbers_are ∙ ap (λ (s : PartSettings). fails_some_slot (plan_settings page config tunables offered shards) s plan) sizes
 
   pub fails_in : (b : Bool) (plan : Option (List Planned)) → IfSome plan (λ p. fails_some_slot y ps p ≡ b) → IfSome plan (λ p. fails_slots page config tunables offered shards p ≡ b)
-  fails_in b plan told = mapped_told (λ p. fails_some_slot y ps p ≡ b) (λ p. fails_slots page config tunables offered shards p ≡ b) plan (λ p h. sym (fails_as p) ∙ h) told
+  fails_in b plan told = told_weaker (λ p. fails_some_slot y ps p ≡ b) (λ p. fails_slots page config tunables offered shards p ≡ b) plan (λ p h. sym (fails_as p) ∙ h) told
 
   pub fault_in : (e : PoolNewError) (plan : Option (List Planned)) → IfSome plan (λ p. IsListedPoolFault (fails_some_slot y ps p) e) → IfSome plan (λ p. IsListedPoolFault (fails_slots page config tunables offered shards p) e)
-  fault_in e plan told = mapped_told (λ p. IsListedPoolFault (fails_some_slot y ps p) e) (λ p. IsListedPoolFault (fails_slots page config tunables offered shards p) e) plan (λ p h. subst (λ b. IsListedPoolFault b e) (fails_as p) h) told
+  fault_in e plan told = told_weaker (λ p. IsListedPoolFault (fails_some_slot y ps p) e) (λ p. IsListedPoolFault (fails_slots page config tunables offered shards p) e) plan (λ p h. subst (λ b. IsListedPoolFault b e) (fails_as p) h) told
 
   pub listed_as : (listed : List Planned) → lists_some_making y.totals listed ≡ lists_making config listed
   listed_as listed = ap (λ (z : StripedPlanSettings). lists_some_making z.totals listed) numbers_are

@@ -1,55 +1,13 @@
 -- A pool as it is made is sound, and nothing of it is used.
-use Rattle.std.proofs.lemmas.List.{length-replicate}
+use Rattle.std.proofs.Common.{◌≡◌, ℕ, zero, suc, ◌+◌, ◌*◌, ◌^◌, ◌<◌, ◌≤◌, List, [], ◌∷◌, ◌++◌, length, refl, sym, ap, subst, ◌∙◌, arith, replicate, Option, None, map, ◌-◌}
+use Rattle.pool_alloc.proofs.Imports.{length-replicate, none_at_first, div_ceil, AllByRecursion, range_with_len, div_ceil_times, All-nil, SlotKind, memory_kind, table_kind, stack_kind, heap_kind, UnitName, count, rounded_up, IsPageSize, IsWithinLimits, MakerTold, slab_stripes, IsWithinRules, PoolingAllocationConfig, Tunables, Offered, rounded_within, rounded_leaves, rounded_is_whole, rounded_same, used_units, ShardState, MemoryInModule, all_away, all_kept, coloured_region, part_away, part_kept, part_at, AreMadeTo, IsCellMade, IsMadeAs, queue_made, shard_made, Role, shard_role, cell_role, queue_role, heaps_role, no_role, role_at, IsPlacedAllocator, places_planned, of_kind, empty_queue, divided, stripe_allocator, IsStripedPlanOf, PoolPart, PartSettings, Allocator, Plan, OfKinds, SlotName, StripedPlanSettings, each_both, made_shard_of, allocators_placed, planned}
 use Rattle.pool_slots.specs.declared.heap_list.HeapEntry.TheVariants as entry
-use Rattle.pool_slots.proofs.HeapUnits.{none_at_first}
-use Rattle.std.proofs.Common.{◌≡◌, ℕ, zero, suc, ◌+◌, ◌*◌, ◌^◌, ◌<◌, ◌≤◌, List, [], ◌∷◌, ◌++◌, length, refl, sym, ap, subst, ◌∙◌, arith, replicate, Option, None, map}
-use Rattle.std.specs.Prelude.{◌-◌}
-use Rattle.std.specs.Int.{div_ceil}
-use Rattle.std.specs.List.{AllByRecursion, range_with_len}
-use Rattle.std.proofs.lemmas.Grind.{div_ceil_times}
-use Rattle.std.proofs.lemmas.List.Elements.{All-nil}
-use Rattle.pool_hall.specs.declared.unit_name.SlotKind.{SlotKind}
-use Rattle.pool_hall.specs.declared.unit_name.SlotKind.TheVariants.{Memory as memory_kind, Table as table_kind, Stack as stack_kind, Heap as heap_kind}
-use Rattle.pool_hall.specs.declared.unit_name.UnitName.{UnitName}
-use Rattle.pool_pages.specs.Count.{count, rounded_up, IsPageSize}
-use Rattle.pool_pages.specs.ConfigLimits.{IsWithinLimits}
-use Rattle.pool_pages.specs.MakerTold.{MakerTold}
-use Rattle.pool_pages.specs.SettingsRules.{slab_stripes, IsWithinRules}
-use Rattle.pool_pages.specs.declared.config.PoolingAllocationConfig.{PoolingAllocationConfig}
-use Rattle.pool_pages.specs.declared.module_types.Tunables.{Tunables}
-use Rattle.pool_pages.specs.declared.offered.Offered.{Offered}
-use Rattle.pool_images.proofs.PageSizes.{rounded_within, rounded_leaves}
-use Rattle.pool_index.specs.Part.{used_units}
-use Rattle.pool_index.specs.Shard.{ShardState}
-use Rattle.pool_index.specs.declared.ids.MemoryInModule.{MemoryInModule}
-use Rattle.pool_slots.specs.ListUnits.{all_away, all_kept}
-use Rattle.pool_slots.specs.Colourings.{coloured_region}
-use Rattle.pool_slots.specs.PartUnits.{part_away, part_kept}
-use Rattle.pool_slots.specs.Parts.{part_at}
-use Rattle.pool_slots.specs.PartsMade.{AreMadeTo, IsCellMade, IsMadeAs, queue_made, shard_made}
-use Rattle.pool_slots.specs.Plans.{Role, shard_role, cell_role, queue_role, heaps_role, no_role, role_at, IsPlacedAllocator}
-use Rattle.pool_slots.specs.PlansMade.{places_planned}
-use Rattle.pool_slots.specs.SlotNames.{of_kind}
-use Rattle.pool_slots.specs.SlotQueues.{empty_queue}
-use Rattle.pool_slots.specs.StripedPlans.{divided, stripe_allocator, IsStripedPlanOf}
-use Rattle.pool_slots.specs.declared.part.PoolPart.{PoolPart}
 use Rattle.pool_slots.specs.declared.part.PoolPart.TheVariants as part
-use Rattle.pool_slots.specs.declared.part_maker.PartSettings.{PartSettings}
-use Rattle.pool_slots.specs.declared.plan.Allocator.{Allocator}
-use Rattle.pool_slots.specs.declared.plan.Plan.{Plan}
-use Rattle.pool_slots.specs.declared.slot_name.OfKinds.{OfKinds}
-use Rattle.pool_slots.specs.declared.slot_name.SlotName.{SlotName}
-use Rattle.pool_slots.specs.declared.striped_plan.StripedPlanSettings.{StripedPlanSettings}
-use Rattle.pool_slots.proofs.Lists.{each_both}
-use Rattle.pool_slots.proofs.PartsMade.{made_shard_of}
-use Rattle.pool_slots.proofs.Planning.{allocators_placed}
-use Rattle.pool_slots.proofs.StripedPlans.{planned}
 use Rattle.pool_alloc.specs.Made.{settings_of, plan_settings, part_settings, IsMadeCore}
 use Rattle.pool_alloc.specs.Sound.{IsSettings, IsShared, IsQueuedOf, MayBeRanged, IsCore, IsPartFor, IsStripe, IsPoolPlan}
 use Rattle.pool_alloc.specs.Whole.{IsUntouched}
 use Rattle.pool_alloc.specs.declared.pool_core.PoolCore.{PoolCore}
 use Rattle.pool_alloc.specs.declared.pool_core.Settings.{Settings}
-use Rattle.pool_alloc.proofs.Rounding.{rounded_is_whole, rounded_whole}
 use Rattle.pool_alloc.proofs.Striping.{few_stripes, some_stripes, some_times, within_slots}
 use Rattle.pool_alloc.proofs.StackRegions.{stack_region_made}
 use Rattle.pool_alloc.proofs.TableRegions.{table_region_made}
@@ -119,7 +77,6 @@ plan_made z plan stripes within asked is small =
       heaps = rw is.heaps (omega arith);
       heap_shards = each_both (λ a. 0 < a.shards) IsPlacedAllocator IsStripe plan.heaps (λ a more at. record { some = more; placed = at }) heap_some (allocators_placed plan (places_planned (divided z)) all small heap_kind);
       queues = omega (arith, asked, is.queues);
-      shared = is.shared;
     }
 
 empty_shared : (maker : MakerTold) (s : Settings) → 1 ≤ s.batch → IsShared maker s (empty_queue (2 * s.batch) (2 * s.batch))
@@ -154,7 +111,7 @@ module _ {P H : Type 0} where
       let t : Settings = settings_of maker.page config tunables offered in
       let C : ℕ → Type 0 = λ n. IsCellMade n maker (part_settings maker.page config offered) memory_kind slot x in
       let size : ℕ = rounded_up maker.page config.limits.max_memory_size in
-      let same : size ≡ rounded_up maker.page size = sym (rounded_whole maker.page size page (rounded_is_whole maker.page config.limits.max_memory_size)) in
+      let same : size ≡ rounded_up maker.page size = sym (rounded_same maker.page size page (rounded_is_whole maker.page config.limits.max_memory_size)) in
       let region = ap (λ (n : ℕ). coloured_region t.num_stripes maker offered.behaviour (count maker.page n) slot) same in
       let made : C t.num_stripes = subst C (ap (λ (u : Settings). u.num_stripes) settings) is in
       subst (λ (u : Settings). F u x) (sym settings) (subst (F t) (sym made) (refl, record { named = refl; holds = region }))

@@ -1,19 +1,8 @@
 -- The steps that make a memory and a table, as the code makes them.
-use Rattle.std.proofs.Common.{◌≡◌, ℕ, nat_le, Bool, true, false, refl, ap, ◌∙◌, Option, Some, None, Result, Ok, Err}
-use Rattle.std.specs.Prelude.{IfSome, if◌then◌else◌}
-use Rattle.pool_pages.specs.declared.module_types.MemoryDecl.{MemoryDecl}
-use Rattle.pool_pages.specs.declared.module_types.MemoryType.{MemoryType}
-use Rattle.pool_pages.specs.declared.unsupported.Unsupported.TheVariants.{InitialSize}
-use Rattle.pool_limits.specs.declared.errors.LimiterError.{LimiterError}
-use Rattle.pool_images.specs.Slots.{Slot}
-use Rattle.pool_memory.specs.Static.{Static, static_capacity}
-use Rattle.pool_memory.specs.Making.{limits_answer, made_memory, made_within, static_answer}
+use Rattle.std.proofs.Common.{◌≡◌, ℕ, nat_le, Bool, true, false, refl, ap, ◌∙◌, Option, Some, None, Result, Ok, Err, IfSome, if◌then◌else◌}
+use Rattle.pool_alloc.proofs.Imports.{MemoryDecl, MemoryType, InitialSize, LimiterError, Slot, Static, static_capacity, limits_answer, made_memory, made_within, static_answer, MemoryError, Told, TableType, AllocError}
 use Rattle.pool_memory.specs.declared.memory.Memory.{Memory}
-use Rattle.pool_memory.specs.declared.memory_error.MemoryError.{MemoryError}
 use Rattle.pool_alloc.specs.Own.{made_of, made_of_limits, made_for}
-use Rattle.pool_pages.specs.Told.{Told}
-use Rattle.pool_pages.specs.declared.table_type.TableType.{TableType}
-use Rattle.pool_slots.specs.declared.errors.AllocError.{AllocError}
 use Rattle.pool_alloc.specs.Rows.{was_made, made_by, was_made_table, table_made_by}
 use Rattle.pool_alloc.specs.TableLeases.{LeasedTable}
 use Rattle.pool_alloc.specs.TableSteps.{handed_back, made_table}

@@ -1,32 +1,20 @@
 -- Each row changes one part of the pool, or none.
-use Rattle.pool_slots.specs.declared.heap_maker.HeapMakeFault.{HeapMakeFault}
-use Rattle.pool_slots.specs.declared.heap_list.HeapEntry.{HeapEntry}
+use Rattle.std.proofs.Common.{◌≡◌, ◌⊎◌, ap, ℕ, ◌+◌, Bool, true, false, List, length, refl, sym, subst, inl, inr, Option, Some, None, Result, Ok, Err, [], ◌∷◌, nat_le}
+use Rattle.pool_alloc.proofs.Imports.{HeapMakeFault, HeapEntry, Unsupported, Slot, ShardState, MemoryState, CellState, Queue, Queued, after_append, drained, first_of_kind, others_of_kind, AllocError, Told, SlotName}
 use Rattle.pool_alloc.specs.HeapLeases.{LeasedHeap}
 use Rattle.pool_alloc.specs.Refusals.{heap_refused}
-use Rattle.std.proofs.Common.{◌≡◌, ◌⊎◌, ap, ℕ, ◌+◌, Bool, true, false, List, length, refl, sym, subst, inl, inr, Option, Some, None, Result, Ok, Err, [], ◌∷◌}
-use Rattle.pool_pages.specs.declared.unsupported.Unsupported.{Unsupported}
-use Rattle.pool_images.specs.Slots.{Slot}
-use Rattle.pool_index.specs.Shard.{ShardState}
 use Rattle.pool_alloc.specs.PartyTold.{PartyTold}
-use Rattle.pool_memory.specs.Memories.{MemoryState}
-use Rattle.pool_slots.specs.RegionCells.{CellState}
-use Rattle.std.specs.Prelude.{nat_le}
-use Rattle.pool_slots.specs.SlotQueues.{Queue, Queued, after_append, drained, first_of_kind, others_of_kind}
-use Rattle.pool_slots.specs.declared.errors.AllocError.{AllocError}
 use Rattle.pool_alloc.specs.Leases.{Lease}
-use Rattle.pool_pages.specs.Told.{Told}
 use Rattle.pool_alloc.specs.TableLeases.{LeasedTable}
 use Rattle.pool_alloc.specs.Rows.{stacks_tested, FlushStep, run, zero, put, free, flush_step, merged, in_queue, reserved, validated, counted, paged, was_made, was_made_table, was_reset, put_first, flush_row, row_of, component_tested, component_counted, heaps_tested, make_heap_row, heap_granted}
-use Rattle.pool_alloc.specs.Steps.{StepGiven, queue_at, queue_tried, with_shard, with_cell, with_queue, with_heaps}
+use Rattle.pool_alloc.specs.Steps.{StepGiven, queue_at, queue_tried, with_shard, with_cell, with_queue, with_heaps, counting_keys, counting_instances, counting_components, counting_memories, counting_tables, counting_stacks, counting_heaps}
 use Rattle.pool_alloc.specs.Stepping.{StepsTo, ChangesOnePart}
 use Rattle.pool_alloc.specs.Turns.{After}
 use Rattle.pool_alloc.specs.declared.pool_core.PoolCore.{PoolCore}
-use Rattle.pool_alloc.specs.Steps.{counting_keys, counting_instances, counting_components, counting_memories, counting_tables, counting_stacks, counting_heaps}
 use Rattle.pool_alloc.specs.declared.frame.Frame.{Frame}
 use Rattle.pool_alloc.specs.declared.frame.Phase.{Phase}
 use Rattle.pool_alloc.specs.declared.frame.Object.TheVariants.{Memory, Table, Stack}
 use Rattle.pool_alloc.specs.declared.frame.TakenSlot.{TakenSlot}
-use Rattle.pool_slots.specs.declared.slot_name.SlotName.{SlotName}
 use Rattle.pool_alloc.specs.declared.frame.Phase.TheVariants.{Idle, Key, Validate, TestStack, CountInstance, Pick, TakeQueue, TakeRegion, Empty, Instantiate, MakeMemory, MakeTable, CountObject, PutBack, FreeOne, UncountObject, Reset, Merge, Flush, UncountInstance, ValidateComponent, CountComponent, UncountComponent, Purge, Release, TestHeap, TakeHeap, MakeHeap, CountHeap, PutNoHeap, UncountHeap, PutHeap, FreeHeap}
 use Rattle.pool_alloc.specs.Purges.{has_turns, pick_affine_row, purge_row}
 use Rattle.pool_alloc.specs.Releases.{reserve_row, release_row}

@@ -1,11 +1,6 @@
 -- What a step moves, on the one part that it changes; and where it changes none.
 use Rattle.std.proofs.Common.{◌≡◌, ℕ, ◌+◌, ◌<◌, List, length, ap, arith, set}
-use Rattle.pool_hall.specs.Sum.{total}
-use Rattle.pool_slots.specs.ListUnits.{all_away, all_kept}
-use Rattle.pool_slots.specs.PartUnits.{part_away, part_kept}
-use Rattle.pool_slots.specs.Parts.{part_at}
-use Rattle.pool_slots.specs.declared.part.PoolPart.{PoolPart}
-use Rattle.pool_slots.proofs.ListUnits.{away_follows, kept_follows}
+use Rattle.pool_alloc.proofs.Imports.{total, all_away, all_kept, part_away, part_kept, part_at, PoolPart, away_follows, kept_follows}
 use Rattle.pool_alloc.specs.PartFlows.{FlowsOnPart}
 use Rattle.pool_alloc.specs.Places.{Thing, frame_count}
 use Rattle.pool_alloc.specs.Stepping.{Conserves, count_granted, grant_count}

@@ -1,11 +1,6 @@
 -- What follows for a slot, and for a region, that the next step of a call has.
 use Rattle.std.proofs.Common.{◌≡◌, ℕ, ◌+◌, ◌≤◌, true, false, arith}
-use Rattle.pool_pages.specs.MakerTold.{MakerTold}
-use Rattle.pool_index.specs.Shard.{is_used}
-use Rattle.pool_slots.specs.Cells.{is_taken}
-use Rattle.pool_slots.specs.Plans.{home_of}
-use Rattle.pool_slots.specs.declared.slot_name.RegionNumbers.{RegionNumbers}
-use Rattle.pool_slots.specs.declared.slot_name.SlotName.{SlotName}
+use Rattle.pool_alloc.proofs.Imports.{MakerTold, is_used, is_taken, home_of, RegionNumbers, SlotName}
 use Rattle.pool_alloc.specs.Places.{right_to, region_of, phase_count, frame_count}
 use Rattle.pool_alloc.specs.Sound.{HasCells, IsCore, FitsCore}
 use Rattle.pool_alloc.specs.Steps.{shard_at, cell_named}

@@ -1,57 +1,6 @@
 -- What a pick leaves is a shard with the same slots, and the slot that it gives is one of them.
-use Rattle.std.proofs.Common.{◌≡◌, ℕ, ◌+◌, ◌^◌, ◌<◌, Bool, true, false, List, [], ◌∷◌, length, refl, arith, Option, Some, None}
-use Rattle.std.specs.Prelude.{IfSome, option_map, nat_lt, if◌then◌else◌}
-use Rattle.std.specs.Option.{option_or, option_map_or}
-use Rattle.std.proofs.lemmas.Bool.{ltb-true}
-use Rattle.std.proofs.Math.Nat.{mod-lt}
-use Rattle.pool_index.specs.Affinity.{is_affine}
-use Rattle.pool_index.specs.Positions.{last_position}
-use Rattle.pool_index.specs.declared.ids.MemoryInModule.{MemoryInModule}
-use Rattle.pool_index.specs.Shard.{ShardState, IsShard, IsSameShard, Choice, warm_at, next_cold, affine_choice, warm_choice, cold_choice, choice, slot_and_bytes, after_choice, after_full, after_pick, pick_answer, entry_at}
-use Rattle.pool_index.proofs.Shards.{IsFree, warm_slot_free, after_warm_sound, after_cold_sound}
-
-place_inside : {X : Type 0} (x : X) (xs : List X) (b : Bool) (r : Option ℕ) → IfSome r (λ i. i < length xs) → IfSome (option_or (option_map (λ i. i + 1) r) (if b then Some 0 else None)) (λ i. i < length (x ∷ xs))
-place_inside x xs b (Some i) h = omega arith
-place_inside x xs true None h = omega arith
-place_inside x xs false None h = tt
-
-last_inside : {X : Type 0} (p : X → Bool) (xs : List X) → IfSome (last_position p xs) (λ i. i < length xs)
-last_inside p [] = tt
-last_inside p (x ∷ xs) = place_inside x xs (p x) (last_position p xs) (last_inside p xs)
-
--- the choice is a slot that can be taken
-abbrev pub IsChoice : ShardState → Choice → Type 0
-IsChoice s (warm_at i) = i < length s.warm
-IsChoice s next_cold = s.cold < s.capacity
-
-warm_taken : (s : ShardState) (r : Option ℕ) → IfSome r (λ i. i < length s.warm) → IfSome (option_map warm_at r) (IsChoice s)
-warm_taken s None h = h
-warm_taken s (Some i) h = h
-
-pub affine_taken : (want : Option MemoryInModule) (s : ShardState) → IfSome (affine_choice want s) (IsChoice s)
-affine_taken None s = tt
-affine_taken (Some of) s = warm_taken s (last_position (is_affine of) s.warm) (last_inside (is_affine of) s.warm)
-
-if_taken : (s : ShardState) (c : Choice) (b : Bool) → (b ≡ true → IsChoice s c) → IfSome (if b then Some c else None) (IsChoice s)
-if_taken s c true h = h refl
-if_taken s c false h = tt
-
-either_taken : (s : ShardState) (a b : Option Choice) → IfSome a (IsChoice s) → IfSome b (IsChoice s) → IfSome (option_or a b) (IsChoice s)
-either_taken s None b g h = h
-either_taken s (Some c) b g h = g
-
-one_taken : (s : ShardState) (b : Bool) (x y : Option Choice) → IfSome x (IsChoice s) → IfSome y (IsChoice s) → IfSome (if b then x else y) (IsChoice s)
-one_taken s true x y g h = g
-one_taken s false x y g h = h
-
-pub choice_taken : (want : Option MemoryInModule) (s : ShardState) → IfSome (choice want s) (IsChoice s)
-choice_taken want s =
-    let warm : IfSome (warm_choice s) (IsChoice s) = if_taken s (warm_at 0) (nat_lt 0 (length s.warm)) (λ e. ltb-true 0 (length s.warm) e) in
-    let cold : IfSome (cold_choice s) (IsChoice s) = if_taken s next_cold (nat_lt s.cold s.capacity) (λ e. ltb-true s.cold s.capacity e) in
-    either_taken s (affine_choice want s) _ (affine_taken want s)
-    (one_taken s (nat_lt (length s.warm) s.budget) (option_or (cold_choice s) (warm_choice s)) (option_or (warm_choice s) (cold_choice s))
-    (either_taken s (cold_choice s) (warm_choice s) cold warm)
-    (either_taken s (warm_choice s) (cold_choice s) warm cold))
+use Rattle.std.proofs.Common.{◌+◌, ◌^◌, ◌<◌, refl, arith, Option, Some, None, IfSome, option_map}
+use Rattle.pool_alloc.proofs.Imports.{option_map_or, mod-lt, IsChoice, choice_taken, MemoryInModule, ShardState, IsShard, IsSameShard, Choice, warm_at, next_cold, choice, slot_and_bytes, after_choice, after_full, after_pick, pick_answer, entry_at, IsFree, warm_slot_free, after_warm_sound, after_cold_sound}
 
 full_sound : (s : ShardState) → IsShard s → IsShard (after_full s)
 full_sound s sound =

@@ -1,30 +1,12 @@
 -- What the places of a right plan are for, and where slots are at home.
-use Rattle.pool_slots.specs.declared.slot_name.SlotName.{SlotName}
+use Rattle.std.proofs.Common.{◌≡◌, ℕ, ◌+◌, ◌*◌, ◌-◌, ◌<◌, ◌≤◌, List, [], ◌∷◌, length, refl, sym, ap, subst, ◌∙◌, arith, get_or, inl, inr, true, false, min, Bool, map, ◌⊎◌, ◌++◌, if◌then◌else◌, ◌%◌, nat_le, nat_lt, zero, suc}
+use Rattle.pool_alloc.proofs.Imports.{each_at, SlotName, AllByRecursion, cases_Bool, and_parts, ltb-true, leb-true, mod-lt, SlotKind, memory_kind, table_kind, stack_kind, heap_kind, of_kind, Role, shard_role, cell_role, queue_role, heaps_role, no_role, Block, blocks, is_within, role_among, role_at, slots_at, number_in, have_number, IsAllocator, IsAtHome, home_of, cell_place, allocators_of, shards_block, cells_block, allocators, Allocator, Plan, roles, HasShards, shards_of, slots_are_at_home, shard_of_kind, home_there}
 use Rattle.pool_alloc.specs.Bounds.{most_shards, searched_allocators}
-use Rattle.std.proofs.Common.{◌≡◌, ℕ, ◌+◌, ◌*◌, ◌-◌, ◌<◌, ◌≤◌, List, [], ◌∷◌, length, refl, sym, ap, subst, ◌∙◌, arith, get_or, inl, inr, true, false, min, Bool, map, ◌⊎◌, ◌++◌}
-use Rattle.std.specs.Prelude.{if◌then◌else◌, ◌%◌, nat_le, nat_lt, zero, suc}
-use Rattle.std.specs.List.{AllByRecursion}
-use Rattle.std.proofs.lemmas.Bool.{cases_Bool, and_parts, ltb-true, leb-true}
-use Rattle.std.proofs.Math.Nat.{mod-lt}
-use Rattle.pool_hall.specs.declared.unit_name.SlotKind.{SlotKind}
-use Rattle.pool_hall.specs.declared.unit_name.SlotKind.TheVariants.{Memory as memory_kind, Table as table_kind, Stack as stack_kind, Heap as heap_kind}
-use Rattle.pool_slots.specs.SlotNames.{of_kind}
-use Rattle.pool_slots.specs.Plans.{Role, shard_role, cell_role, queue_role, heaps_role, no_role, Block, blocks, is_within, role_among, role_at, slots_at, number_in, have_number, IsAllocator, IsAtHome, home_of, cell_place, allocators_of, shards_block, cells_block, allocators}
-use Rattle.pool_slots.specs.declared.plan.Allocator.{Allocator}
-use Rattle.pool_slots.specs.declared.plan.Plan.{Plan}
-use Rattle.pool_slots.proofs.Planning.{roles, HasShards, shards_of, slots_are_at_home}
-use Rattle.pool_slots.proofs.AwayOnce.{shard_of_kind, home_there}
 use Rattle.pool_alloc.specs.Sound.{IsStripe, IsPoolPlan, HasCells, IsSlotName}
 use Rattle.pool_alloc.specs.Steps.{memories_wanted, memory_slots, no_allocator, stripe_allocator, allocator_of, allocator_for, kind_next, kind_by, shard_tried, queue_tried, queues_searched}
 use Rattle.pool_alloc.specs.declared.frame.Asked.{Asked}
 use Rattle.pool_alloc.specs.declared.frame.Asked.TheVariants.{Stack as stack_asked}
 use Rattle.pool_alloc.specs.declared.frame.Frame.{Frame}
-
--- what is so of each element is so of that at a place
-pub each_at : {X : Type 0} (P : X → Type 0) (xs : List X) (i : ℕ) (d : X) → i < length xs → AllByRecursion P xs → P (get_or xs i d)
-each_at P [] i d below each = absurd (omega arith)
-each_at P (x ∷ xs) zero d below each = each.0
-each_at P (x ∷ xs) (suc i) d below each = each_at P xs i d (omega (arith, below)) each.1
 
 -- a place with a role is one of the pool
 role_inside : (bs : List Block) (places p : ℕ) (r : Role) → AllByRecursion (λ b. b.first + b.count ≤ places) bs → role_among bs p ≡ r → (no_role ≡ r → ⊥) → p < places
@@ -77,12 +59,6 @@ heaps_place plan places is some =
 
 pub heaps_inside : (plan : Plan) (places p : ℕ) → IsPoolPlan plan places → IsHeapsPlace plan p → p < places
 heaps_inside plan places p is role = role_inside (blocks plan) places p (heaps_role plan.totals.heap) is.planned.inside role (λ e. let no : ◌≡◌ {A = ℕ} 0 4 = ap role_number e in omega arith)
-
-pub shard_no_heaps : (plan : Plan) (p q : ℕ) → IsShardPlace plan p → IsHeapsPlace plan q → p ≡ q → ⊥
-shard_no_heaps plan p q place role e = let no : ◌≡◌ {A = ℕ} 1 4 = sym (ap role_number place.role) ∙ ap (λ (n : ℕ). role_number (role_at plan n)) e ∙ ap role_number role in omega arith
-
-pub queue_no_heaps : (plan : Plan) (p q : ℕ) → IsQueuePlace plan p → IsHeapsPlace plan q → p ≡ q → ⊥
-queue_no_heaps plan p q place role e = let no : ◌≡◌ {A = ℕ} 3 4 = sym (ap role_number place) ∙ ap (λ (n : ℕ). role_number (role_at plan n)) e ∙ ap role_number role in omega arith
 
 -- the cell of a slot of the pool has its place
 abbrev IsCellPlace : Plan → ℕ → SlotKind → ℕ → Type 0
@@ -258,13 +234,9 @@ cell_below plan p name role =
 pub queue_role_at : (plan : Plan) (places i : ℕ) → IsPoolPlan plan places → i < plan.queues → role_at plan (plan.first_queue + i) ≡ queue_role
 queue_role_at plan places i is below = (roles (blocks plan) is.planned.separate).1.1.1.0 i below
 
--- where queues are shared, a search goes through all
-pub queues_all : (plan : Plan) → plan.owned ≡ false → queues_searched plan ≡ plan.queues
-queues_all plan shared = rw shared refl
-
-queue_of : (owned : Bool) (home next : ℕ) → owned ≡ false → (if owned then home else next) ≡ next
-queue_of true home next e = absurd cc
-queue_of false home next e = refl
+-- a search goes through all queues
+pub queues_all : (plan : Plan) → queues_searched plan ≡ plan.queues
+queues_all plan = refl
 
 module _ {P H : Type 0} where
   -- The shard that is tried, and the queue, has its place.
@@ -275,10 +247,10 @@ module _ {P H : Type 0} where
   pub tried_is_shard : (tried : ℕ) (plan : Plan) (places : ℕ) (f : Frame P H) → IsPoolPlan plan places → f.stripe < length plan.memories → IsShardPlace plan (shard_tried tried plan f)
   tried_is_shard tried plan places f is stripe = record { allocator = allocator_for plan f; index = (f.home + tried) % (allocator_for plan f).shards; role = tried_role tried plan places f is stripe }
 
-  pub queue_tried_at : (plan : Plan) (queues : ℕ) (f : Frame P H) → plan.owned ≡ false → queue_tried queues plan f ≡ plan.first_queue + (f.home + queues) % plan.queues
-  queue_tried_at plan queues f shared = ap (λ (m : ℕ). plan.first_queue + m) (queue_of plan.owned f.home ((f.home + queues) % plan.queues) shared)
+  pub queue_tried_at : (plan : Plan) (queues : ℕ) (f : Frame P H) → queue_tried queues plan f ≡ plan.first_queue + (f.home + queues) % plan.queues
+  queue_tried_at plan queues f = refl
 
   pub tried_is_queue : (queues : ℕ) (plan : Plan) (places : ℕ) (f : Frame P H) → IsPoolPlan plan places → IsQueuePlace plan (queue_tried queues plan f)
   tried_is_queue queues plan places f is =
       let n : ℕ = (f.home + queues) % plan.queues in
-      ap (role_at plan) (queue_tried_at plan queues f is.shared) ∙ queue_role_at plan places n is (mod-lt (f.home + queues) is.queues)
+      ap (role_at plan) (queue_tried_at plan queues f) ∙ queue_role_at plan places n is (mod-lt (f.home + queues) is.queues)

@@ -1,23 +1,12 @@
 -- Each part of the pool is what its place is for, also where one of them changes.
 use Rattle.std.proofs.Common.{◌≡◌, ℕ, ◌+◌, ◌*◌, ◌<◌, length, ap, subst, ◌∙◌, arith}
-use Rattle.std.proofs.lemmas.List.{get_or-set_same, get_or-set_other}
-use Rattle.pool_pages.specs.MakerTold.{MakerTold}
-use Rattle.pool_index.specs.Shard.{ShardState, IsShard, slot_number}
-use Rattle.pool_slots.specs.ListUnits.{IsShardOf}
-use Rattle.pool_slots.specs.Parts.{IsAt, IsShardPart, part_at, cell_of_part, IsCellPart}
-use Rattle.pool_slots.specs.Plans.{Role, shard_role, cell_role, queue_role, heaps_role, role_at, number_at, home_of, cell_place}
-use Rattle.pool_slots.specs.SlotNames.{of_kind}
-use Rattle.pool_slots.specs.declared.part.PoolPart.{PoolPart}
+use Rattle.pool_alloc.proofs.Imports.{get_or-set_same, get_or-set_other, MakerTold, ShardState, IsShard, slot_number, IsShardOf, IsAt, IsShardPart, part_at, cell_of_part, IsCellPart, Role, shard_role, cell_role, queue_role, heaps_role, role_at, number_at, home_of, cell_place, of_kind, PoolPart, Allocator, Plan, SlotName, CellState}
 use Rattle.pool_slots.specs.declared.part.PoolPart.TheVariants as part
-use Rattle.pool_slots.specs.declared.plan.Allocator.{Allocator}
-use Rattle.pool_slots.specs.declared.plan.Plan.{Plan}
 use Rattle.pool_alloc.specs.Sound.{IsShared, IsPartFor, IsCore, IsSlotName, IsCellOf}
 use Rattle.pool_alloc.specs.Steps.{IsQueuePart, IsHeapsPart, shard_in, queue_in, heaps_in, shard_at, queue_at, heaps_at, with_part, part_holding, cell_named}
 use Rattle.pool_alloc.specs.declared.pool_core.PoolCore.{PoolCore}
 use Rattle.pool_alloc.specs.declared.pool_core.Settings.{Settings}
 use Rattle.pool_alloc.proofs.PlanPlaces.{IsShardPlace, IsQueuePlace, IsSlotAt, shard_inside, queue_inside, cell_inside, cell_role_at, heaps_place, heaps_inside, at_home, slot_at}
-use Rattle.pool_slots.specs.declared.slot_name.SlotName.{SlotName}
-use Rattle.pool_slots.specs.RegionCells.{CellState}
 
 -- slot k of shard j of an allocator has the number that the shard gives it
 number_of : (a : Allocator) (j k : ℕ) (s : ShardState) → IsShardOf a j s → slot_number s k ≡ number_at a j k

@@ -1,10 +1,6 @@
 -- Where a purge goes on, it may pick there, and fewer steps are left.
-use Rattle.std.proofs.Common.{◌≡◌, ℕ, zero, suc, ◌+◌, ◌*◌, ◌-◌, ◌<◌, ◌≤◌, Bool, true, false, List, [], ◌∷◌, length, refl, sym, ap, ◌∙◌, arith, Option, Some, None, get_or, ◌⊎◌, inl, inr}
-use Rattle.std.specs.Prelude.{IfSome, drop, if◌then◌else◌, nat_lt, sum_by}
-use Rattle.std.proofs.lemmas.Bool.{ltb-true, ltb-false, and_parts}
-use Rattle.std.proofs.lemmas.List.Sums.{sum_by-cons}
-use Rattle.pool_slots.specs.declared.plan.Allocator.{Allocator}
-use Rattle.pool_slots.specs.declared.plan.Plan.{Plan}
+use Rattle.std.proofs.Common.{◌≡◌, ℕ, zero, suc, ◌+◌, ◌*◌, ◌-◌, ◌<◌, ◌≤◌, Bool, true, false, List, [], ◌∷◌, length, refl, sym, ap, ◌∙◌, arith, Option, Some, None, get_or, ◌⊎◌, inl, inr, IfSome, drop, if◌then◌else◌, nat_lt, sum_by}
+use Rattle.pool_alloc.proofs.Imports.{ltb-true, ltb-false, and_parts, sum_by-cons, each_at, Allocator, Plan}
 use Rattle.pool_alloc.specs.Bounds.{PoolSizes, sizes_of, turns_bound, purge_bound, memories_left, turns_left}
 use Rattle.pool_alloc.specs.Purges.{has_turns, behind_stripe, behind_memory, behind_turn, purged_stripe}
 use Rattle.pool_alloc.specs.Sound.{IsPoolPlan, IsPurging, IsFirstPick, IsPicking}
@@ -12,7 +8,7 @@ use Rattle.pool_alloc.specs.Steps.{no_allocator, stripe_allocator}
 use Rattle.pool_alloc.specs.declared.pool_core.Settings.{Settings}
 use Rattle.pool_alloc.specs.declared.purge.PurgeCursor.{PurgeCursor}
 use Rattle.pool_alloc.proofs.Hands.{one_more}
-use Rattle.pool_alloc.proofs.PlanPlaces.{each_at, stripe_is}
+use Rattle.pool_alloc.proofs.PlanPlaces.{stripe_is}
 use Rattle.pool_alloc.proofs.Ways.{same_times}
 
 -- a sum over the elements from a place on

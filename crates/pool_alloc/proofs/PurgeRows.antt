@@ -1,28 +1,7 @@
 -- The steps of a purge, as they show.
-use Rattle.pool_slots.specs.SlotNames.{of_kind}
-use Rattle.std.proofs.Common.{◌≡◌, ℕ, ◌+◌, ◌*◌, ◌-◌, ◌<◌, ◌≤◌, Bool, true, false, List, length, refl, sym, ap, subst, ◌∙◌, arith, Option, Some, None, inr}
-use Rattle.std.specs.Prelude.{IfSome, nat_lt, if◌then◌else◌, option_map, ◌&&◌}
-use Rattle.std.proofs.lemmas.Bool.{ltb-true, lt-ltb, and_parts, true≢false}
-use Rattle.pool_pages.specs.MakerTold.{MakerTold}
-use Rattle.pool_pages.specs.Told.{Told, PageCall, remapping}
+use Rattle.std.proofs.Common.{◌≡◌, ℕ, ◌+◌, ◌*◌, ◌-◌, ◌<◌, ◌≤◌, Bool, true, false, List, length, refl, sym, ap, subst, ◌∙◌, arith, Option, Some, None, inr, IfSome, nat_lt, if◌then◌else◌, option_map, ◌&&◌}
+use Rattle.pool_alloc.proofs.Imports.{told_weaker, of_kind, ltb-true, lt-ltb, and_parts, true≢false, MakerTold, Told, PageCall, remapping, Slot, IsClean, forgotten, called, without_image, without_mapped, ImageName, same_called, pick_unit, SlotKind, memory_kind, ShardState, affine_answer, after_affine_pick, after_free, slot_number, SlotId, Cell, is_taken, unmapped, unknown, previously_used, taken, cell_of, home_of, shard_role, CellState, cell_numbers, cell_emptied, cell_filled, ImageSlot, Unmapped, Unknown, PreviouslyUsed, Taken, Allocator, Plan, SlotName}
 use Rattle.pool_alloc.specs.PartyTold.{PartyTold}
-use Rattle.pool_images.specs.Slots.{Slot, IsClean, forgotten, called, without_image, without_mapped}
-use Rattle.pool_images.specs.declared.image_slot.ImageName.{ImageName}
-use Rattle.pool_images.proofs.Identity.{same_called}
-use Rattle.pool_hall.specs.Unit.{pick_unit}
-use Rattle.pool_hall.specs.declared.unit_name.SlotKind.{SlotKind}
-use Rattle.pool_hall.specs.declared.unit_name.SlotKind.TheVariants.{Memory as memory_kind}
-use Rattle.pool_index.specs.Shard.{ShardState, affine_answer, after_affine_pick, after_free, slot_number}
-use Rattle.pool_index.specs.declared.ids.SlotId.{SlotId}
-use Rattle.pool_slots.specs.Cells.{Cell, is_taken, unmapped, unknown, previously_used, taken}
-use Rattle.pool_slots.specs.CellOf.{cell_of}
-use Rattle.pool_slots.specs.Plans.{home_of, shard_role}
-use Rattle.pool_slots.specs.RegionCells.{CellState, cell_numbers, cell_emptied, cell_filled}
-use Rattle.pool_slots.specs.declared.cells.ImageSlot.{ImageSlot}
-use Rattle.pool_slots.specs.declared.cells.ImageSlot.TheVariants.{Unmapped, Unknown, PreviouslyUsed, Taken}
-use Rattle.pool_slots.specs.declared.plan.Allocator.{Allocator}
-use Rattle.pool_slots.specs.declared.plan.Plan.{Plan}
-use Rattle.pool_slots.specs.declared.slot_name.SlotName.{SlotName}
 use Rattle.pool_alloc.specs.Answers.{Empties, Forgets, PurgeTold, RemovesImage}
 use Rattle.pool_alloc.specs.Bounds.{PoolSizes, sizes_of, memories_left, turns_left, purge_left}
 use Rattle.pool_alloc.specs.Leases.{memory_slot}
@@ -55,7 +34,6 @@ use Rattle.pool_alloc.proofs.RegionRows.{emptied_holds, one_emptied, clean_empti
 use Rattle.pool_alloc.proofs.ShardFrees.{IsShardOf, freed_shard}
 use Rattle.pool_alloc.proofs.SlotCounts.{slot_once, slot_regions}
 use Rattle.pool_alloc.proofs.SlotIdentity.{IsOneSlot, one_coloured, slot_of_one}
-use Rattle.pool_alloc.proofs.Telling.{told_weaker}
 use Rattle.pool_alloc.proofs.Ways.{Can, kept_part}
 
 -- nothing in hand

@@ -1,19 +1,10 @@
 -- What queues, leases and freed slots have, and what their counts say of the numbers in them.
-use Rattle.pool_slots.proofs.PartUnits.{units_append}
-use Rattle.pool_slots.specs.declared.slot_name.RegionNumbers.{RegionNumbers}
-use Rattle.std.proofs.Common.{◌≡◌, ℕ, ◌+◌, ◌≤◌, Bool, true, false, List, [], ◌∷◌, ◌++◌, refl, sym, ap, ◌∙◌, inl, inr, arith}
-use Rattle.std.specs.Prelude.{map, filter, sum_by, if◌then◌else◌, not}
-use Rattle.std.specs.List.{AllZip}
-use Rattle.std.proofs.lemmas.Bool.{or_from}
-use Rattle.std.proofs.lemmas.List.Sums.{sum_by-cons, sum_by_push}
-use Rattle.std.proofs.lemmas.List.Filters.{sum_by-filter_both}
-use Rattle.pool_slots.specs.SlotQueues.{Queue, Queued, holds, AreApart, after_run, IsLeftBy, IsFaulted, first_slot}
+use Rattle.std.proofs.Common.{◌≡◌, ℕ, ◌+◌, ◌≤◌, Bool, true, false, List, [], ◌∷◌, ◌++◌, refl, sym, ap, ◌∙◌, inl, inr, arith, map, filter, sum_by, if◌then◌else◌, not}
+use Rattle.pool_alloc.proofs.Imports.{units_append, RegionNumbers, AllZip, or_from, sum_by-cons, sum_by_push, sum_by-filter_both, Queue, Queued, holds, AreApart, after_run, IsLeftBy, IsFaulted, first_slot, slot_not, slot_cases, SlotName}
 use Rattle.pool_alloc.specs.Leases.{Lease, memory_slot}
 use Rattle.pool_alloc.specs.Places.{Thing, right_to, region_of, slot_count, both_count, queued_count, leased_count, tables_count, freed_count}
 use Rattle.pool_alloc.specs.TableLeases.{LeasedTable, table_slot}
 use Rattle.pool_alloc.specs.declared.frame.FreedSlot.{FreedSlot}
-use Rattle.pool_slots.proofs.SlotNames.{slot_not, slot_cases}
-use Rattle.pool_slots.specs.declared.slot_name.SlotName.{SlotName}
 use Rattle.pool_alloc.proofs.SlotCounts.{slot_once, slot_regions, both_regions}
 
 -- sums of numbers that agree, and of none
@@ -46,10 +37,6 @@ tables_regions name ls = sum_by_agree (table_one (region_of name)) (table_one (r
 -- a freed slot hasn't
 pub freed_regions : (name : SlotName) (xs : List FreedSlot) → freed_count (region_of name) xs ≡ 0
 freed_regions name xs = sum_by_none (λ (x : FreedSlot). slot_count (region_of name) x.name) (λ x. slot_regions name x.name) xs
-
--- one more or less at the front
-pub queued_first : (t : Thing) (m : Queued) (ms : List Queued) → queued_count t (m ∷ ms) ≡ both_count t m.name m.numbers + queued_count t ms
-queued_first t m ms = omega arith
 
 pub leased_first : (t : Thing) (l : Lease) (ls : List Lease) → leased_count t (l ∷ ls) ≡ leased_one t l + leased_count t ls
 leased_first t l ls = sum_by-cons (leased_one t) l ls

@@ -1,8 +1,6 @@
 -- The first memory or table of which a rule is broken is found from left to right.
 use Rattle.std.proofs.Common.{◌≡◌, ℕ, ◌+◌, ◌<◌, ◌≤◌, List, length, drop, get_or, ap, ◌∙◌, sym, Option, Some, None}
-use Rattle.std.proofs.lemmas.List.{at_drop_more, at_drop_all}
-use Rattle.pool_pages.specs.declared.unsupported.Unsupported.{Unsupported}
-use Rattle.std.specs.Option.{option_or}
+use Rattle.pool_alloc.proofs.Imports.{at_drop_more, at_drop_all, Unsupported, option_or}
 use Rattle.pool_alloc.specs.Refusals.{first_refused}
 
 module _ {X : Type 0} (rule : X → Option Unsupported) (decls : List X) where

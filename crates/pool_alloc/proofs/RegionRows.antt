@@ -1,7 +1,6 @@
 -- The rows of a request that has a slot.
-use Rattle.pool_pages.specs.declared.table_type.TableType.{TableType}
-use Rattle.std.proofs.lemmas.Bool.{cases_Bool, ltb-true, ltb-false}
-use Rattle.pool_hall.specs.Unit.{kind_number}
+use Rattle.std.proofs.Common.{◌≡◌, ℕ, ◌+◌, ◌<◌, ◌≤◌, Bool, true, false, List, [], ◌∷◌, ◌++◌, length, refl, sym, ap, subst, inl, inr, arith, Option, Some, None, Result, Ok, Err, ◌∙◌, ◌⊎◌, ◌^◌, nat_le, nat_lt, if◌then◌else◌, IfSome, IsSome, IfOk, slice_get, slice_index_or, is_some}
+use Rattle.pool_alloc.proofs.Imports.{told_both, told_weaker, TableType, cases_Bool, ltb-true, ltb-false, kind_number, Plan, length_push, nil_from_length, All-push, count, Told, minimum_byte_size, allow_growth_to, MemoryDecl, Image, Slot, forgotten, hides, IsClean, IsLeft, ShardState, after_free, InitialSize, AddressSpace, MemoryMinimum, LimiterError, MemoryState, slot_of, static_capacity, maximum_asked, Cell, unmapped, unknown, previously_used, taken, is_taken, CellState, cell_numbers, cell_emptied, cell_filled, AllocError, least_most, MakerTold, SlotName, SlotKind, ImageSlot, home_of, cell_of, memory_kind, table_kind, stack_kind, heap_kind, of_kind}
 use Rattle.pool_alloc.specs.declared.pool_core.Counters.{Counters}
 use Rattle.pool_alloc.specs.PoolStacks.{stack_made}
 use Rattle.pool_alloc.specs.StackLeases.{stack_taken}
@@ -10,35 +9,12 @@ use Rattle.pool_alloc.proofs.TableRegions.{IsMadeTable, begun_table, table_made_
 use Rattle.pool_alloc.specs.TableSteps.{AsksForTable, table_made}
 use Rattle.pool_alloc.specs.TableLeases.{LeasedTable, table_slot, table_taken}
 use Rattle.pool_alloc.specs.PoolTables.{IsTableLease, IsBegunTable}
-use Rattle.pool_slots.specs.declared.plan.Plan.{Plan}
 use Rattle.pool_alloc.proofs.PlanPlaces.{IsShardPlace, home_place}
-use Rattle.std.proofs.Common.{◌≡◌, ℕ, ◌+◌, ◌<◌, ◌≤◌, Bool, true, false, List, [], ◌∷◌, ◌++◌, length, refl, sym, ap, subst, inl, inr, arith, Option, Some, None, Result, Ok, Err, ◌∙◌, ◌⊎◌}
-use Rattle.std.specs.Prelude.{◌^◌, nat_le, nat_lt, if◌then◌else◌, IfSome, IsSome, IfOk, slice_get, slice_index_or}
-use Rattle.std.proofs.lemmas.List.{length_push, nil_from_length}
-use Rattle.std.proofs.lemmas.List.Elements.{All-push}
-use Rattle.pool_pages.specs.Count.{count}
-use Rattle.pool_pages.specs.Told.{Told}
-use Rattle.pool_pages.specs.MemoryTypes.{minimum_byte_size}
-use Rattle.pool_pages.specs.declared.module_types.MemoryDecl.{MemoryDecl}
-use Rattle.pool_images.specs.Images.{Image}
-use Rattle.pool_images.specs.Slots.{Slot, forgotten, hides}
-use Rattle.pool_index.specs.Shard.{ShardState, after_free}
-use Rattle.pool_pages.specs.MemoryTypes.{allow_growth_to}
-use Rattle.pool_pages.specs.declared.unsupported.Unsupported.TheVariants.{InitialSize, AddressSpace, MemoryMinimum}
-use Rattle.pool_limits.specs.declared.errors.LimiterError.{LimiterError}
-use Rattle.pool_memory.specs.Memories.{MemoryState, slot_of}
-use Rattle.pool_memory.specs.Static.{static_capacity}
-use Rattle.pool_memory.specs.Making.{maximum_asked}
 use Rattle.pool_memory.specs.declared.memory_error.MemoryError.TheVariants as unmade
-use Rattle.pool_slots.specs.Cells.{Cell, unmapped, unknown, previously_used, taken, is_taken}
-use Rattle.pool_slots.specs.RegionCells.{CellState, cell_numbers, cell_emptied, cell_filled}
-use Rattle.pool_slots.specs.declared.errors.AllocError.{AllocError}
 use Rattle.pool_slots.specs.declared.errors.AllocError.TheVariants as refusal
-use Rattle.pool_memory.proofs.Makings.{least_most}
 use Rattle.pool_alloc.specs.Reserved.{with_item}
-use Rattle.pool_alloc.specs.Answers.{Empties, InstantiatesAs, InstantiatesFor}
+use Rattle.pool_alloc.specs.Answers.{Empties, InstantiatesAs, InstantiatesFor, AsksForMemory}
 use Rattle.pool_alloc.specs.Modules.{IfAllocated, IfTable}
-use Rattle.pool_pages.specs.MakerTold.{MakerTold}
 use Rattle.pool_alloc.specs.PartyTold.{PartyTold}
 use Rattle.pool_alloc.specs.declared.pool_core.PoolCore.{PoolCore}
 use Rattle.pool_alloc.specs.declared.pool_core.Settings.{Settings}
@@ -49,10 +25,7 @@ use Rattle.pool_alloc.specs.declared.frame.Frame.{Frame}
 use Rattle.pool_alloc.specs.declared.frame.Phase.{Phase}
 use Rattle.pool_alloc.specs.declared.frame.TakenSlot.{TakenSlot}
 use Rattle.pool_alloc.specs.declared.frame.Phase.TheVariants.{Idle, TakeRegion, Empty, Instantiate, MakeMemory, MakeTable, CountObject, PutBack, FreeOne}
-use Rattle.pool_alloc.specs.Answers.{AsksForMemory}
 use Rattle.pool_alloc.specs.Bounds.{sizes_of, objects_left, steps_at, steps_left}
-use Rattle.pool_images.specs.Slots.{IsClean, IsLeft}
-use Rattle.std.specs.Prelude.{is_some}
 use Rattle.pool_alloc.specs.Leases.{IsUsable, memory_slot}
 use Rattle.pool_alloc.specs.Own.{made_of, made_of_limits, made_for, memory_made, image_made}
 use Rattle.pool_alloc.specs.Places.{Thing, right_to, both_count, phase_count, phase_instances, phase_memories, region_count, taken_count, phase_tables, phase_stacks, phase_heaps, instances_for}
@@ -65,7 +38,7 @@ use Rattle.pool_alloc.specs.Steps.{memories_wanted, images_wanted, image_wanted,
 use Rattle.pool_alloc.specs.Turns.{Row, gone_to, next}
 use Rattle.pool_alloc.proofs.CoreChanges.{core_with_shard, core_with_cell, core_with_counters}
 use Rattle.pool_alloc.proofs.Hands.{returns_less, none_for_stack, in_phase, held_of, Even, Kept, Ready, IsReadyRow, hand}
-use Rattle.pool_alloc.proofs.PoolParts.{place_of}
+use Rattle.pool_alloc.proofs.PoolParts.{place_of, sound_shard, sound_cell, shard_part}
 use Rattle.pool_alloc.proofs.KeptCounts.{kept_shard, away_shard, region_leaves, region_returns}
 use Rattle.pool_alloc.proofs.QueueCounts.{leased_last, tables_last}
 use Rattle.pool_alloc.proofs.Frees.{freed_one}
@@ -73,21 +46,12 @@ use Rattle.pool_alloc.specs.CanStep.{CanUnmap}
 use Rattle.pool_alloc.proofs.SlotIdentity.{IsOneSlot, one_wiped, slot_of_one, slot_made, clean_made, fresh_made}
 use Rattle.pool_alloc.proofs.ShardFrees.{IsShardOf, freed_shard}
 use Rattle.pool_alloc.proofs.Stages.{picked_is_home, back_is_away, back_is_used}
-use Rattle.pool_alloc.proofs.Telling.{told_both, told_weaker, told_there}
+use Rattle.pool_alloc.proofs.Telling.{told_there}
 use Rattle.pool_alloc.proofs.Ways.{Can, searched_back, push_at, aims_grant, aims_back, next_returns, kept_part, same_way, sought_way, granted_stack_way, memory_fails_way, memory_made_way, admitted_way, made_way, next_object}
-use Rattle.pool_alloc.proofs.PoolParts.{sound_shard, sound_cell, shard_part}
-use Rattle.pool_slots.specs.declared.slot_name.SlotName.{SlotName}
-use Rattle.pool_hall.specs.declared.unit_name.SlotKind.{SlotKind}
 use Rattle.pool_alloc.specs.Objects.{objects_in}
 use Rattle.pool_alloc.specs.declared.frame.Object.{Object}
-use Rattle.pool_slots.specs.declared.cells.ImageSlot.{ImageSlot}
-use Rattle.pool_slots.specs.Plans.{home_of}
-use Rattle.pool_slots.specs.CellOf.{cell_of}
-use Rattle.pool_hall.specs.declared.unit_name.SlotKind.TheVariants.{Memory as memory_kind, Table as table_kind, Stack as stack_kind, Heap as heap_kind}
 use Rattle.pool_alloc.specs.declared.frame.Object.TheVariants.{Memory, Table, Stack}
-use Rattle.pool_slots.specs.CellOf.{cell_of}
 use Rattle.pool_alloc.specs.declared.lease.InstanceLease.{InstanceLease}
-use Rattle.pool_slots.specs.SlotNames.{of_kind}
 
 one_instantiated : (fault : Bool) (initial : ℕ) (hide : Bool) (image : Option Image) (old new : Slot) → InstantiatesAs fault initial hide image old new → IsOneSlot old new
 one_instantiated true initial hide image old new told = told.same

@@ -1,10 +1,6 @@
 -- Which slots of a release are decommitted next, and how many steps that leaves.
-use Rattle.std.proofs.Common.{◌≡◌, ℕ, zero, suc, ◌+◌, ◌*◌, ◌-◌, ◌<◌, ◌≤◌, Bool, true, false, List, [], ◌∷◌, length, refl, sym, ap, ◌∙◌, arith, get_or}
-use Rattle.std.specs.Prelude.{◌==◌, not, drop, if◌then◌else◌, nat_lt, sum_by, min}
-use Rattle.std.proofs.lemmas.List.Sums.{sum_by-cons}
-use Rattle.pool_index.specs.Shard.{one_if}
-use Rattle.pool_slots.specs.declared.plan.Allocator.{Allocator}
-use Rattle.pool_slots.specs.Plans.{slots_at}
+use Rattle.std.proofs.Common.{◌≡◌, ℕ, zero, suc, ◌+◌, ◌*◌, ◌-◌, ◌<◌, ◌≤◌, Bool, true, false, List, [], ◌∷◌, length, refl, sym, ap, ◌∙◌, arith, get_or, ◌==◌, not, drop, if◌then◌else◌, nat_lt, sum_by, min}
+use Rattle.pool_alloc.proofs.Imports.{sum_by-cons, one_if, Allocator, slots_at}
 use Rattle.pool_alloc.specs.Bounds.{residents}
 use Rattle.pool_alloc.specs.Releases.{not_resident}
 use Rattle.pool_alloc.specs.Sound.{slots_left}

@@ -1,28 +1,7 @@
 -- The steps of a release, as they show.
-use Rattle.std.proofs.Common.{◌≡◌, ℕ, ◌+◌, ◌*◌, ◌-◌, ◌<◌, ◌≤◌, ◌^◌, Bool, true, false, List, [], ◌∷◌, ◌++◌, length, refl, sym, ap, subst, ◌∙◌, arith, All, get_or, Option, Some, None}
-use Rattle.std.specs.Prelude.{nat_lt, if◌then◌else◌, drop, remove, sum_by, ◌||◌}
-use Rattle.std.proofs.lemmas.Bool.{ltb-true, true≢false}
-use Rattle.std.proofs.lemmas.List.{length-append}
-use Rattle.std.proofs.lemmas.List.Sums.{sum_by-append, sum_by-remove}
-use Rattle.std.proofs.lemmas.List.Elements.{All-nil, All-append, All-head, All-tail, All-same, All-get_or}
-use Rattle.pool_pages.specs.MakerTold.{MakerTold}
-use Rattle.pool_pages.specs.Told.{decommitting}
+use Rattle.std.proofs.Common.{◌≡◌, ℕ, ◌+◌, ◌*◌, ◌-◌, ◌<◌, ◌≤◌, ◌^◌, Bool, true, false, List, [], ◌∷◌, ◌++◌, length, refl, sym, ap, subst, ◌∙◌, arith, All, get_or, Option, Some, None, nat_lt, if◌then◌else◌, drop, remove, sum_by, ◌||◌}
+use Rattle.pool_alloc.proofs.Imports.{ltb-true, true≢false, length-append, sum_by-append, sum_by-remove, All-nil, All-append, All-head, All-tail, All-same, All-get_or, MakerTold, decommitting, Slot, IsClean, same_called, same_faulted, SlotKind, memory_kind, ShardState, after_take_warm, after_free, taken_slots, SlotId, Cell, is_taken, unknown, previously_used, cell_of, home_of, CellState, cell_numbers, cell_emptied, cell_filled, ImageSlot, Unmapped, Unknown, PreviouslyUsed, Taken, Allocator, Plan, SlotName}
 use Rattle.pool_alloc.specs.PartyTold.{PartyTold}
-use Rattle.pool_images.specs.Slots.{Slot, IsClean}
-use Rattle.pool_images.proofs.Identity.{same_called, same_faulted}
-use Rattle.pool_hall.specs.declared.unit_name.SlotKind.{SlotKind}
-use Rattle.pool_hall.specs.declared.unit_name.SlotKind.TheVariants.{Memory as memory_kind}
-use Rattle.pool_index.specs.Shard.{ShardState, after_take_warm, after_free, taken_slots}
-use Rattle.pool_index.specs.declared.ids.SlotId.{SlotId}
-use Rattle.pool_slots.specs.Cells.{Cell, is_taken, unknown, previously_used}
-use Rattle.pool_slots.specs.CellOf.{cell_of}
-use Rattle.pool_slots.specs.Plans.{home_of}
-use Rattle.pool_slots.specs.RegionCells.{CellState, cell_numbers, cell_emptied, cell_filled}
-use Rattle.pool_slots.specs.declared.cells.ImageSlot.{ImageSlot}
-use Rattle.pool_slots.specs.declared.cells.ImageSlot.TheVariants.{Unmapped, Unknown, PreviouslyUsed, Taken}
-use Rattle.pool_slots.specs.declared.plan.Allocator.{Allocator}
-use Rattle.pool_slots.specs.declared.plan.Plan.{Plan}
-use Rattle.pool_slots.specs.declared.slot_name.SlotName.{SlotName}
 use Rattle.pool_alloc.specs.Answers.{DecommitsWhole, Drains, ReleaseTold}
 use Rattle.pool_alloc.specs.Bounds.{PoolSizes, sizes_of, stripe_bound, stripes_left, drains_left, residents, release_left}
 use Rattle.pool_alloc.specs.Leases.{memory_slot}

@@ -1,29 +1,14 @@
 -- The rows of a give-back, and of a flush.
+use Rattle.std.proofs.Common.{map, ◌≡◌, ℕ, ◌+◌, ◌-◌, ◌%◌, ◌^◌, ◌<◌, ◌≤◌, Bool, true, false, List, [], ◌∷◌, ◌++◌, length, refl, sym, ap, subst, ◌∙◌, arith, All, inl, Option, None, Some, ◌==◌, ◌||◌, ◌&&◌, not, nat_le, nat_lt, filter, if◌then◌else◌, IfSome}
+use Rattle.pool_alloc.proofs.Imports.{of_kind, Plan, leb-false, or_parts, length_push, length-append, All-head, All-nil, All-push, All-filter, All-weaker, All-tail, length-filter_both, MakerTold, DecommitBehavior, Zero, RestoreOriginalMapping, Slot, forgotten, left_ranges, reset_slot, ByteRange, ShardState, image_slot_of, CellState, cell_filled, Queue, Queued, LeavesClean, empty_queue, taken_into, drained, after_append, IsSettled, first_of_kind, first_zeroed, is_to_zero, others_of_kind, plain_slot, SlotKind, memory_kind, home_of, cell_place, AllByRecursion, list_any, SlotName, Told, StackState, above_bottom, stack_kept, stack_ranges, stack_zeroed, stack_item, leaves_clean, first_settled, zeroed_long}
 use Rattle.pool_alloc.proofs.Below.{queued_cells}
-use Rattle.pool_slots.specs.SlotNames.{of_kind}
 use Rattle.pool_alloc.proofs.PlanPlaces.{IsShardPlace, IsQueuePlace, apart_places, queue_no_cell, tried_is_queue}
-use Rattle.pool_slots.specs.declared.plan.Plan.{Plan}
-use Rattle.std.proofs.Common.{map, ◌≡◌, ℕ, ◌+◌, ◌-◌, ◌%◌, ◌^◌, ◌<◌, ◌≤◌, Bool, true, false, List, [], ◌∷◌, ◌++◌, length, refl, sym, ap, subst, ◌∙◌, arith, All, inl, Option, None, Some}
-use Rattle.std.specs.Prelude.{◌==◌, ◌||◌, ◌&&◌, not, nat_le, nat_lt, filter, if◌then◌else◌, IfSome}
-use Rattle.std.proofs.lemmas.Bool.{leb-false, or_parts}
-use Rattle.std.proofs.lemmas.List.{length_push, length-append}
-use Rattle.std.proofs.lemmas.List.Elements.{All-head, All-nil, All-push, All-filter, All-weaker, All-tail}
-use Rattle.std.proofs.lemmas.List.Filters.{length-filter_both}
-use Rattle.pool_pages.specs.MakerTold.{MakerTold}
 use Rattle.pool_alloc.specs.PartyTold.{PartyTold}
 use Rattle.pool_alloc.specs.declared.pool_core.PoolCore.{PoolCore}
 use Rattle.pool_alloc.specs.declared.frame.Frame.{Frame}
 use Rattle.pool_alloc.specs.declared.frame.FreedSlot.{FreedSlot}
 use Rattle.pool_alloc.specs.declared.frame.Phase.{Phase}
 use Rattle.pool_alloc.specs.declared.frame.Phase.TheVariants.{Idle, UncountObject, Reset, Merge, Flush, UncountInstance}
-use Rattle.pool_pages.specs.declared.pages.DecommitBehavior.{DecommitBehavior}
-use Rattle.pool_pages.specs.declared.pages.DecommitBehavior.TheVariants.{Zero, RestoreOriginalMapping}
-use Rattle.pool_images.specs.Slots.{Slot, forgotten, left_ranges, reset_slot}
-use Rattle.pool_images.specs.declared.ranges.ByteRange.{ByteRange}
-use Rattle.pool_index.specs.Shard.{ShardState}
-use Rattle.pool_memory.specs.Memories.{slot_of as image_slot_of}
-use Rattle.pool_slots.specs.RegionCells.{CellState, cell_filled}
-use Rattle.pool_slots.specs.SlotQueues.{Queue, Queued, LeavesClean, empty_queue, taken_into, drained, after_append, IsSettled, first_of_kind, first_zeroed, is_to_zero, others_of_kind, plain_slot}
 use Rattle.pool_alloc.specs.Answers.{Decommits, Resets, FlushTold, ResetTold}
 use Rattle.pool_alloc.specs.Bounds.{all_slots, sizes_of}
 use Rattle.pool_alloc.specs.Freeing.{AreUsedInTurn}
@@ -32,10 +17,7 @@ use Rattle.pool_alloc.specs.Own.{slot_ended, reset_into}
 use Rattle.pool_alloc.specs.Places.{Thing, both_count, queued_count, region_count, right_to, taken_count}
 use Rattle.pool_alloc.specs.Reserved.{with_item}
 use Rattle.pool_alloc.specs.Rows.{stack_reset_row, FlushStep, run, zero, put, free, flush_step, merged, merge_on, in_queue, uncount_object_row, was_reset, reset_turn, reset_row, uncount_instance_row, decommit_row, zero_row, put_first, free_row, flush_row}
-use Rattle.pool_hall.specs.declared.unit_name.SlotKind.{SlotKind}
-use Rattle.pool_hall.specs.declared.unit_name.SlotKind.TheVariants.{Memory as memory_kind}
 use Rattle.pool_slots.specs.declared.queued_range.QueueKind.TheVariants as queued
-use Rattle.pool_slots.specs.Plans.{home_of, cell_place}
 use Rattle.pool_alloc.specs.declared.frame.Object.{Object}
 use Rattle.pool_alloc.specs.declared.frame.Object.TheVariants.{Memory, Table, Stack}
 use Rattle.pool_alloc.specs.Objects.{objects_in, slot_of_object}
@@ -59,23 +41,16 @@ use Rattle.pool_alloc.proofs.PoolParts.{sound_shard, sound_cell, sound_queue, sh
 use Rattle.pool_alloc.proofs.Searching.{still_empty}
 use Rattle.pool_alloc.specs.Searches.{AreEmpty}
 use Rattle.pool_slots.specs.declared.part.PoolPart.TheVariants as part
-use Rattle.std.specs.List.{AllByRecursion, list_any}
 use Rattle.pool_alloc.proofs.FlushFinds.{finds, Finds, FindsFreed, FindsPut, FreesFirst, IsBack, frees_first, is_back, names_of, none_waits, order_freed, order_put, puts_some}
 use Rattle.pool_alloc.specs.TableSteps.{IsInRegion, bytes_used, reset_in, table_queued, table_reset}
 use Rattle.pool_alloc.specs.PoolTables.{IsPoolTable, IsTableLease}
 use Rattle.pool_alloc.specs.TableLeases.{LeasedTable}
-use Rattle.pool_slots.specs.declared.slot_name.SlotName.{SlotName}
-use Rattle.pool_pages.specs.Told.{Told}
-use Rattle.pool_slots.specs.PlainSlots.{StackState, above_bottom, stack_kept, stack_ranges, stack_zeroed}
-use Rattle.pool_alloc.proofs.KindCounts.{counts_first, first_has, first_kind, others_long, zeroed_counts, zeroed_long}
+use Rattle.pool_alloc.proofs.KindCounts.{counts_first, first_has, first_kind, others_long, zeroed_counts}
 use Rattle.pool_alloc.specs.StackLeases.{LeasedStack}
 use Rattle.pool_alloc.specs.PoolStacks.{IsStackLease, stack_reset}
-use Rattle.pool_slots.specs.HeldSlots.{stack_item}
-use Rattle.pool_slots.proofs.SlotChanges.{leaves_clean}
 use Rattle.pool_alloc.specs.declared.pool_core.Settings.{Settings}
 use Rattle.pool_alloc.proofs.StackRegions.{few_ranges, stack_by_hand, stack_leaves, stack_name, stack_page, stack_queued_of, stack_small}
 use Rattle.pool_alloc.proofs.TableReturns.{few_above, returned_has, returned_may, table_leaves, table_still}
-use Rattle.pool_slots.proofs.SlotPops.{first_settled}
 use Rattle.pool_alloc.proofs.Held.{right_is_out}
 
 -- a reset leaves one range at most

@@ -1,15 +1,6 @@
 -- How many runs of ranges of one slot there are once ranges come and go, and that the ranges of each slot lie together.
-use Rattle.std.proofs.Common.{◌≡◌, ℕ, ◌+◌, ◌<◌, ◌≤◌, Bool, true, false, List, [], ◌∷◌, ◌++◌, length, refl, sym, ap, subst, inl, inr, arith}
-use Rattle.std.specs.Prelude.{map, if◌then◌else◌}
-use Rattle.std.proofs.lemmas.Bool.{cases_Bool}
-use Rattle.std.proofs.lemmas.List.{length-append}
-use Rattle.pool_images.specs.declared.ranges.ByteRange.{ByteRange}
-use Rattle.pool_slots.specs.declared.queued_range.QueueKind.{QueueKind}
-use Rattle.pool_slots.specs.declared.queued_range.QueuedRange.{QueuedRange}
-use Rattle.pool_slots.specs.declared.slot_name.SlotName.{SlotName}
-use Rattle.pool_slots.specs.SlotQueues.{behind, Queue, owner, is_of, first_slot, after_append}
-use Rattle.pool_slots.specs.SlotNames.{slot_kind}
-use Rattle.pool_slots.proofs.SlotNames.{slot_is, slot_self}
+use Rattle.std.proofs.Common.{◌≡◌, ℕ, ◌+◌, ◌<◌, ◌≤◌, Bool, true, false, List, [], ◌∷◌, ◌++◌, length, refl, sym, ap, subst, inl, inr, arith, map, if◌then◌else◌}
+use Rattle.pool_alloc.proofs.Imports.{cases_Bool, length-append, ByteRange, QueueKind, QueuedRange, SlotName, behind, Queue, owner, is_of, first_slot, after_append, slot_kind, slot_is, slot_self}
 use Rattle.pool_alloc.specs.Answers.{Decommits}
 use Rattle.pool_alloc.proofs.SlotIdentity.{length_after_run}
 use Rattle.pool_alloc.specs.RangeRuns.{runs_after, runs, IsGrouped}

@@ -1,9 +1,6 @@
 -- How far a search is after a pick that found nothing, and after a queue was taken that is empty.
 use Rattle.std.proofs.Common.{◌≡◌, ◌≢◌, ℕ, ◌+◌, ◌<◌, [], length, None, sym, ap, subst, inl, inr, arith}
-use Rattle.std.proofs.lemmas.Bool.{cases_eq}
-use Rattle.pool_pages.specs.MakerTold.{MakerTold}
-use Rattle.pool_index.specs.Shard.{ShardState, pick_answer, after_pick}
-use Rattle.pool_slots.specs.SlotQueues.{Queue}
+use Rattle.pool_alloc.proofs.Imports.{cases_eq, MakerTold, ShardState, pick_answer, after_pick, Queue, part_at, PoolPart}
 use Rattle.pool_alloc.specs.Searches.{HasNoSlot, AreFull, AreEmpty}
 use Rattle.pool_alloc.specs.Sound.{IsPoolPlan, IsCore}
 use Rattle.pool_alloc.specs.Steps.{shard_at, queue_at, wanted, shard_tried, queue_tried, with_shard, with_queue, shard_in, queue_in, with_part}
@@ -12,8 +9,6 @@ use Rattle.pool_alloc.specs.declared.frame.Frame.{Frame}
 use Rattle.pool_alloc.proofs.FullShards.{none_free, still_none}
 use Rattle.pool_alloc.proofs.PlanPlaces.{IsShardPlace, IsQueuePlace, shard_inside, queue_inside, apart_places, tried_is_shard, tried_is_queue}
 use Rattle.pool_alloc.proofs.PoolParts.{part_same, part_other, sound_shard}
-use Rattle.pool_slots.specs.Parts.{part_at}
-use Rattle.pool_slots.specs.declared.part.PoolPart.{PoolPart}
 use Rattle.pool_slots.specs.declared.part.PoolPart.TheVariants as part
 
 before_last : (j n : ℕ) → j < n + 1 → j ≢ n → j < n

@@ -1,19 +1,9 @@
 -- What a free leaves is a shard with the same slots, where the slot is used.
-use Rattle.std.proofs.Common.{◌≡◌, ℕ, ◌+◌, ◌^◌, ◌<◌, ◌≤◌, true, false, List, [], ◌∷◌, ◌++◌, length, set, get_or, refl, sym, ap, ◌∙◌, inl, inr, arith, Option, None, All}
-use Rattle.std.specs.Prelude.{◌==◌, is_some, IsSome, unwrap_or, count_by, nat_lt}
-use Rattle.std.proofs.lemmas.Bool.{cases_eq, cases_lt, true≢false, eq-eqb, ne_eqb}
-use Rattle.std.proofs.lemmas.List.{length-set, length-append, get_or-set_same, get_or-set_other, get_or_past}
-use Rattle.std.proofs.lemmas.List.Elements.{All-push, All-head, All-tail}
-use Rattle.std.proofs.lemmas.List.Sums.{sum_by-set, sum_by-append}
-use Rattle.pool_index.specs.declared.ids.MemoryInModule.{MemoryInModule}
-use Rattle.pool_index.specs.declared.ids.SlotId.{SlotId}
-use Rattle.pool_index.specs.declared.warm_slot.WarmSlot.{WarmSlot}
-use Rattle.pool_index.specs.Shard.{ShardState, IsShard, IsSameShard, one_if, use_of, used_count, warm_count, after_free}
+use Rattle.std.proofs.Common.{◌≡◌, ℕ, ◌+◌, ◌^◌, ◌<◌, ◌≤◌, true, false, List, [], ◌∷◌, ◌++◌, length, set, get_or, refl, sym, ap, ◌∙◌, inl, inr, arith, Option, None, All, ◌==◌, is_some, IsSome, unwrap_or, count_by, nat_lt}
+use Rattle.pool_alloc.proofs.Imports.{cases_eq, cases_lt, true≢false, eq-eqb, ne_eqb, length-set, length-append, get_or-set_same, get_or-set_other, get_or_past, All-push, All-head, All-tail, sum_by-set, sum_by-append, MemoryInModule, SlotId, WarmSlot, ShardState, IsShard, IsSameShard, one_if, use_of, used_count, warm_count, after_free, home_of, Plan}
 use Rattle.pool_alloc.specs.Freeing.{AreUsedInTurn}
 use Rattle.pool_alloc.specs.Steps.{after_frees}
 use Rattle.pool_alloc.specs.declared.frame.FreedSlot.{FreedSlot}
-use Rattle.pool_slots.specs.Plans.{home_of}
-use Rattle.pool_slots.specs.declared.plan.Plan.{Plan}
 
 -- a shard with the slots of another one
 pub record IsShardOf (old new : ShardState) : Type 0 where

@@ -1,23 +1,8 @@
 -- What slots and regions weigh, and how what a shard has given out changes as one of its slots is picked or freed.
-use Rattle.pool_slots.specs.RegionCells.{right_to as unit_right, region_of as unit_region}
-use Rattle.std.proofs.Common.{◌≡◌, ℕ, zero, suc, ◌+◌, ◌*◌, ◌<◌, ◌≤◌, Bool, true, false, List, [], ◌∷◌, length, Option, Some, None, refl, ap, ◌∙◌, inl, inr, arith, ◌⊎◌}
-use Rattle.std.specs.Prelude.{◌&&◌, ◌==◌, IfSome, is_some, option_map, slice_index_or, slice_set}
-use Rattle.std.specs.Option.{option_map_or}
-use Rattle.std.proofs.lemmas.Bool.{cases_lt}
-use Rattle.pool_hall.specs.Sum.{one_if, total}
-use Rattle.pool_hall.specs.Unit.{kind_number, pick_unit, same}
-use Rattle.pool_hall.specs.declared.unit_name.SlotKind.{SlotKind}
-use Rattle.pool_hall.specs.declared.unit_name.UnitName.{UnitName}
-use Rattle.pool_index.specs.Part.{used_units, shard_units, slot_unit}
-use Rattle.pool_index.specs.Shard.{ShardState, IsShard, Choice, warm_at, next_cold, choice, entry_at, slot_and_bytes, after_choice, after_full, after_pick, after_free, pick_answer, is_used}
-use Rattle.pool_index.specs.declared.ids.MemoryInModule.{MemoryInModule}
-use Rattle.pool_index.specs.declared.ids.SlotId.{SlotId}
-use Rattle.pool_index.proofs.Shards.{warm_slot_free, cold_slot_free}
-use Rattle.pool_slots.specs.declared.slot_name.RegionNumbers.{RegionNumbers}
-use Rattle.pool_alloc.proofs.Picks.{IsChoice, choice_taken}
+use Rattle.std.proofs.Common.{◌≡◌, ℕ, zero, suc, ◌+◌, ◌*◌, ◌<◌, ◌≤◌, Bool, true, false, List, [], ◌∷◌, length, Option, Some, None, refl, ap, ◌∙◌, inl, inr, arith, ◌⊎◌, ◌&&◌, ◌==◌, IfSome, is_some, option_map, slice_index_or, slice_set}
+use Rattle.pool_alloc.proofs.Imports.{IsChoice, choice_taken, unit_right, unit_region, option_map_or, cases_lt, total, kind_number, pick_unit, same, SlotKind, UnitName, used_units, shard_units, slot_unit, ShardState, IsShard, Choice, warm_at, next_cold, choice, entry_at, slot_and_bytes, after_choice, after_full, after_pick, after_free, pick_answer, is_used, MemoryInModule, SlotId, warm_slot_free, cold_slot_free, RegionNumbers, SlotName, same_self, same_is}
+use Rattle.pool_hall.specs.Sum.{one_if}
 use Rattle.pool_alloc.specs.Places.{Thing, right_to, region_of, slot_count, region_count, both_count}
-use Rattle.pool_slots.specs.declared.slot_name.SlotName.{SlotName}
-use Rattle.pool_hall.proofs.Units.{same_self, same_is}
 
 pub none_of : (a b : Bool) → one_if (a && (b && false)) ≡ 0
 none_of true true = refl

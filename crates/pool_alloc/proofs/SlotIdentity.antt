@@ -1,39 +1,13 @@
 -- A slot stays that of its region, whatever calls were made on it.
-use Rattle.std.proofs.Common.{◌≡◌, ℕ, ◌+◌, ◌/◌, ◌%◌, ◌^◌, ◌<◌, ◌≤◌, Bool, true, false, List, [], ◌∷◌, length, refl, ap, ◌∙◌, sym, subst, arith, Option, Some, None, All, replicate}
-use Rattle.std.specs.Prelude.{map, if◌then◌else◌}
-use Rattle.std.specs.List.{AllZip}
-use Rattle.std.proofs.Math.Nat.{zero-div}
-use Rattle.std.proofs.lemmas.List.{length-map, length-replicate}
-use Rattle.std.proofs.lemmas.List.Elements.{All-nil, All-cons, All-head, All-tail}
-use Rattle.pool_pages.specs.Count.{count, rounded_up}
-use Rattle.pool_pages.specs.Contents.{IsShaped, put_all, recoloured}
-use Rattle.pool_pages.specs.Told.{Told, PageCall, TellsShaped, erasing, recolouring, decommitting}
-use Rattle.pool_pages.specs.MakerTold.{MakerTold, fresh, made_region}
-use Rattle.pool_pages.specs.declared.pages.DecommitBehavior.{DecommitBehavior}
-use Rattle.pool_pages.specs.declared.pages.DecommitBehavior.TheVariants.{Zero, RestoreOriginalMapping}
+use Rattle.std.proofs.Common.{◌≡◌, ℕ, ◌+◌, ◌/◌, ◌%◌, ◌^◌, ◌<◌, ◌≤◌, Bool, true, false, List, [], ◌∷◌, length, refl, ap, ◌∙◌, sym, subst, arith, Option, Some, None, All, replicate, map, if◌then◌else◌}
+use Rattle.pool_alloc.proofs.Imports.{AllZip, zero-div, length-map, length-replicate, All-nil, All-cons, All-head, All-tail, rounded_is_whole, count, rounded_up, IsShaped, put_all, recoloured, Told, PageCall, TellsShaped, erasing, recolouring, decommitting, MakerTold, fresh, made_region, DecommitBehavior, Zero, RestoreOriginalMapping, fresh_shaped, length-put, ByteRange, Slot, IsFresh, IsClean, identity, size_of, called, coloured, wiped, reset_slot, decommitted_all, told_same, same_called, fresh_clean, identity_made, stripe_colour, regions_fresh, SlotKind, SlotName, IsSlotLeft, same_slot, front, Queue, Queued, IsLeftBy, forgotten_slot, is_of, first_slot, change_at, after_run, IsPlain, QueuedRange, slot_is}
 use Rattle.pool_pages.specs.declared.pages.RegionName.TheVariants as of_region
-use Rattle.pool_pages.proofs.DenseCalls.{fresh_shaped}
-use Rattle.pool_pages.proofs.Puts.{length-put}
-use Rattle.pool_images.specs.declared.ranges.ByteRange.{ByteRange}
-use Rattle.pool_images.specs.Slots.{Slot, IsFresh, IsClean, identity, size_of, called, coloured, wiped, reset_slot, decommitted_all}
-use Rattle.pool_images.proofs.Identity.{told_same, same_called}
-use Rattle.pool_images.proofs.Making.{fresh_clean}
-use Rattle.pool_slots.specs.Cells.{identity_made}
-use Rattle.pool_slots.specs.Colourings.{stripe_colour}
-use Rattle.pool_slots.proofs.FreshColours.{regions_fresh}
-use Rattle.pool_hall.specs.declared.unit_name.SlotKind.{SlotKind}
 use Rattle.pool_hall.specs.declared.unit_name.SlotKind.TheVariants.{Memory, Table, Stack, Heap}
-use Rattle.pool_slots.specs.declared.slot_name.SlotName.{SlotName}
-use Rattle.pool_slots.specs.SlotQueues.{IsSlotLeft, same_slot, front, Queue, Queued, IsLeftBy, forgotten_slot, is_of, first_slot, change_at, after_run}
 use Rattle.pool_alloc.specs.CanStep.{CanBeImage}
 use Rattle.pool_alloc.specs.Own.{image_made}
 use Rattle.pool_alloc.specs.Sound.{IsPoolSlot, IsSettings, MayQueue, MayBeRanged, IsQueuedOf, memory_region}
 use Rattle.pool_alloc.specs.PoolTables.{IsPoolTable}
-use Rattle.pool_slots.specs.PlainSlots.{IsPlain}
-use Rattle.pool_slots.specs.declared.queued_range.QueuedRange.{QueuedRange}
-use Rattle.pool_slots.proofs.SlotNames.{slot_is}
 use Rattle.pool_alloc.specs.declared.pool_core.Settings.{Settings}
-use Rattle.pool_alloc.proofs.Rounding.{rounded_is_whole}
 
 -- it is the slot of the same region
 abbrev pub IsOneSlot : Slot → Slot → Type 0

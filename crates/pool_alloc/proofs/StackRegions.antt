@@ -1,26 +1,6 @@
 -- Regions of stacks: as they are made, with a stack in them, and back again.
-use Rattle.std.proofs.Common.{◌≡◌, ℕ, ◌+◌, ◌-◌, ◌/◌, ◌%◌, ◌^◌, ◌<◌, ◌≤◌, Bool, true, false, List, [], ◌∷◌, length, refl, sym, ap, ◌∙◌, subst, arith, All, Option, Some, None, replicate}
-use Rattle.std.specs.Prelude.{IfSome, IsSome, if◌then◌else◌, option_map}
-use Rattle.std.proofs.lemmas.List.Elements.{All-nil}
-use Rattle.pool_pages.specs.Count.{IsPageSize, count, rounded_up}
-use Rattle.pool_pages.specs.Contents.{Contents, IsShaped, hidden}
-use Rattle.pool_pages.specs.MakerTold.{MakerTold, fresh}
-use Rattle.pool_pages.specs.Told.{Told, TellsShaped, hiding, succeeded}
-use Rattle.pool_pages.proofs.DenseCalls.{fresh_shaped}
-use Rattle.pool_pages.proofs.Multiples.{add_whole}
-use Rattle.pool_pages.proofs.Shapes.{access_shaped}
-use Rattle.pool_images.specs.Slots.{Slot, SlotIdentity, IsClean, IsPart, Reads, Holds, identity, size_of, decommitted_all}
-use Rattle.pool_images.specs.declared.ranges.ByteRange.{ByteRange}
-use Rattle.pool_images.proofs.Identity.{told_same}
-use Rattle.pool_images.proofs.Making.{fresh_clean}
-use Rattle.pool_images.proofs.PageSizes.{rounded_same}
-use Rattle.pool_slots.specs.HeldSlots.{stack_item}
-use Rattle.pool_slots.specs.PartsMade.{stack_region}
-use Rattle.pool_slots.specs.PlainSlots.{IsPlain, StackState, plain_written, stack_kept, stack_ranges, stack_zeroed, top_kept, top_reset}
-use Rattle.pool_slots.specs.SlotQueues.{CanBeZeroed, IsReset, Queued, plain_slot}
-use Rattle.pool_slots.specs.declared.plan.Plan.{Plan}
-use Rattle.pool_slots.specs.declared.slot_name.RegionNumbers.{RegionNumbers}
-use Rattle.pool_slots.proofs.PlainSlots.{clean_slots_read_zeros, empty_held, top_done, top_plain}
+use Rattle.std.proofs.Common.{◌≡◌, ℕ, ◌+◌, ◌-◌, ◌/◌, ◌%◌, ◌^◌, ◌<◌, ◌≤◌, Bool, true, false, List, [], ◌∷◌, length, refl, sym, ap, ◌∙◌, subst, arith, All, Option, Some, None, replicate, IfSome, IsSome, if◌then◌else◌, option_map}
+use Rattle.pool_alloc.proofs.Imports.{All-nil, IsPageSize, count, rounded_up, Contents, IsShaped, hidden, MakerTold, fresh, Told, TellsShaped, hiding, succeeded, fresh_shaped, add_whole, access_shaped, Slot, SlotIdentity, IsClean, IsPart, Reads, Holds, identity, size_of, decommitted_all, ByteRange, told_same, fresh_clean, rounded_same, stack_item, stack_region, IsPlain, StackState, plain_written, stack_kept, stack_ranges, stack_zeroed, top_kept, top_reset, CanBeZeroed, IsReset, Queued, plain_slot, Plan, RegionNumbers, clean_slots_read_zeros, empty_held, top_done, top_plain}
 use Rattle.pool_alloc.specs.Guards.{IsOpen}
 use Rattle.pool_alloc.specs.PoolStacks.{region_of_stack, IsPoolStack, IsQueuedStack, IsStackRegion, IsStackLease, IsNewStack, stack_made}
 use Rattle.pool_alloc.specs.Sound.{IsSettings, IsByHand, IsQueuedOf}
@@ -159,10 +139,6 @@ held_at_end s n p is = let H : ℕ → Type 0 = λ m. IfSome s.region.contents (
 can_by : (b : Bool) (n : ℕ) (s : Slot) → IsPlain s → n ≡ s.static_size → IfSome (if b then Some n else None) (λ m. CanBeZeroed m s)
 can_by true n s p is = record { fits = p.fits; image = p.image; not_dirty = p.not_dirty; all = p.all; within = omega (arith, is, p.all); ready = p.ready; rest = held_at_end s n p (is ∙ sym p.whole) }
 can_by false n s p is = tt
-
-zeroed_size : (b : Bool) (keep : ℕ) (x : StackState) → (stack_zeroed b keep x).slot.static_size ≡ x.slot.static_size
-zeroed_size true keep x = refl
-zeroed_size false keep x = refl
 
 zeroed_as : (b : Bool) (keep : ℕ) (x : StackState) → (stack_zeroed b keep x).zeroing ≡ x.zeroing
 zeroed_as true keep x = refl

@@ -1,11 +1,7 @@
 -- What a frame that can make its next step may rely on, phase by phase.
-use Rattle.pool_alloc.proofs.PlanPlaces.{IsShardPlace, IsQueuePlace, tried_is_queue}
 use Rattle.std.proofs.Common.{◌≡◌, ℕ, ◌+◌, ◌<◌, ◌≤◌, true, false, List, [], length, sym, ◌∙◌, arith, Some}
-use Rattle.pool_pages.specs.MakerTold.{MakerTold}
-use Rattle.pool_index.specs.Shard.{is_used}
-use Rattle.pool_slots.specs.Cells.{is_taken}
-use Rattle.pool_slots.specs.SlotQueues.{Queue, Queued, AreApart, IsSpareOf, first_of_kind}
-use Rattle.pool_hall.specs.declared.unit_name.SlotKind.{SlotKind}
+use Rattle.pool_alloc.proofs.Imports.{MakerTold, is_used, is_taken, Queue, Queued, AreApart, IsSpareOf, first_of_kind, SlotKind, SlotName, ImageSlot, home_of}
+use Rattle.pool_alloc.proofs.PlanPlaces.{IsShardPlace, IsQueuePlace, tried_is_queue}
 use Rattle.pool_alloc.proofs.KindCounts.{counts_first}
 use Rattle.pool_alloc.specs.Freeing.{AreUsedInTurn}
 use Rattle.pool_alloc.specs.Places.{Thing, right_to, frame_count}
@@ -24,9 +20,6 @@ use Rattle.pool_alloc.proofs.KeptCounts.{queue_kept, out_once}
 use Rattle.pool_alloc.proofs.QueueCounts.{apart_by_count}
 use Rattle.pool_alloc.proofs.SlotCounts.{slot_once, slot_regions}
 use Rattle.pool_alloc.proofs.PoolParts.{sound_queue}
-use Rattle.pool_slots.specs.declared.slot_name.SlotName.{SlotName}
-use Rattle.pool_slots.specs.declared.cells.ImageSlot.{ImageSlot}
-use Rattle.pool_slots.specs.Plans.{home_of}
 
 -- a queue has room for what another holds
 pub record HasRoomFor (q more : Queue) : Type 0 where

@@ -1,50 +1,27 @@
 -- What the code of a step needs follows of what holds between steps, and what a step leaves is as its row shows.
-use Rattle.std.proofs.lemmas.List.{length_push}
+use Rattle.std.proofs.Common.{◌≡◌, ℕ, ◌+◌, ◌<◌, ◌≤◌, true, false, length, get_or, refl, sym, ap, subst, ◌∙◌, arith, Option, Some, None, List, Result, Ok, Err, Bool, IfSome, IsSome, is_some, nat_lt, slice_get}
+use Rattle.pool_alloc.proofs.Imports.{length_push, told_both, told_weaker, rounded_same, HeapMakeFault, of_kind, heap_slot, IsHere, IsOut, heap_in, Queued, Queue, first_of_kind, others_of_kind, QueuedRange, Told, each_weaker, AllByRecursion, SlotKind, memory_kind, table_kind, stack_kind, heap_kind, cell_of, Cell, unmapped, unknown, previously_used, taken, IsCleanOnceUsed, IsPlacedAllocator, allocators_of, home_of, SlotName, Plan, MakerTold, minimum_byte_size, Image, Slot, SlotIdentity, FitsInto, image_slot_of, All-weaker}
 use Rattle.pool_alloc.specs.declared.frame.Object.{Object}
 use Rattle.pool_alloc.specs.declared.frame.TakenSlot.{TakenSlot}
 use Rattle.pool_alloc.specs.declared.lease.InstanceLease.{InstanceLease}
-use Rattle.pool_slots.specs.declared.heap_maker.HeapMakeFault.{HeapMakeFault}
-use Rattle.pool_slots.specs.SlotNames.{of_kind}
-use Rattle.pool_slots.specs.HeapUnits.{heap_slot}
-use Rattle.pool_slots.specs.HeapLists.{IsHere, IsOut, heap_in}
 use Rattle.pool_alloc.proofs.Below.{queued_cells}
 use Rattle.pool_alloc.proofs.SlotCounts.{slot_once}
 use Rattle.pool_alloc.proofs.HeapSlots.{heap_name, heap_inside, has_memory, memories_first, taken_is_home, no_heap_is_away, heap_back_is_away}
 use Rattle.pool_alloc.proofs.HeapRows.{test_heap_ready, take_heap_ready, make_heap_ready, count_heap_ready, put_no_heap_ready, uncount_heap_ready, put_heap_ready, free_heap_ready}
-use Rattle.pool_slots.specs.SlotQueues.{Queued, Queue, first_of_kind, others_of_kind}
-use Rattle.pool_slots.specs.declared.queued_range.QueuedRange.{QueuedRange}
-use Rattle.pool_pages.specs.Told.{Told}
 use Rattle.pool_alloc.proofs.TableRegions.{bytes_within, type_enough, table_room, its_len}
 use Rattle.pool_alloc.specs.TableSteps.{table_bytes}
 use Rattle.pool_alloc.specs.PoolTables.{IsTableLease}
 use Rattle.pool_alloc.specs.Modules.{IfTable}
-use Rattle.pool_slots.proofs.Lists.{each_weaker}
 use Rattle.pool_alloc.specs.Freeing.{HasHome, CanBeFreed}
-use Rattle.std.specs.List.{AllByRecursion}
-use Rattle.pool_hall.specs.declared.unit_name.SlotKind.{SlotKind}
-use Rattle.pool_hall.specs.declared.unit_name.SlotKind.TheVariants.{Memory as memory_kind, Table as table_kind, Stack as stack_kind, Heap as heap_kind}
-use Rattle.pool_slots.specs.CellOf.{cell_of}
-use Rattle.pool_slots.specs.Cells.{Cell, unmapped, unknown, previously_used, taken, IsCleanOnceUsed}
-use Rattle.pool_slots.specs.Plans.{IsPlacedAllocator, allocators_of, home_of}
-use Rattle.pool_slots.specs.declared.slot_name.SlotName.{SlotName}
 use Rattle.pool_alloc.specs.declared.frame.Object.TheVariants.{Memory, Table, Stack}
-use Rattle.pool_slots.specs.declared.plan.Plan.{Plan}
 use Rattle.pool_alloc.proofs.PlanPlaces.{tried_is_shard, tried_is_queue, cell_inside, has_home, home_place, IsQueuePlace, queues_all, allocator_is}
-use Rattle.std.proofs.Common.{◌≡◌, ℕ, ◌+◌, ◌<◌, ◌≤◌, true, false, length, get_or, refl, sym, ap, subst, ◌∙◌, arith, Option, Some, None, true≢false, List, Result, Ok, Err}
-use Rattle.std.specs.Prelude.{Bool, IfSome, IsSome, is_some, nat_lt, slice_get}
-use Rattle.pool_pages.specs.MakerTold.{MakerTold}
-use Rattle.pool_pages.specs.MemoryTypes.{minimum_byte_size}
-use Rattle.pool_images.specs.Images.{Image}
-use Rattle.pool_images.specs.Slots.{Slot, SlotIdentity, FitsInto}
 use Rattle.pool_alloc.specs.PartyTold.{PartyTold}
-use Rattle.pool_memory.specs.Memories.{slot_of as image_slot_of}
 use Rattle.pool_alloc.specs.Answers.{MayBeTold, AsksOf, MakesOf}
 use Rattle.pool_alloc.specs.Bounds.{sizes_of, steps_at, steps_left}
 use Rattle.pool_alloc.specs.Calls.{IsGrantOf, IfGranted}
 use Rattle.pool_alloc.specs.CanStep.{CanStepAt, CanFlush, HasNext, CanBegin, CanMake, CanPlace, CanTryQueue, HasTableNext, CanMakeTable}
 use Rattle.pool_alloc.specs.Rows.{FlushStep, run, zero, put, free, flush_step, component_counted, row_of, heap_next, make_heap_row, flush_row, put_first, count_object_row}
 use Rattle.pool_alloc.specs.Searches.{IsSearched}
-use Rattle.std.proofs.lemmas.List.Elements.{All-weaker}
 use Rattle.pool_alloc.specs.Sound.{IsPoolSlot, IsPoolPlan, HasCells, IsSlotName, MayHold, IsCore, IsFrame, IsSettings, IsAllocating, IsSupported, HasSlot, HasBegun, IsStripe, IsFreedOf, IsTableSupported, HasTable, IsMemoryNext, IsTableNext, IsShapedAt, IsHeapName, IsQueuedOf}
 use Rattle.pool_alloc.specs.Objects.{objects_in}
 use Rattle.pool_alloc.specs.declared.frame.Ending.{Ending}
@@ -63,7 +40,7 @@ use Rattle.pool_alloc.specs.declared.frame.Asked.TheVariants.{Module as module_a
 use Rattle.pool_alloc.specs.PoolStacks.{IsStackLease}
 use Rattle.pool_alloc.proofs.StackRegions.{stack_page, stack_small}
 use Rattle.pool_alloc.specs.declared.frame.Phase.{Phase}
-use Rattle.pool_alloc.specs.declared.frame.Phase.TheVariants.{Idle, Key, Validate, TestStack, CountInstance, Pick, TakeQueue, TakeRegion, Empty, Instantiate, MakeMemory, MakeTable, CountObject, PutBack, FreeOne, UncountObject, Reset, Merge, Flush, UncountInstance, ValidateComponent, CountComponent, UncountComponent, TestHeap, TakeHeap, MakeHeap, CountHeap, PutNoHeap, UncountHeap, PutHeap, FreeHeap}
+use Rattle.pool_alloc.specs.declared.frame.Phase.TheVariants.{Idle, Key, Validate, TestStack, CountInstance, Pick, TakeQueue, TakeRegion, Empty, Instantiate, MakeMemory, MakeTable, CountObject, PutBack, FreeOne, UncountObject, Reset, Merge, Flush, UncountInstance, ValidateComponent, CountComponent, UncountComponent, TestHeap, TakeHeap, MakeHeap, CountHeap, PutNoHeap, UncountHeap, PutHeap, FreeHeap, Purge, Release}
 use Rattle.pool_alloc.proofs.AskingRows.{key_ready, validate_ready, test_stack_ready, count_instance_ready, pick_ready, take_queue_ready}
 use Rattle.pool_alloc.proofs.ComponentRows.{validate_component_ready, count_component_ready, uncount_component_ready}
 use Rattle.pool_alloc.proofs.Components.{CountsComponents, counts_components}
@@ -73,11 +50,8 @@ use Rattle.pool_alloc.proofs.SlotIdentity.{region_page}
 use Rattle.pool_alloc.proofs.RegionRows.{region_is_fresh, take_region_ready, empty_ready, instantiate_ready, make_memory_ready, count_object_ready, put_back_ready, free_one_ready, make_table_ready}
 use Rattle.pool_alloc.proofs.FlushFinds.{Finds, finds, put_some}
 use Rattle.pool_alloc.proofs.ReturnRows.{first_freed, uncount_object_ready, reset_ready, merge_ready, uncount_instance_ready, flush_ready, first_of_all}
-use Rattle.pool_alloc.proofs.Rounding.{rounded_whole}
 use Rattle.pool_alloc.proofs.Stages.{local_is_spare, picked_is_home, back_is_used, local_is_apart, home_has_room, first_can_be_put, first_can_be_freed}
-use Rattle.pool_alloc.proofs.Telling.{told_both, told_weaker}
 use Rattle.pool_alloc.proofs.PoolParts.{shard_part, cell_part, queue_part, sound_queue, heaps_part, heaps_long}
-use Rattle.pool_alloc.specs.declared.frame.Phase.TheVariants.{Purge, Release}
 use Rattle.pool_alloc.proofs.PurgeRows.{purge_ready}
 use Rattle.pool_alloc.proofs.ReleaseRows.{release_ready}
 use Rattle.pool_alloc.proofs.SweepSteps.{placed_of, can_purge, can_release, can_free_of}
@@ -175,19 +149,18 @@ module _ {P H : Type 0} where
         page_log2 = is.page_log2;
         limits = is.limits;
         slot = λ represented. begins.holds;
-        room = rw paged (omega (arith, rounded_whole s.page s.max_memory_size (omega (arith, settings.page.at_least)) settings.whole, size_of_slot maker s name.slot held has.region));
+        room = rw paged (omega (arith, rounded_same s.page s.max_memory_size (omega (arith, settings.page.at_least)) settings.whole, size_of_slot maker s name.slot held has.region));
       })
       (allocating.to_grant.supported.each (length f.objects.memories.items)) begun
 
   can_place : (maker : MakerTold) (name : SlotName) (c : PoolCore P H) → IsCore maker c → IsSlotName c.plan name → CanPlace c.plan name
   can_place maker name c core named = omega (arith, cell_inside c.plan (length c.parts) name core.plan named, core.plan.small)
 
-  pub can_try_queue : (maker : MakerTold) (home : ℕ) (c : PoolCore P H) → IsCore maker c → CanTryQueue c.plan home
-  can_try_queue maker home c core = record {
+  pub can_try_queue : (maker : MakerTold) (c : PoolCore P H) → IsCore maker c → CanTryQueue c.plan
+  can_try_queue maker c core = record {
     some = core.plan.queues;
-    few = omega (arith, queues_all c.plan core.plan.shared, core.plan.planned.inside.1.1.1.0, core.plan.small);
+    few = omega (arith, queues_all c.plan, core.plan.planned.inside.1.1.1.0, core.plan.small);
     placed = omega (arith, core.plan.planned.inside.1.1.1.0, core.plan.small);
-    own = λ owned. absurd (true≢false (sym owned ∙ core.plan.shared));
   }
 
   can_find_home : (maker : MakerTold) (name : SlotName) (c : PoolCore P H) → IsCore maker c → name.slot < of_kind name.kind c.plan.totals → HasHome c.plan name
@@ -248,7 +221,7 @@ module _ {P H : Type 0} where
   can_at maker TakeQueue c f can counts =
       let settled = can.frame.shape.0 in
       let i : ℕ = queue_tried f.queues c.plan f in
-      (can.frame.shape.2, record { memories = can.frame.stripe; tables = can.core.plan.tables; stacks = can.core.plan.stacks; heaps = can.core.plan.heaps }, can_try_queue maker f.home c can.core, queue_part maker i c can.core (tried_is_queue f.queues c.plan (length c.parts) f can.core.plan), local_is_spare maker i c (in_phase TakeQueue f) can.core can.frame (tried_is_queue f.queues c.plan (length c.parts) f can.core.plan) settled.no_ranges settled.no_slots)
+      (can.frame.shape.2, record { memories = can.frame.stripe; tables = can.core.plan.tables; stacks = can.core.plan.stacks; heaps = can.core.plan.heaps }, can_try_queue maker c can.core, queue_part maker i c can.core (tried_is_queue f.queues c.plan (length c.parts) f can.core.plan), local_is_spare maker i c (in_phase TakeQueue f) can.core can.frame (tried_is_queue f.queues c.plan (length c.parts) f can.core.plan) settled.no_ranges settled.no_slots)
   can_at maker (TakeRegion name) c f can counts =
       let named : IsSlotName c.plan name = can.frame.shape.2 in
       (can_place maker name c can.core named, cell_part maker name c can.core named, record { there = picked_is_home maker name c f named.cells can.core can.fits; fresh = region_is_fresh maker name c can.core named })
@@ -318,7 +291,7 @@ module _ {P H : Type 0} where
       let below : IsQueuePlace c.plan i = tried_is_queue 0 c.plan (length c.parts) f can.core.plan in
       let shared = sound_queue maker i c can.core below in
       let room = home_has_room maker c f can in (
-        can_try_queue maker f.home c can.core,
+        can_try_queue maker c can.core,
         queue_part maker i c can.core below,
         record {
           ranges = room.ranges;

@@ -1,21 +1,6 @@
 -- In how many stripes memories lie, and that settings which break no rule have a layout.
-use Rattle.std.proofs.Common.{◌≡◌, ℕ, ◌+◌, ◌-◌, ◌*◌, ◌^◌, zero, suc, ◌<◌, ◌≤◌, Bool, true, false, ◌&&◌, refl, sym, ap, subst, ◌∙◌, arith, Option, None, Some}
-use Rattle.std.specs.Prelude.{min, nat_le, nat_lt, if◌then◌else◌}
-use Rattle.std.specs.Int.{div_ceil}
-use Rattle.std.proofs.lemmas.Grind.{div_ceil_times}
-use Rattle.std.proofs.lemmas.Bool.{ltb-true, leb-true}
-use Rattle.pool_pages.specs.Count.{rounded_up}
-use Rattle.pool_pages.specs.ConfigLimits.{first_too_great, is_batch_size}
-use Rattle.pool_pages.specs.SettingsRules.{faulting_bytes, first_broken_rule, first_broken_total, is_page_size, is_shard_count, keys_suffice, keys_used, may_stripe, may_use, or_else, rounds_up, slab_fits, slab_stripes, unless}
-use Rattle.pool_pages.specs.declared.bad_config.BadConfig.{BadConfig}
-use Rattle.pool_pages.specs.declared.bad_config.BadConfig.TheVariants.{PageSize, Shards, DecommitBatch, Reservation, KeysNotOffered, SlabArithmetic}
-use Rattle.pool_pages.specs.declared.config.PoolingAllocationConfig.{PoolingAllocationConfig}
-use Rattle.pool_pages.specs.declared.module_types.Tunables.{Tunables}
-use Rattle.pool_pages.specs.declared.offered.Offered.{Offered}
-use Rattle.pool_slots.specs.Slabs.{has_room, settings_slab}
-use Rattle.pool_slots.proofs.Layouts.{rounded_above}
-use Rattle.pool_slots.proofs.Settings.{settings_speak}
-use Rattle.std.proofs.lemmas.Bool.{and_parts as both_true}
+use Rattle.std.proofs.Common.{◌≡◌, ℕ, ◌+◌, ◌-◌, ◌*◌, ◌^◌, zero, suc, ◌<◌, ◌≤◌, Bool, true, false, ◌&&◌, refl, sym, ap, subst, ◌∙◌, arith, Option, None, Some, min, nat_le, nat_lt, if◌then◌else◌}
+use Rattle.pool_alloc.proofs.Imports.{div_ceil, div_ceil_times, ltb-true, leb-true, both_true, rounded_up_above, rounded_up, first_too_great, is_batch_size, faulting_bytes, first_broken_rule, first_broken_total, is_page_size, is_shard_count, keys_suffice, keys_used, may_stripe, may_use, or_else, rounds_up, slab_fits, slab_stripes, unless, BadConfig, PageSize, Shards, DecommitBatch, Reservation, KeysNotOffered, SlabArithmetic, PoolingAllocationConfig, Tunables, Offered, has_room, settings_slab, settings_speak}
 
 -- a factor of a number above 0 is above 0
 pub some_times : (n k m : ℕ) → 0 < n → n ≤ k * m → 0 < k
@@ -49,7 +34,7 @@ some_stripes c t page o paged =
     let size : 0 < c.limits.max_memory_size = ltb-true _ _ sizes.0 in
     let number : 0 < c.limits.total_memories = ltb-true _ _ slots.0 in
     let keys : 2 ≤ keys_used c o = leb-true _ _ slots.1 in
-    let up : c.limits.max_memory_size ≤ greatest = rounded_above page c.limits.max_memory_size paged in
+    let up : c.limits.max_memory_size ≤ greatest = rounded_up_above page c.limits.max_memory_size paged in
     let reach : greatest ≤ faulting_bytes c t page = omega arith in
     let room : 0 < div_ceil (faulting_bytes c t page) greatest = some_times (faulting_bytes c t page) _ greatest (omega (arith, reach, up, size)) (div_ceil_times (faulting_bytes c t page) greatest (omega (arith, up, size))).0 in
     omega (arith, keys, room, number))

@@ -1,23 +1,12 @@
 -- The memories and the tables of a module that breaks no rule are supported.
-use Rattle.std.proofs.Common.{◌≡◌, ℕ, zero, suc, ◌+◌, ◌^◌, ◌<◌, ◌≤◌, Bool, true, false, List, [], ◌∷◌, length, get_or, refl, arith, Option, Some, None}
-use Rattle.std.specs.Prelude.{nat_lt, nat_le, if◌then◌else◌, IfSome, slice_get}
-use Rattle.std.proofs.lemmas.Bool.{ltb-false}
-use Rattle.pool_pages.specs.MemoryTypes.{minimum_byte_size, refused_limits}
-use Rattle.pool_pages.specs.declared.module_types.MemoryDecl.{MemoryDecl}
-use Rattle.pool_pages.specs.declared.module_types.MemoryType.{MemoryType}
-use Rattle.pool_pages.specs.declared.module_types.ModuleInfo.{ModuleInfo}
-use Rattle.pool_pages.specs.declared.table_type.TableType.{TableType}
-use Rattle.pool_pages.specs.declared.unsupported.Unsupported.{Unsupported}
-use Rattle.pool_images.specs.Images.{Image}
-use Rattle.pool_images.specs.Slots.{FitsInto}
-use Rattle.std.specs.Option.{option_or}
+use Rattle.std.proofs.Common.{◌≡◌, ℕ, zero, suc, ◌+◌, ◌^◌, ◌<◌, ◌≤◌, Bool, true, false, List, [], ◌∷◌, length, get_or, refl, arith, Option, Some, None, nat_lt, nat_le, if◌then◌else◌, IfSome, slice_get}
+use Rattle.pool_alloc.proofs.Imports.{ltb-false, told_both, minimum_byte_size, refused_limits, MemoryDecl, MemoryType, ModuleInfo, TableType, Unsupported, Image, FitsInto, option_or}
 use Rattle.pool_alloc.specs.Refusals.{first_refused, offset_refused, number_refused, memory_refused, tables_refused, long_table, size_refused, objects_refused, module_refused, type_refused}
 use Rattle.pool_alloc.specs.declared.frame.Asked.{Asked}
 use Rattle.pool_alloc.specs.declared.frame.Asked.TheVariants.{Module as module_asked}
 use Rattle.pool_alloc.specs.Steps.{no_module, info_wanted, memories_wanted, images_wanted, tables_wanted, plain_decl, IsModule}
 use Rattle.pool_alloc.specs.Sound.{IsSupported, AreSupported, IsTableSupported, AreTablesSupported, AreImagesOf}
 use Rattle.pool_alloc.specs.declared.pool_core.Settings.{Settings}
-use Rattle.pool_alloc.proofs.Telling.{told_both}
 
 no_refusal : (a b : Option Unsupported) → option_or a b ≡ None → (a ≡ None) × (b ≡ None)
 no_refusal None b e = (refl, e)

@@ -1,25 +1,6 @@
 -- What the code of a step of a purge needs, and of a release.
-use Rattle.pool_slots.specs.SlotNames.{of_kind}
-use Rattle.std.specs.List.{AllByRecursion}
-use Rattle.std.proofs.Common.{◌≡◌, ℕ, ◌+◌, ◌*◌, ◌^◌, ◌<◌, ◌≤◌, Bool, true, false, length, refl, sym, subst, ap, ◌∙◌, arith}
-use Rattle.std.specs.Prelude.{nat_lt}
-use Rattle.std.proofs.lemmas.Bool.{ltb-true, and_parts}
-use Rattle.std.proofs.lemmas.List.Elements.{All-get_or}
-use Rattle.pool_pages.specs.Count.{count, rounded_up}
-use Rattle.pool_pages.specs.MakerTold.{MakerTold}
-use Rattle.pool_images.specs.Slots.{Slot, SlotIdentity, IsClean, IsRangeOf}
-use Rattle.pool_hall.specs.declared.unit_name.SlotKind.{SlotKind}
-use Rattle.pool_hall.specs.declared.unit_name.SlotKind.TheVariants.{Memory as memory_kind, Table as table_kind, Stack as stack_kind, Heap as heap_kind}
-use Rattle.pool_index.specs.Shard.{ShardState}
-use Rattle.pool_slots.specs.Cells.{Cell, IsCleanOnceUsed, is_taken, unmapped, unknown, previously_used, taken}
-use Rattle.pool_slots.specs.CellOf.{cell_of}
-use Rattle.pool_slots.specs.Plans.{home_of, allocators_of, IsPlacedAllocator}
-use Rattle.pool_slots.proofs.Lists.{each_weaker}
-use Rattle.pool_slots.specs.declared.cells.ImageSlot.{ImageSlot}
-use Rattle.pool_slots.specs.declared.cells.ImageSlot.TheVariants.{Unmapped, Unknown, PreviouslyUsed, Taken}
-use Rattle.pool_slots.specs.declared.plan.Allocator.{Allocator}
-use Rattle.pool_slots.specs.declared.plan.Plan.{Plan}
-use Rattle.pool_slots.specs.declared.slot_name.SlotName.{SlotName}
+use Rattle.std.proofs.Common.{◌≡◌, ℕ, ◌+◌, ◌*◌, ◌^◌, ◌<◌, ◌≤◌, Bool, true, false, length, refl, sym, subst, ap, ◌∙◌, arith, nat_lt}
+use Rattle.pool_alloc.proofs.Imports.{rounded_same, of_kind, AllByRecursion, ltb-true, and_parts, All-get_or, count, rounded_up, MakerTold, Slot, SlotIdentity, IsClean, IsRangeOf, SlotKind, memory_kind, table_kind, stack_kind, heap_kind, ShardState, Cell, IsCleanOnceUsed, is_taken, unmapped, unknown, previously_used, taken, cell_of, home_of, allocators_of, IsPlacedAllocator, each_weaker, ImageSlot, Unmapped, Unknown, PreviouslyUsed, Taken, Allocator, Plan, SlotName}
 use Rattle.pool_alloc.specs.CanStep.{CanPlace, CanTakeOf, CanPutOf, CanFreeOf, CanForget, CanDecommit, CanDrain, CanPurge, CanRelease}
 use Rattle.pool_alloc.specs.Freeing.{HasHome}
 use Rattle.pool_alloc.specs.Places.{right_to, region_of, phase_count}
@@ -48,7 +29,6 @@ use Rattle.pool_alloc.proofs.QueueCounts.{freed_regions}
 use Rattle.pool_alloc.proofs.RegionRows.{some_used}
 use Rattle.pool_alloc.proofs.ReleaseBounds.{slots_next}
 use Rattle.pool_alloc.proofs.ReleaseRows.{freed_at, no_slot}
-use Rattle.pool_alloc.proofs.Rounding.{rounded_whole}
 use Rattle.pool_alloc.proofs.SlotCounts.{slot_once, slot_regions}
 use Rattle.pool_alloc.proofs.SlotIdentity.{region_page}
 use Rattle.pool_alloc.proofs.WarmTakes.{warm_few}
@@ -70,7 +50,7 @@ can_decommit : (maker : MakerTold) (s : Settings) (i : ℕ) (slot : Slot) → s.
 can_decommit maker s i slot page sound of =
     let paged : slot.region.page ≡ s.page = ap (λ (z : SlotIdentity). z.page) of.same ∙ region_page maker s i ∙ sym page in
     let sized : slot.static_size ≡ s.max_memory_size = ap (λ (z : SlotIdentity). z.static_size) of.same in
-    let up : rounded_up slot.region.page slot.static_size ≡ s.max_memory_size = rw (paged, sized) (rounded_whole s.page s.max_memory_size (omega (arith, sound.page.at_least)) sound.whole) in
+    let up : rounded_up slot.region.page slot.static_size ≡ s.max_memory_size = rw (paged, sized) (rounded_same s.page s.max_memory_size (omega (arith, sound.page.at_least)) sound.whole) in
     record {
       whole = sound.whole;
       bounded = omega (arith, sound.bounded, sound.page.at_least);

@@ -1,48 +1,15 @@
 -- Regions of tables: as they are made, with a table in them, and back again.
-use Rattle.std.proofs.Common.{◌≡◌, ℕ, ◌+◌, ◌-◌, ◌*◌, ◌/◌, ◌%◌, ◌^◌, ◌<◌, ◌≤◌, Bool, true, false, List, length, get_or, replicate, slice_range, refl, sym, ap, ◌∙◌, subst, arith, min, Option, Some, None}
-use Rattle.std.specs.Prelude.{IfSome, if◌then◌else◌, Result, Ok, Err, IfOk, slice_get, nat_lt, option_map}
-use Rattle.std.proofs.Math.Nat.{mul-le-mul_right, div-mul-le_self}
-use Rattle.std.proofs.lemmas.Bool.{ltb-false}
-use Rattle.std.proofs.lemmas.List.{get_or-replicate}
-use Rattle.pool_pages.proofs.Puts.{range_within, same_at}
-use Rattle.pool_pages.specs.Count.{IsPageSize, count, rounded_up}
-use Rattle.pool_pages.specs.Contents.{Contents, IsShaped}
-use Rattle.pool_pages.specs.MakerTold.{MakerTold, fresh}
-use Rattle.pool_pages.specs.Told.{Told, TellsShaped}
-use Rattle.pool_pages.specs.declared.table_type.TableType.{TableType}
-use Rattle.pool_images.specs.Slots.{Slot, SlotIdentity, IsSlot, IsSound, IsReady, IsClean, IsFresh, Holds, HasColour, identity, size_of}
-use Rattle.pool_images.proofs.Making.{fresh_keeps, fresh_clean}
-use Rattle.pool_images.proofs.Ready.{IsGood, good, followed}
+use Rattle.std.proofs.Common.{◌≡◌, ℕ, ◌+◌, ◌-◌, ◌*◌, ◌/◌, ◌%◌, ◌^◌, ◌<◌, ◌≤◌, Bool, true, false, List, length, get_or, replicate, slice_range, refl, sym, ap, ◌∙◌, subst, arith, min, Option, Some, None, IfSome, if◌then◌else◌, Result, Ok, Err, IfOk, slice_get, nat_lt, option_map}
+use Rattle.pool_alloc.proofs.Imports.{mul-le-mul_right, div-mul-le_self, ltb-false, get_or-replicate, told_weaker, rounded_same, range_within, same_at, IsPageSize, count, rounded_up, Contents, IsShaped, MakerTold, fresh, Told, TellsShaped, TableType, Slot, SlotIdentity, IsSlot, IsSound, IsReady, IsClean, IsFresh, Holds, HasColour, identity, size_of, fresh_keeps, fresh_clean, IsGood, good, followed, IsPlain, IsUnusedFrom, Queued, plain_slot, CanBeZeroed, Plan, RegionNumbers, width, element_size, empty, kind_of, room_of, IsRoom, type_maximum, greatest_of, greatest_index, TableView, fresh_room, made_inside, empty_by, made_is_table, zeros_from, above, IndexType, I32, I64, TableElementType, Func, GcRef, Cont, Unsupported, TableSize, data_size, LimiterError}
 use Rattle.pool_slots.proofs.Layouts.{rounded_within}
-use Rattle.pool_slots.specs.PlainSlots.{IsPlain, IsUnusedFrom}
-use Rattle.pool_slots.specs.SlotQueues.{Queued, plain_slot, CanBeZeroed}
-use Rattle.pool_slots.specs.declared.plan.Plan.{Plan}
-use Rattle.pool_slots.specs.declared.slot_name.RegionNumbers.{RegionNumbers}
-use Rattle.pool_table.specs.Elements.{width, element_size, empty}
-use Rattle.pool_table.specs.Making.{kind_of, room_of}
-use Rattle.pool_table.specs.Tables.{IsRoom, type_maximum, greatest_of, greatest_index}
-use Rattle.pool_table.specs.Views.{TableView}
-use Rattle.pool_table.proofs.Fresh.{fresh_room}
-use Rattle.pool_table.proofs.Made.{made_inside, empty_by, made_is_table}
-use Rattle.pool_table.proofs.Zeros.{zeros_from}
-use Rattle.pool_pages.specs.MemoryTypes.{above}
-use Rattle.pool_pages.specs.declared.module_types.IndexType.{IndexType}
-use Rattle.pool_pages.specs.declared.module_types.IndexType.TheVariants.{I32, I64}
-use Rattle.pool_pages.specs.declared.table_type.TableElementType.{TableElementType}
-use Rattle.pool_pages.specs.declared.table_type.TableElementType.TheVariants.{Func, GcRef, Cont}
-use Rattle.pool_pages.specs.declared.unsupported.Unsupported.{Unsupported}
-use Rattle.pool_pages.specs.declared.unsupported.Unsupported.TheVariants.{TableSize}
 use Rattle.pool_slots.specs.declared.errors.AllocError.TheVariants as alloc
-use Rattle.pool_slots.specs.TableSizes.{data_size}
-use Rattle.pool_limits.specs.declared.errors.LimiterError.{LimiterError}
 use Rattle.pool_alloc.specs.declared.frame.TakenSlot.{TakenSlot}
 use Rattle.pool_alloc.specs.PoolTables.{table_region, IsPoolTable, IsTableRegion, IsTableLease, IsBegunTable}
 use Rattle.pool_alloc.specs.Sound.{IsSettings, IsTableSupported}
 use Rattle.pool_alloc.specs.TableLeases.{LeasedTable, LiesInRegion}
 use Rattle.pool_alloc.specs.TableSteps.{IsNewLease, bytes_used, table_bytes, table_in, table_refused, made_unless, made_table, table_made}
 use Rattle.pool_alloc.specs.declared.pool_core.Settings.{Settings}
-use Rattle.pool_alloc.proofs.Rounding.{rounded_whole}
-use Rattle.pool_alloc.proofs.Telling.{replicated, told_weaker}
+use Rattle.pool_alloc.proofs.Telling.{replicated}
 
 -- what a region tells as it is made
 made_room : (page len : ℕ) (tells : Bool) → 0 < page → len % page ≡ 0 → IfSome (if tells then Some (fresh page len len) else None) (λ c. IsRoom page len 0 len c × HasColour 0 (rounded_up page (len - 0)) None c)
@@ -59,7 +26,7 @@ table_region_made maker s i paged sound =
     let sized : IsPageSize page = subst IsPageSize paged sound.page in
     let pages : len % page ≡ 0 = rw (← paged) sound.table_whole in
     let all : len - 0 ≡ len = omega arith in
-    let up : rounded_up page (len - 0) ≡ len - 0 = ap (rounded_up page) all ∙ rounded_whole page len (omega (arith, sized.at_least)) pages ∙ sym all in
+    let up : rounded_up page (len - 0) ≡ len - 0 = ap (rounded_up page) all ∙ rounded_same page len (omega (arith, sized.at_least)) pages ∙ sym all in
     let T : Contents → Type 0 = λ c. IsRoom page len 0 len c × HasColour 0 (rounded_up page (len - 0)) None c in
     let told : IfSome t.contents T = made_room page len maker.tells (omega (arith, sized.at_least)) pages in
     let shaped : TellsShaped t = told_weaker T (IsShaped page len) t.contents (λ c h. h.0.shaped) told in
@@ -174,7 +141,7 @@ region_back maker s i slot paged sound of is fits clean =
       slot = there;
       plain = record {
         fits = whole_slot;
-        whole = ap (rounded_up r.page) all ∙ rounded_whole r.page r.len some pages ∙ sym all;
+        whole = ap (rounded_up r.page) all ∙ rounded_same r.page r.len some pages ∙ sym all;
         all = refl;
         image = refl;
         not_dirty = refl;

@@ -1,12 +1,6 @@
 -- What a table's slot is once it is reset.
-use Rattle.std.proofs.Common.{◌≡◌, ℕ, ◌≤◌, true, List, All, Some, ap, arith}
-use Rattle.std.specs.Prelude.{◌-◌, ◌^◌, min}
-use Rattle.pool_images.specs.declared.ranges.ByteRange.{ByteRange}
-use Rattle.pool_images.specs.Slots.{Slot, IsPart, IsClean, size_of, decommitted_all}
-use Rattle.pool_pages.specs.Told.{Told}
-use Rattle.pool_slots.specs.PlainSlots.{IsPlain, IsUnusedFrom, bottom_reset}
-use Rattle.pool_slots.specs.SlotQueues.{IsReset, plain_slot}
-use Rattle.pool_slots.specs.declared.slot_name.RegionNumbers.{RegionNumbers}
+use Rattle.std.proofs.Common.{◌≡◌, ℕ, ◌≤◌, true, List, All, Some, ap, arith, ◌-◌, ◌^◌, min}
+use Rattle.pool_alloc.proofs.Imports.{ByteRange, Slot, IsPart, IsClean, size_of, decommitted_all, Told, IsPlain, IsUnusedFrom, bottom_reset, IsReset, plain_slot, RegionNumbers}
 use Rattle.pool_alloc.specs.TableLeases.{LeasedTable, table_slot}
 use Rattle.pool_alloc.specs.TableSteps.{IsInRegion, bytes_used}
 

@@ -1,20 +1,7 @@
 -- Slots on their way back: a table's as it is reset, and any as it goes back into its cell.
-use Rattle.std.proofs.Common.{◌≡◌, ℕ, ◌*◌, ◌-◌, ◌%◌, ◌≤◌, Bool, true, false, List, [], ◌∷◌, length, refl, ap, arith, replicate, min, Option, Some, None}
-use Rattle.std.specs.Prelude.{nat_lt, if◌then◌else◌, IsSome, IfSome}
-use Rattle.pool_hall.specs.declared.unit_name.SlotKind.{SlotKind}
-use Rattle.pool_hall.specs.declared.unit_name.SlotKind.TheVariants.{Memory as memory_kind, Table as table_kind, Stack as stack_kind, Heap as heap_kind}
-use Rattle.pool_pages.specs.MakerTold.{MakerTold}
-use Rattle.pool_pages.specs.Told.{Told}
-use Rattle.pool_images.specs.declared.ranges.ByteRange.{ByteRange}
-use Rattle.pool_images.specs.Slots.{Slot, IsClean, identity}
-use Rattle.pool_images.proofs.Identity.{told_same}
-use Rattle.pool_slots.specs.Cells.{previously_used, unknown, is_taken}
-use Rattle.pool_slots.specs.PlainSlots.{above_bottom, bottom_reset, plain_written}
-use Rattle.pool_slots.specs.SlotQueues.{Queued, CanBeZeroed, LeavesClean, empty_queue, plain_slot, with_ranges}
+use Rattle.std.proofs.Common.{◌≡◌, ℕ, ◌*◌, ◌-◌, ◌%◌, ◌≤◌, Bool, true, false, List, [], ◌∷◌, length, refl, ap, arith, replicate, min, Option, Some, None, nat_lt, if◌then◌else◌, IsSome, IfSome}
+use Rattle.pool_alloc.proofs.Imports.{rounded_is_whole, SlotKind, memory_kind, table_kind, stack_kind, heap_kind, MakerTold, Told, ByteRange, Slot, IsClean, identity, told_same, previously_used, unknown, is_taken, above_bottom, bottom_reset, plain_written, Queued, CanBeZeroed, LeavesClean, empty_queue, plain_slot, with_ranges, bottom_plain, bottom_unused, bottom_reset_done, leaves_clean, width}
 use Rattle.pool_slots.specs.declared.queued_range.QueueKind.TheVariants as queued
-use Rattle.pool_slots.proofs.PlainSlots.{bottom_plain, bottom_unused, bottom_reset_done}
-use Rattle.pool_slots.proofs.SlotChanges.{leaves_clean}
-use Rattle.pool_table.specs.Elements.{width}
 use Rattle.pool_alloc.specs.PoolTables.{IsPoolTable}
 use Rattle.pool_alloc.specs.Sound.{IsSettings, MayHold, MayQueue, MustBeByHand}
 use Rattle.pool_alloc.specs.Steps.{returned_as}
@@ -22,7 +9,6 @@ use Rattle.pool_alloc.specs.TableLeases.{LeasedTable}
 use Rattle.pool_alloc.specs.TableSteps.{IsInRegion, bytes_used, table_queued}
 use Rattle.pool_alloc.specs.declared.pool_core.Settings.{Settings}
 use Rattle.pool_alloc.proofs.FlushFinds.{IsBack}
-use Rattle.pool_alloc.proofs.Rounding.{rounded_is_whole}
 use Rattle.pool_alloc.proofs.SlotIdentity.{IsOneSlot, table_of_one}
 use Rattle.pool_alloc.proofs.StackRegions.{stack_back}
 use Rattle.pool_alloc.proofs.TableRegions.{table_back}

@@ -1,11 +1,6 @@
 -- The first table that begins with too many elements is found from left to right.
-use Rattle.std.proofs.Common.{◌≡◌, ℕ, ◌+◌, ◌<◌, ◌≤◌, List, length, drop, get_or, ap, ◌∙◌, sym, Bool, true, false, Option, Some, None}
-use Rattle.std.specs.Prelude.{nat_lt, if◌then◌else◌}
-use Rattle.std.specs.Option.{option_or}
-use Rattle.std.proofs.lemmas.List.{at_drop_more, at_drop_all}
-use Rattle.pool_pages.specs.declared.table_type.TableType.{TableType}
-use Rattle.pool_pages.specs.declared.unsupported.Unsupported.{Unsupported}
-use Rattle.pool_pages.specs.declared.unsupported.Unsupported.TheVariants.{TableExceedsSlot}
+use Rattle.std.proofs.Common.{◌≡◌, ℕ, ◌+◌, ◌<◌, ◌≤◌, List, length, drop, get_or, ap, ◌∙◌, sym, Bool, true, false, Option, Some, None, nat_lt, if◌then◌else◌}
+use Rattle.pool_alloc.proofs.Imports.{option_or, at_drop_more, at_drop_all, TableType, Unsupported, TableExceedsSlot}
 use Rattle.pool_alloc.specs.Refusals.{long_table}
 use Rattle.pool_alloc.specs.declared.pool_core.Settings.{Settings}
 

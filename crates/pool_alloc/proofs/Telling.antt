@@ -1,8 +1,6 @@
 -- What is told where something is there.
-use Rattle.std.proofs.Common.{◌≡◌, get_or, replicate, inl, inr, ℕ, zero, suc, ◌<◌, List, [], ◌∷◌, length, arith, Option, Some, None}
-use Rattle.std.specs.Prelude.{IfSome, slice_get}
-use Rattle.std.proofs.lemmas.Bool.{cases_lt}
-use Rattle.std.proofs.lemmas.List.{length-replicate, get_or-replicate, get_or_past}
+use Rattle.std.proofs.Common.{◌≡◌, get_or, replicate, inl, inr, ℕ, zero, suc, ◌<◌, List, [], ◌∷◌, length, arith, IfSome, slice_get}
+use Rattle.pool_alloc.proofs.Imports.{cases_lt, length-replicate, get_or-replicate, get_or_past}
 
 -- each element of a list of one thing is that thing, also past the end
 pub replicated : {X : Type 0} (n k : ℕ) (x : X) → get_or (replicate {A = X} n x) k x ≡ x
@@ -11,15 +9,6 @@ replicated {X} n k x =
       | inl inside ↦ get_or-replicate {A = X} n k x x inside
       | inr past ↦ get_or_past (replicate {A = X} n x) k x (omega (arith, length-replicate {A = X} n x))
     ]
-
--- what is told of two things holds of what follows of them
-pub told_both : {X : Type 0} (A B C : X → Type 0) (o : Option X) → ((x : X) → A x → B x → C x) → IfSome o A → IfSome o B → IfSome o C
-told_both A B C None step a b = a
-told_both A B C (Some x) step a b = step x a b
-
-pub told_weaker : {X : Type 0} (A B : X → Type 0) (o : Option X) → ((x : X) → A x → B x) → IfSome o A → IfSome o B
-told_weaker A B None step a = a
-told_weaker A B (Some x) step a = step x a
 
 -- what is told of an element that is there
 pub told_there : {X : Type 0} (Q : Type 0) (xs : List X) (k : ℕ) → k < length xs → IfSome (slice_get xs k) (λ x. Q) → Q

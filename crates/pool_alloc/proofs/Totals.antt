@@ -1,23 +1,12 @@
 -- Sums over the parts of the pool, one part after the other, each up to the end of its type.
+use Rattle.std.proofs.Common.{◌≡◌, ℕ, ◌+◌, ◌-◌, ◌^◌, ◌<◌, List, [], ◌∷◌, ◌++◌, length, take, get_or, sym, ap, ◌∙◌, arith, min, map}
+use Rattle.pool_alloc.proofs.Imports.{take_more, map-append, sum_by_push, PageCalls, both, added, all_calls, sum_at_most, same_calls, slot_of, PoolPart}
 use Rattle.pool_alloc.specs.TableLeases.{LeasedTable}
-use Rattle.std.proofs.Common.{◌≡◌, ℕ, ◌+◌, ◌-◌, ◌^◌, ◌<◌, List, [], ◌∷◌, ◌++◌, length, take, get_or, sym, ap, ◌∙◌, arith}
-use Rattle.std.specs.Prelude.{min, map}
-use Rattle.std.proofs.lemmas.List.{take_more, map-append}
-use Rattle.std.proofs.lemmas.List.Sums.{sum_by_push, sum_by-append}
-use Rattle.pool_pages.specs.declared.pages.PageCalls.{PageCalls}
-use Rattle.pool_pages.specs.CallSums.{both, added}
-use Rattle.pool_slots.specs.Cells.{all_calls, sum_at_most}
-use Rattle.pool_slots.proofs.Fresh.{same_calls}
 use Rattle.pool_alloc.specs.Sums.{calls_of_leases, part_calls, calls_of_parts, calls_of_tables, table_calls}
 use Rattle.pool_alloc.specs.Leases.{Lease}
-use Rattle.pool_memory.specs.Memories.{slot_of}
-use Rattle.pool_slots.specs.declared.part.PoolPart.{PoolPart}
 
 one_more : (s x t m : ℕ) → t ≡ s + x → min (min s m + x) m ≡ min t m
 one_more s x t m e = omega arith
-
-some_more : (s x t m : ℕ) → t ≡ s + x → min (min s m + min x m) m ≡ min t m
-some_more s x t m e = omega arith
 
 -- the calls of one region more, or of several
 one_pushed : (of : PageCalls → ℕ) (calls : List PageCalls) (more : PageCalls) → both (sum_at_most of calls) (of more) ≡ sum_at_most of (calls ++ more ∷ [])
@@ -33,20 +22,6 @@ calls_pushed calls more =
     (one_pushed (λ c. c.erase) calls more)
     (one_pushed (λ c. c.recolour) calls more)
     (one_pushed (λ c. c.decommit) calls more)
-
-some_joined : (of : PageCalls → ℕ) (calls more : List PageCalls) → both (sum_at_most of calls) (sum_at_most of more) ≡ sum_at_most of (calls ++ more)
-some_joined of calls more = some_more _ _ _ (2 ^ 64 - 1) (sum_by-append of calls more)
-
-calls_joined : (calls more : List PageCalls) → added (all_calls calls) (all_calls more) ≡ all_calls (calls ++ more)
-calls_joined calls more =
-    same_calls (added (all_calls calls) (all_calls more)) (all_calls (calls ++ more))
-    (some_joined (λ c. c.expose) calls more)
-    (some_joined (λ c. c.hide) calls more)
-    (some_joined (λ c. c.map_image) calls more)
-    (some_joined (λ c. c.remap_zeros) calls more)
-    (some_joined (λ c. c.erase) calls more)
-    (some_joined (λ c. c.recolour) calls more)
-    (some_joined (λ c. c.decommit) calls more)
 
 -- the region of one thing more
 next_added : {X : Type 0} (of : X → PageCalls) (xs : List X) (i : ℕ) (d : X) → i < length xs → added (all_calls (map of (take i xs))) (of (get_or xs i d)) ≡ all_calls (map of (take (i + 1) xs))

@@ -1,10 +1,6 @@
 -- Of a pool as it is made nothing is given out, and it is whole where nobody has anything.
-use Rattle.std.proofs.Common.{◌≡◌, ℕ, List, [], ◌∷◌, refl, sym, ap, ◌∙◌, arith}
-use Rattle.std.specs.Prelude.{sum_by}
-use Rattle.std.specs.List.{AllByRecursion}
-use Rattle.std.proofs.lemmas.List.Sums.{sum_by-cons}
-use Rattle.pool_hall.specs.Sum.{total}
-use Rattle.pool_slots.proofs.Lists.{each_weaker}
+use Rattle.std.proofs.Common.{◌≡◌, ℕ, List, [], ◌∷◌, refl, sym, ap, ◌∙◌, arith, sum_by}
+use Rattle.pool_alloc.proofs.Imports.{AllByRecursion, sum_by-cons, total, each_weaker}
 use Rattle.pool_alloc.specs.Places.{Thing, away_count, kept_count}
 use Rattle.pool_alloc.specs.Whole.{Holding, IsPartitioned, IsUntouched}
 use Rattle.pool_alloc.specs.declared.pool_core.PoolCore.{PoolCore}

@@ -1,19 +1,7 @@
 -- A slot of the pool is given out where it is used in its shard, and what a pick gives was not. What queues keep, one after
 -- the other.
-use Rattle.std.proofs.Common.{◌≡◌, ℕ, ◌+◌, ◌≤◌, true, List, [], ◌∷◌, length, Option, Some, refl, sym, subst, arith, ◌<◌}
-use Rattle.std.specs.Prelude.{sum_by}
-use Rattle.std.proofs.lemmas.List.Sums.{sum_by-cons}
-use Rattle.pool_pages.specs.MakerTold.{MakerTold}
-use Rattle.pool_hall.specs.Sum.{total}
-use Rattle.pool_hall.specs.declared.unit_name.SlotKind.{SlotKind}
-use Rattle.pool_hall.proofs.Totals.{total_append}
-use Rattle.pool_index.specs.Part.{used_units, shard_units}
-use Rattle.pool_index.specs.Shard.{ShardState, is_used, pick_answer, after_pick}
-use Rattle.pool_index.specs.declared.ids.MemoryInModule.{MemoryInModule}
-use Rattle.pool_index.specs.declared.ids.SlotId.{SlotId}
-use Rattle.pool_slots.specs.ListUnits.{all_kept}
-use Rattle.pool_slots.specs.PartUnits.{part_kept}
-use Rattle.pool_slots.specs.declared.part.PoolPart.{PoolPart}
+use Rattle.std.proofs.Common.{◌≡◌, ℕ, ◌+◌, ◌≤◌, true, List, [], ◌∷◌, length, Option, Some, refl, sym, subst, arith, ◌<◌, sum_by}
+use Rattle.pool_alloc.proofs.Imports.{sum_by-cons, MakerTold, total, SlotKind, total_append, used_units, shard_units, ShardState, is_used, pick_answer, after_pick, MemoryInModule, SlotId, all_kept, part_kept, PoolPart, Plan, SlotName, home_of, of_kind}
 use Rattle.pool_slots.specs.declared.part.PoolPart.TheVariants as part
 use Rattle.pool_alloc.specs.Places.{Thing, right_to, queued_count, kept_count, away_count, slot_count}
 use Rattle.pool_alloc.specs.Sound.{IsCore, IsSlotName}
@@ -25,10 +13,6 @@ use Rattle.pool_alloc.proofs.Picks.{picked_sound, picked_same}
 use Rattle.pool_alloc.proofs.PlanPlaces.{IsShardPlace, home_place}
 use Rattle.pool_alloc.proofs.PoolParts.{shard_part, sound_shard, place_of, name_in, HasPlace}
 use Rattle.pool_alloc.proofs.SlotCounts.{slot_once, used_there, picked_count, pick_counts}
-use Rattle.pool_slots.specs.declared.plan.Plan.{Plan}
-use Rattle.pool_slots.specs.declared.slot_name.SlotName.{SlotName}
-use Rattle.pool_slots.specs.Plans.{home_of}
-use Rattle.pool_slots.specs.SlotNames.{of_kind}
 
 -- the shard of a slot that is used has given it out
 pub used_away : (plan : Plan) (name : SlotName) (s : ShardState) → HasPlace plan s name → is_used s (home_of plan name).local.0 ≡ true → 1 ≤ total (right_to name) (shard_units s)

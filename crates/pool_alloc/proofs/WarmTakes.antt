@@ -1,22 +1,6 @@
 -- All warm slots of a shard are taken: they are used then, and are those of the pool.
-use Rattle.pool_slots.specs.SlotNames.{of_kind}
-use Rattle.std.proofs.Common.{◌≡◌, ℕ, zero, suc, ◌+◌, ◌*◌, ◌^◌, ◌<◌, ◌≤◌, List, [], ◌∷◌, length, refl, sym, ap, subst, ◌∙◌, arith, Option, Some, None, All}
-use Rattle.std.specs.Prelude.{map, slice_set, is_some}
-use Rattle.std.proofs.lemmas.List.{length-map, length-set}
-use Rattle.std.proofs.lemmas.List.Elements.{All-nil, All-cons, All-head, All-tail}
-use Rattle.pool_pages.specs.MakerTold.{MakerTold}
-use Rattle.pool_hall.specs.Sum.{total}
-use Rattle.pool_hall.specs.Unit.{pick_unit}
-use Rattle.pool_hall.specs.declared.unit_name.SlotKind.{SlotKind}
-use Rattle.pool_hall.specs.declared.unit_name.SlotKind.TheVariants.{Memory as memory_kind}
-use Rattle.pool_index.specs.Freed.{known_outside, taken_outside}
-use Rattle.pool_index.specs.Lists.{with_bytes, use_again}
-use Rattle.pool_index.specs.Part.{used_units, shard_units}
-use Rattle.pool_index.specs.Shard.{ShardState, IsShard, IsSameShard, slot_number, after_take_warm, taken_slots}
-use Rattle.pool_index.specs.declared.ids.MemoryInModule.{MemoryInModule}
-use Rattle.pool_index.specs.declared.warm_slot.WarmSlot.{WarmSlot}
-use Rattle.pool_index.proofs.ComingBack.{Free, all_free, free_after, after_take_sound}
-use Rattle.pool_slots.specs.declared.slot_name.SlotName.{SlotName}
+use Rattle.std.proofs.Common.{◌≡◌, ℕ, zero, suc, ◌+◌, ◌*◌, ◌^◌, ◌<◌, ◌≤◌, List, [], ◌∷◌, length, refl, sym, ap, subst, ◌∙◌, arith, Option, Some, None, All, map, slice_set, is_some}
+use Rattle.pool_alloc.proofs.Imports.{of_kind, length-map, length-set, All-nil, All-cons, All-head, All-tail, MakerTold, total, pick_unit, SlotKind, memory_kind, known_outside, taken_outside, with_bytes, use_again, used_units, shard_units, ShardState, IsShard, IsSameShard, slot_number, after_take_warm, taken_slots, MemoryInModule, WarmSlot, Free, all_free, free_after, after_take_sound, SlotName}
 use Rattle.pool_alloc.specs.Leases.{memory_slot}
 use Rattle.pool_alloc.specs.Places.{Thing, slot_count, freed_count}
 use Rattle.pool_alloc.specs.Releases.{slot_outside, slots_outside}

@@ -1,18 +1,13 @@
 -- What all rows share: the pool and the frame with one part changed, how a call goes on at its stage, and the steps that are
 -- left of a request.
-use Rattle.pool_slots.specs.declared.plan.Plan.{Plan}
-use Rattle.std.proofs.Common.{◌≡◌, ℕ, ◌+◌, ◌*◌, ◌-◌, ◌<◌, ◌≤◌, Bool, true, false, List, [], ◌∷◌, ◌++◌, length, zero, suc, refl, sym, ap, subst, inl, inr, arith, Some, None, ◌⊎◌, Ok, Err}
-use Rattle.std.specs.Prelude.{nat_lt, if◌then◌else◌, slice_get, IfSome}
-use Rattle.std.proofs.lemmas.Bool.{ltb-true}
-use Rattle.pool_pages.specs.MakerTold.{MakerTold}
+use Rattle.std.proofs.Common.{◌≡◌, ℕ, ◌+◌, ◌*◌, ◌-◌, ◌<◌, ◌≤◌, Bool, true, false, List, [], ◌∷◌, ◌++◌, length, zero, suc, refl, sym, ap, subst, inl, inr, arith, Some, None, ◌⊎◌, Ok, Err, nat_lt, if◌then◌else◌, slice_get, IfSome}
+use Rattle.pool_alloc.proofs.Imports.{Plan, ltb-true, MakerTold, AllocError, MemoryState}
 use Rattle.pool_alloc.specs.PartyTold.{PartyTold}
 use Rattle.pool_alloc.specs.Bounds.{PoolSizes, allocation_bound, give_back_bound, return_bound, flush_bound, returns_left, objects_left, picks_left, next_left, all_shards, flushed_allocators}
 use Rattle.pool_alloc.specs.Objects.{objects_in, objects_wanted}
 use Rattle.pool_alloc.specs.declared.lease.InstanceLease.{InstanceLease}
-use Rattle.pool_slots.specs.declared.errors.AllocError.{AllocError}
 use Rattle.pool_alloc.specs.Searches.{IsSearchedBy}
 use Rattle.pool_alloc.specs.Sound.{IsCore, Aims, IsToGrant}
-use Rattle.pool_memory.specs.Memories.{MemoryState}
 use Rattle.pool_alloc.specs.Stages.{Progress, admitted, no_call, refusing, progress_by, stage_by, FindsNone, IsPageFaulted, Makes, Follows, Raises, Goes}
 use Rattle.pool_alloc.specs.Steps.{stacks_wanted, IsForInstance}
 use Rattle.pool_alloc.specs.Stepping.{CanStep}

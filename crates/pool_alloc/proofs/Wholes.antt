@@ -1,10 +1,6 @@
 -- A pool with all that have something of it: each of them fits, and no two have a slot.
-use Rattle.pool_pages.specs.MakerTold.{MakerTold}
-use Rattle.std.proofs.Common.{◌≡◌, ◌≢◌, ℕ, zero, suc, ◌+◌, ◌<◌, ◌≤◌, List, [], ◌∷◌, length, refl, ap, arith, All}
-use Rattle.std.specs.Prelude.{sum_by, slice_index_or}
-use Rattle.std.proofs.lemmas.List.Elements.{All-head, All-tail}
-use Rattle.std.proofs.lemmas.List.Sums.{sum_by-cons, get_or-le-sum_by}
-use Rattle.pool_slots.specs.declared.slot_name.SlotName.{SlotName}
+use Rattle.std.proofs.Common.{◌≡◌, ◌≢◌, ℕ, zero, suc, ◌+◌, ◌<◌, ◌≤◌, List, [], ◌∷◌, length, refl, ap, arith, All, sum_by, slice_index_or}
+use Rattle.pool_alloc.proofs.Imports.{MakerTold, All-head, All-tail, sum_by-cons, get_or-le-sum_by, SlotName}
 use Rattle.pool_alloc.specs.Places.{right_to, region_of, kept_count}
 use Rattle.pool_alloc.specs.Sound.{IsCore, FitsCore}
 use Rattle.pool_alloc.specs.Whole.{Holding, HasSlots, AddUp, held_by, times_warm, IsPartitioned}

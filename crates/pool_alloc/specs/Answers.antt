@@ -1,24 +1,7 @@
 -- What a step may be told: how its page calls on what the party holds end, and what they leave.
 use Rattle.std.specs.Prelude.{◌≡◌, ◌⊎◌, ℕ, List, [], ◌∷◌, Bool, true, false, not, Option, IfSome, option_map, Result}
-use Rattle.pool_pages.specs.Count.{rounded_up}
-use Rattle.pool_pages.specs.MemoryTypes.{minimum_byte_size}
-use Rattle.pool_pages.specs.declared.module_types.MemoryDecl.{MemoryDecl}
-use Rattle.pool_pages.specs.declared.pages.DecommitBehavior.TheVariants.{Zero}
-use Rattle.pool_images.specs.Images.{Image}
-use Rattle.pool_images.specs.Orders.{Follows, resizing, replacing, wiping, resetting, set_by_hand}
-use Rattle.pool_images.specs.Slots.{Slot, IsClean, IsLeft, IsBegun, IsSized, HasImage, wiped, reused, replaced, name_of, hides}
-use Rattle.pool_limits.specs.Growth.{memory_answer}
-use Rattle.pool_limits.specs.Exchanges.{Exchange, may_grow}
-use Rattle.pool_limits.specs.LimiterTold.{LimiterTold, after_answer}
-use Rattle.pool_slots.specs.HeapsTold.{HeapsTold}
+use Rattle.pool_alloc.specs.Imports.{rounded_up, minimum_byte_size, MemoryDecl, Zero, Image, Follows, resizing, replacing, wiping, resetting, set_by_hand, removing, Slot, IsClean, IsLeft, IsBegun, IsSized, HasImage, wiped, reused, replaced, name_of, hides, CallFaulted, called, without_image, memory_answer, Exchange, may_grow, LimiterTold, after_answer, HeapsTold, LimiterError, minimum_asked, maximum_asked, minimum_question, CanHold, Queue, LeavesClean, after_run, first_slot, IsFaulted, run_of, AreInOrder, slot_of, making_question, decommitting, ImageSlot, Unmapped, Unknown, PreviouslyUsed, Taken}
 use Rattle.pool_alloc.specs.PartyTold.{MakesHeap}
-use Rattle.pool_limits.specs.declared.errors.LimiterError.{LimiterError}
-use Rattle.pool_memory.specs.Making.{minimum_asked, maximum_asked, minimum_question}
-use Rattle.pool_memory.specs.Static.{CanHold}
-use Rattle.pool_slots.specs.SlotQueues.{Queue, LeavesClean, after_run, first_slot, IsFaulted}
-use Rattle.pool_slots.specs.SlotOrders.{run_of, AreInOrder}
-use Rattle.pool_memory.specs.Memories.{slot_of}
-use Rattle.pool_table.specs.Making.{making_question}
 use Rattle.pool_alloc.specs.TableSteps.{AsksForTable}
 use Rattle.pool_alloc.specs.Modules.{IfAllocated, IfTable}
 use Rattle.pool_alloc.specs.Leases.{slot_taken}
@@ -31,13 +14,7 @@ use Rattle.pool_alloc.specs.declared.frame.Phase.{Phase}
 use Rattle.pool_alloc.specs.declared.frame.Object.{Object}
 use Rattle.pool_alloc.specs.declared.frame.Object.TheVariants.{Memory}
 use Rattle.pool_alloc.specs.declared.frame.TakenSlot.{TakenSlot}
-use Rattle.pool_alloc.specs.declared.frame.Phase.TheVariants.{Empty, Instantiate, MakeMemory, MakeTable, MakeHeap, Reset, Flush}
-use Rattle.pool_alloc.specs.declared.frame.Phase.TheVariants.{Purge, Release}
-use Rattle.pool_pages.specs.Told.{decommitting}
-use Rattle.pool_images.specs.Orders.{removing}
-use Rattle.pool_images.specs.Slots.{CallFaulted, called, without_image}
-use Rattle.pool_slots.specs.declared.cells.ImageSlot.{ImageSlot}
-use Rattle.pool_slots.specs.declared.cells.ImageSlot.TheVariants.{Unmapped, Unknown, PreviouslyUsed, Taken}
+use Rattle.pool_alloc.specs.declared.frame.Phase.TheVariants.{Empty, Instantiate, MakeMemory, MakeTable, MakeHeap, Reset, Flush, Purge, Release}
 use Rattle.pool_alloc.specs.declared.purge.PurgeStep.{PurgeStep}
 use Rattle.pool_alloc.specs.declared.purge.PurgeStep.TheVariants as purging_step
 use Rattle.pool_alloc.specs.declared.release.ReleaseStep.{ReleaseStep}
@@ -70,6 +47,7 @@ pub record IsInstantiated (initial : ℕ) (hide : Bool) (image : Option Image) (
   pub named : new.image ≡ option_map name_of image
   pub slot : ByImage image old (new ≡ reused (rounded_up old.region.page initial) hide old) (new ≡ replaced (rounded_up old.region.page initial) hide image old)
 
+-- The slot is instantiated, or a call on its region failed and left it as faults do.
 abbrev pub InstantiatesAs : Bool → ℕ → Bool → Option Image → Slot → Slot → Type 0
 InstantiatesAs true initial hide image old new = IsLeft old new
 InstantiatesAs false initial hide image old new = IsInstantiated initial hide image old new
@@ -96,22 +74,24 @@ FollowsPlan initial hide image fault old new =
     (Follows (resizing (rounded_up old.region.page initial) hide old) (not fault) old.region new.region)
     (Follows (replacing (rounded_up old.region.page initial) hide image old) (not fault) old.region new.region)
 
+-- The page calls of an instantiation for a memory of the module, by its minimum and the settings.
 abbrev pub FollowsPlanFor : Settings → MemoryDecl → Bool → Option Image → Slot → Slot → Type 0
 FollowsPlanFor s decl fault image old new = FollowsPlan (minimum_byte_size decl.ty) (hides decl.ty s.tunables old.region.page) image fault old new
 
--- the page calls of a reset, likewise
+-- The page calls of a memory's reset, in their order and as the region's plan ends them.
 abbrev pub FollowsReset : ℕ → Bool → Slot → Slot → Type 0
 FollowsReset keep fault old new = Follows (resetting old.region.behaviour old) (not fault) (set_by_hand old.region.behaviour keep old) new.region
 
--- the decommits of the next ranges of one slot, likewise
+-- The decommits of the next ranges of one slot, in their order and as the region's plan ends them.
 abbrev pub FollowsRun : Bool → Queue → Queue → Type 0
 FollowsRun fault old new = AreInOrder (first_slot old.ranges) (run_of (first_slot old.ranges) old.ranges) (not fault) old.slots new.slots
 
--- a step of a flush, where it decommits ranges
+-- What a step of a flush may be told: how the decommits of a run ended; the other steps are told nothing.
 abbrev pub FlushTold : {H : Type 0} → FlushStep → StepGiven H → Queue → Type 0
 FlushTold run g local = Decommits g.fault local g.queue
 FlushTold _ g local = Unit {0}
 
+-- The page calls of a step of a flush: the decommits of a run in order; the other steps make none.
 abbrev pub FlushPlanned : {H : Type 0} → FlushStep → StepGiven H → Queue → Type 0
 FlushPlanned run g local = FollowsRun g.fault local g.queue
 FlushPlanned _ g local = Unit {0}
@@ -134,6 +114,8 @@ module _ {P : Type 0} where
   Forgets fault (PreviouslyUsed old) new = RemovesImage fault old new
   Forgets fault Taken new = fault ≡ false
 
+  -- The page calls by which a slot is forgotten: those of a wipe or of the image's removal; none of a region never
+  -- used.
   abbrev pub FollowsForget : Bool → ImageSlot P → Slot → Type 0
   FollowsForget fault (Unmapped region) new = Unit {0}
   FollowsForget fault (Unknown old) new = Follows (wiping old) (not fault) old.region new.region
@@ -147,6 +129,7 @@ module _ {P : Type 0} where
   Drains s fault (PreviouslyUsed old) new = DecommitsWhole s fault old new × IsClean new
   Drains s fault Taken new = fault ≡ false
 
+  -- The page call by which a slot's region is decommitted whole; none of a region never used.
   abbrev pub FollowsDrain : Settings → Bool → ImageSlot P → Slot → Type 0
   FollowsDrain s fault (Unmapped region) new = Unit {0}
   FollowsDrain s fault (Unknown old) new = Follows (decommitting old.base.bytes s.max_memory_size ∷ []) (not fault) old.region new.region
@@ -154,28 +137,32 @@ module _ {P : Type 0} where
   FollowsDrain s fault Taken new = Unit {0}
 
 module _ {P H : Type 0} where
-  -- by the step of a purge, and of a release
+  -- What a step of a purge may be told: how the forgetting of a slot ended.
   abbrev pub PurgeTold : StepGiven H → PurgeStep P → Type 0
   PurgeTold g (purging_step.Forget at held) = Forgets g.fault held g.slot
   PurgeTold g _ = Unit {0}
 
+  -- The page calls of a step of a purge, which only forgetting makes.
   abbrev pub PurgePlanned : StepGiven H → PurgeStep P → Type 0
   PurgePlanned g (purging_step.Forget at held) = FollowsForget g.fault held g.slot
   PurgePlanned g _ = Unit {0}
 
+  -- What a step of a release may be told: how the decommit of a region ended.
   abbrev pub ReleaseTold : Settings → StepGiven H → ReleaseStep P → Type 0
   ReleaseTold s g (releasing_step.Decommit r k at held) = Drains s g.fault held g.slot
   ReleaseTold s g _ = Unit {0}
 
+  -- The page calls of a step of a release, which only the decommit of a region makes.
   abbrev pub ReleasePlanned : Settings → StepGiven H → ReleaseStep P → Type 0
   ReleasePlanned s g (releasing_step.Decommit r k at held) = FollowsDrain s g.fault held g.slot
   ReleasePlanned s g _ = Unit {0}
 
-  -- an object is reset
+  -- What the reset of an object may be told: how the page calls of a memory's reset ended.
   abbrev pub ResetTold : Settings → StepGiven H → Object P → Type 0
   ResetTold s g (Memory lease) = Resets g.fault s.keep_resident.bytes (slot_taken lease) (slot_of lease.memory) g.slot
   ResetTold s g _ = Unit {0}
 
+  -- The page calls of the reset of an object, which only a memory's makes.
   abbrev pub ResetPlanned : Settings → StepGiven H → Object P → Type 0
   ResetPlanned s g (Memory lease) = FollowsReset s.keep_resident.bytes g.fault (slot_of lease.memory) g.slot
   ResetPlanned s g _ = Unit {0}
@@ -196,7 +183,7 @@ module _ {P H : Type 0} where
   AsksOf old new g (MakeTable at region) f = IfTable f (AsksForTable g.limiter old new)
   AsksOf old new g _ f = new ≡ old
 
-  -- and of the maker of heaps: only the making of a heap asks it
+  -- What a step asks of the maker of heaps, and its answer: only the making of a heap asks it.
   abbrev pub MakesOf : HeapsTold → HeapsTold → StepGiven H → Phase P H → Type 0
   MakesOf old new g (MakeHeap at) = MakesHeap g.heap old new
   MakesOf old new g _ = new ≡ old
@@ -208,7 +195,7 @@ module _ {P H : Type 0} where
   LimiterHears Passes g (MakeTable at region) f = IfTable f (λ ty. Passes (may_grow (making_question ty) g.limiter ∷ []))
   LimiterHears Passes g _ f = Passes []
 
-  -- whether a page call of the step failed is as the regions' plans say, where they are told
+  -- A page call of the step failed exactly where the regions' plans say so, where they are told.
   abbrev pub IsPlanned : Settings → StepGiven H → Phase P H → Frame P H → Type 0
   IsPlanned s g (Empty at held) f = Follows (wiping held) (not g.fault) held.region g.slot.region
   IsPlanned s g (Instantiate at held) f = IfAllocated f (λ decl. FollowsPlanFor s decl g.fault (image_wanted f) held g.slot)

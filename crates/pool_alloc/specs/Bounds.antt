@@ -1,15 +1,10 @@
 -- How many steps a call makes at most, by the sizes of the pool alone, and how many it still makes.
-use Rattle.std.specs.Prelude.{ℕ, List, ◌+◌, ◌*◌, ◌-◌, length, nat_lt, if◌then◌else◌, Option, Some, ◌==◌, zero, suc, sum_by, ◌∷◌, [], max, ◌++◌, Bool, not, is_some, ◌&&◌, ◌||◌}
-use Rattle.pool_slots.specs.SlotQueues.{Queue, Queued}
-use Rattle.pool_index.specs.Shard.{one_if}
+use Rattle.std.specs.Prelude.{ℕ, List, ◌+◌, ◌*◌, ◌-◌, length, nat_lt, if◌then◌else◌, Option, Some, ◌==◌, zero, suc, sum_by, ◌∷◌, [], max, ◌++◌, Bool, not, is_some, ◌&&◌, ◌||◌, drop}
+use Rattle.pool_alloc.specs.Imports.{Queue, Queued, one_if, home_of, SlotName, Allocator, Plan}
 use Rattle.pool_alloc.specs.Objects.{objects_in, objects_wanted}
 use Rattle.pool_alloc.specs.declared.lease.InstanceLease.{InstanceLease}
 use Rattle.pool_alloc.specs.Reserved.{Reserved}
 use Rattle.pool_alloc.specs.RangeRuns.{runs}
-use Rattle.pool_slots.specs.Plans.{home_of}
-use Rattle.pool_slots.specs.declared.slot_name.SlotName.{SlotName}
-use Rattle.pool_slots.specs.declared.plan.Allocator.{Allocator}
-use Rattle.pool_slots.specs.declared.plan.Plan.{Plan}
 use Rattle.pool_alloc.specs.Steps.{queues_searched}
 use Rattle.pool_alloc.specs.declared.frame.Grant.TheVariants.{Instance, Stack, Heap, Component}
 use Rattle.pool_alloc.specs.declared.pool_core.PoolCore.{PoolCore}
@@ -23,7 +18,6 @@ use Rattle.pool_alloc.specs.declared.frame.Asked.{Asked}
 use Rattle.pool_alloc.specs.declared.frame.Asked.TheVariants.{Module as module_asked, Stack as stack_asked, Heap as heap_asked}
 use Rattle.pool_alloc.specs.declared.frame.Phase.{Phase}
 use Rattle.pool_alloc.specs.declared.frame.Phase.TheVariants.{Idle, Key, Validate, TestStack, TestHeap, CountInstance, Pick, TakeQueue, TakeRegion, Empty, Instantiate, MakeMemory, MakeTable, CountObject, TakeHeap, MakeHeap, CountHeap, PutNoHeap, PutBack, FreeOne, UncountObject, UncountHeap, PutHeap, FreeHeap, Reset, Merge, Flush, UncountInstance, ValidateComponent, CountComponent, UncountComponent, Purge, Release}
-use Rattle.std.specs.Prelude.{drop}
 use Rattle.pool_alloc.specs.Purges.{has_turns, purged_stripe}
 use Rattle.pool_alloc.specs.Releases.{released_stripe}
 use Rattle.pool_alloc.specs.declared.pool_core.Settings.{Settings}
@@ -43,11 +37,12 @@ pub record PoolSizes : Type 0 where
   pub per_module : ℕ
   pub plan : Plan
 
--- the most shards of one of these allocators, and the shards of all of them
+-- The most shards of one of these allocators.
 abbrev pub most_shards : List Allocator → ℕ
 most_shards [] = 0
 most_shards (a ∷ more) = max a.shards (most_shards more)
 
+-- How many shards these allocators have together.
 abbrev pub all_shards : List Allocator → ℕ
 all_shards [] = 0
 all_shards (a ∷ more) = a.shards + all_shards more
@@ -56,7 +51,7 @@ all_shards (a ∷ more) = a.shards + all_shards more
 abbrev pub flushed_allocators : Plan → List Allocator
 flushed_allocators plan = plan.memories ++ (plan.tables ++ plan.stacks)
 
--- all allocators
+-- The allocators of slots of all kinds.
 abbrev pub searched_allocators : Plan → List Allocator
 searched_allocators plan = flushed_allocators plan ++ plan.heaps
 
@@ -64,7 +59,7 @@ searched_allocators plan = flushed_allocators plan ++ plan.heaps
 abbrev pub all_slots : Plan → ℕ
 all_slots plan = plan.totals.memory + plan.totals.table + plan.totals.stack
 
--- the sizes of a pool
+-- The sizes of a pool on which bounds rest.
 abbrev pub sizes_of : Settings → Plan → PoolSizes
 sizes_of s plan = record { shards = most_shards (searched_allocators plan); queues = queues_searched plan; slots = all_slots plan; per_module = s.max_memories_per_module; plan = plan }
 
@@ -97,6 +92,7 @@ return_bound z objects = 1 + objects * give_back_bound z
 abbrev pub turns_bound : PoolSizes → Allocator → ℕ
 turns_bound z a = a.capacity * (z.shards + 4) + z.shards
 
+-- At most how many steps a purge makes: the turns of each memory number in each stripe, and one.
 abbrev pub purge_bound : PoolSizes → ℕ
 purge_bound z = 1 + z.per_module * sum_by (turns_bound z) z.plan.memories
 
@@ -104,20 +100,23 @@ purge_bound z = 1 + z.per_module * sum_by (turns_bound z) z.plan.memories
 abbrev pub stripe_bound : PoolSizes → Allocator → ℕ
 stripe_bound z a = z.shards + 4 * a.capacity
 
+-- At most how many steps a release makes: those of each stripe, and one.
 abbrev pub release_bound : PoolSizes → ℕ
 release_bound z = 1 + sum_by (stripe_bound z) z.plan.memories
 
--- what is left of a purge behind a memory, and behind a turn for it
+-- What is left of a purge behind a memory.
 abbrev pub memories_left : PoolSizes → PurgeCursor → ℕ
 memories_left z p = (z.per_module - (p.memory + 1)) * turns_bound z (purged_stripe z.plan p) + z.per_module * sum_by (turns_bound z) (drop (p.stripe + 1) z.plan.memories)
 
+-- What is left of a purge behind a turn: the other turns for this memory, and all behind that.
 abbrev pub turns_left : PoolSizes → PurgeCursor → ℕ
 turns_left z p = ((purged_stripe z.plan p).capacity - (p.turn + 1)) * (z.shards + 4) + z.shards + memories_left z p
 
--- how many slots keep bytes resident, and what is left of a release behind its stripe
+-- How many of these slots keep bytes resident.
 abbrev pub residents : List FreedSlot → ℕ
 residents slots = sum_by (λ x. one_if (not (x.bytes == 0))) slots
 
+-- What is left of a release behind its stripe.
 abbrev pub stripes_left : PoolSizes → ReleaseCursor → ℕ
 stripes_left z r = sum_by (stripe_bound z) (drop (r.stripe + 1) z.plan.memories)
 
@@ -125,19 +124,20 @@ stripes_left z r = sum_by (stripe_bound z) (drop (r.stripe + 1) z.plan.memories)
 abbrev pub drains_left : PoolSizes → ReleaseCursor → ℕ → ℕ
 drains_left z r k = 3 * residents (drop k r.taken.items) + length r.taken.items + stripes_left z r
 
--- 1 for a slot that is at home in the shard at this place, and how many such slots wait: those that are queued, and those
--- that are to be freed
+-- 1 for a slot that is at home in the shard at this place.
 abbrev pub is_home : PoolSizes → ℕ → SlotName → ℕ
 is_home z place name = one_if ((home_of z.plan name).place == place)
 
+-- How many slots wait for the shard at a place: those queued, and those that are to be freed.
 abbrev pub waiting_for : PoolSizes → ℕ → List Queued → List FreedSlot → ℕ
 waiting_for z place queued freed = sum_by (λ m. is_home z place m.name) queued + sum_by (λ x. is_home z place x.name) freed
 
--- for how many of the first n shards from a place on some do, and for how many shards of these allocators
+-- For how many of the first n shards from a place on some slot waits.
 abbrev pub shards_waiting : PoolSizes → ℕ → ℕ → List Queued → List FreedSlot → ℕ
 shards_waiting z first zero queued freed = 0
 shards_waiting z first (suc n) queued freed = one_if (nat_lt 0 (waiting_for z (first + n) queued freed)) + shards_waiting z first n queued freed
 
+-- For how many shards of these allocators some slot waits.
 abbrev pub all_waiting : PoolSizes → List Allocator → List Queued → List FreedSlot → ℕ
 all_waiting z [] queued freed = 0
 all_waiting z (a ∷ more) queued freed = shards_waiting z a.first_place a.shards queued freed + all_waiting z more queued freed
@@ -146,6 +146,7 @@ all_waiting z (a ∷ more) queued freed = shards_waiting z a.first_place a.shard
 abbrev pub may_zero : Bool → Queued → ℕ
 may_zero ranges m = one_if (is_some m.by_hand && (ranges || not m.known))
 
+-- How many slots of a queue may still have to be zeroed by hand.
 abbrev pub zeroings : Queue → ℕ
 zeroings local = sum_by (may_zero (nat_lt 0 (length local.ranges))) local.slots
 
@@ -170,7 +171,7 @@ objects_left z asked objects = (objects_wanted asked - (objects_in objects + 1))
 abbrev pub queues_left : {P : Type 0} → PoolSizes → ℕ → Asked → InstanceLease P → ℕ
 queues_left z queues asked objects = (z.queues - queues) * (flush_bound z + z.shards) + (6 + objects_left z asked objects)
 
--- and where so many shards were tried then
+-- What is left of an allocation where so many queues were gone through, and then so many shards tried.
 abbrev pub picks_left : {P : Type 0} → PoolSizes → ℕ → ℕ → Asked → InstanceLease P → ℕ
 picks_left z queues tried asked objects = (z.shards - tried) + queues_left z queues asked objects
 
@@ -181,7 +182,7 @@ next_left z returned queues asked objects = returns_left z objects
 next_left z (refused e) queues asked objects = returns_left z objects
 
 module _ {P H : Type 0} where
-  -- at most how many steps a call makes, on a pool of these sizes and on this one
+  -- At most how many steps a call makes on a pool of these sizes.
   abbrev pub bound_of_call : PoolSizes → Call P H → ℕ
   bound_of_call z call.Key = 1
   bound_of_call z (call.Module m) = instance_bound z (objects_wanted (module_asked m))
@@ -195,11 +196,12 @@ module _ {P H : Type 0} where
   bound_of_call z (call.Purge id) = purge_bound z
   bound_of_call z call.Release = release_bound z
 
+  -- At most how many steps a call makes on this pool.
   abbrev pub bound_of : PoolCore P H → Call P H → ℕ
   bound_of c call = bound_of_call (sizes_of c.settings c.plan) call
 
 module _ {P : Type 0} where
-  -- at most how many steps a purge still makes, and a release
+  -- At most how many steps a purge still makes.
   abbrev pub purge_left : PoolSizes → PurgeCursor → PurgeStep P → ℕ
   purge_left z p (purging_step.Pick tried) = if has_turns z.per_module z.plan then ((purged_stripe z.plan p).capacity - p.turn) * (z.shards + 4) + (z.shards - tried) + memories_left z p else 1
   purge_left z p (purging_step.TakeRegion name) = 4 + turns_left z p
@@ -207,6 +209,7 @@ module _ {P : Type 0} where
   purge_left z p (purging_step.PutRegion at held) = 2 + turns_left z p
   purge_left z p (purging_step.Free name) = 1 + turns_left z p
 
+  -- At most how many steps a release still makes.
   abbrev pub release_left : PoolSizes → ReleaseStep P → ℕ
   release_left z releasing_step.Reserve = release_bound z
   release_left z (releasing_step.TakeWarm r j) = (z.shards - j) + 4 * (released_stripe z.plan r).capacity + stripes_left z r

@@ -1,13 +1,10 @@
 -- A party's calls: its frame as made, what a call begins with, and what it grants.
 use Rattle.std.specs.Prelude.{◌≡◌, ℕ, ◌*◌, ◌<◌, [], length, Option, Some, None}
-use Rattle.pool_pages.specs.MakerTold.{MakerTold}
-use Rattle.pool_slots.specs.SlotQueues.{empty_queue}
-use Rattle.pool_slots.specs.declared.plan.Plan.{Plan}
+use Rattle.pool_alloc.specs.Imports.{MakerTold, empty_queue, Plan, MemoryType}
 use Rattle.pool_alloc.specs.Objects.{no_objects}
 use Rattle.pool_alloc.specs.HeapLeases.{LeasedHeap, heap_numbers, IsHeapLease}
 use Rattle.pool_alloc.specs.Leases.{Lease}
 use Rattle.pool_alloc.specs.Steps.{IsForInstance, memories_wanted, images_wanted, tables_wanted, plain_decl}
-use Rattle.pool_pages.specs.declared.module_types.MemoryType.{MemoryType}
 use Rattle.pool_alloc.specs.Turns.{returned_next}
 use Rattle.pool_alloc.specs.Sound.{IsLeaseOf, AreLeasesOf, AreImagesOf, AreBegun, IsNew}
 use Rattle.pool_alloc.specs.Modules.{HasImages}
@@ -18,7 +15,7 @@ use Rattle.pool_alloc.specs.declared.frame.Asked.{Asked}
 use Rattle.pool_alloc.specs.declared.frame.Asked.TheVariants.{Nothing as nothing_asked, Module as module_asked, Stack as stack_asked, Heap as heap_asked}
 use Rattle.pool_alloc.specs.declared.frame.Object.TheVariants as object
 use Rattle.pool_alloc.specs.PoolStacks.{IsNewStack, IsStackLease}
-use Rattle.pool_alloc.specs.declared.frame.Phase.TheVariants.{Idle, Key, Validate, TestStack, TestHeap, UncountObject, UncountHeap, ValidateComponent, UncountComponent}
+use Rattle.pool_alloc.specs.declared.frame.Phase.TheVariants.{Idle, Key, Validate, TestStack, TestHeap, UncountObject, UncountHeap, ValidateComponent, UncountComponent, Purge, Release}
 use Rattle.pool_alloc.specs.declared.frame.Ending.TheVariants.{Granted as granted, Returned as returned}
 use Rattle.pool_alloc.specs.declared.frame.Grant.{Grant}
 use Rattle.pool_alloc.specs.declared.frame.Grant.TheVariants.{Instance, Stack, Heap, Component}
@@ -27,7 +24,6 @@ use Rattle.pool_alloc.specs.declared.frame.Call.{Call}
 use Rattle.pool_alloc.specs.declared.frame.Call.TheVariants as call
 use Rattle.pool_alloc.specs.declared.frame.Outcome.{Outcome}
 use Rattle.pool_alloc.specs.declared.frame.Outcome.TheVariants.{Granted}
-use Rattle.pool_alloc.specs.declared.frame.Phase.TheVariants.{Purge, Release}
 use Rattle.pool_alloc.specs.Purges.{purge_begun}
 use Rattle.pool_alloc.specs.declared.purge.PurgeStep.TheVariants as purging_step
 use Rattle.pool_alloc.specs.declared.release.ReleaseStep.TheVariants as releasing_step
@@ -76,7 +72,7 @@ module _ {P H : Type 0} where
   IsGrant maker s plan (Stack lease) = IsStackLease maker s plan lease
   IsGrant maker s plan (Heap lease memory) = IsHeapLease plan lease × IsLeaseOf maker s plan memory
 
-  -- and it has an object for each that was asked for, which begins as that is to
+  -- The grant is one of the pool, and has an object for each that was asked for, which begins as that is to.
   abbrev pub IsGrantOf : MakerTold → Settings → Plan → Asked → Grant P H → Type 0
   IsGrantOf maker s plan asked (Instance lease) = AreLeasesOf maker s plan lease × (length lease.memories.items ≡ length (memories_wanted asked)) × AreBegun s asked lease × (length lease.tables.items ≡ length (tables_wanted asked)) × IsForInstance asked
   IsGrantOf maker s plan asked Component = Unit {0}

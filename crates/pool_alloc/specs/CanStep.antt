@@ -1,51 +1,22 @@
 -- Just what the code of each step needs of the pool's parts and of the frame.
 use Rattle.std.specs.Prelude.{◌≡◌, ℕ, ◌+◌, ◌^◌, ◌<◌, ◌≤◌, ◌%◌, List, [], length, slice_get, All, false, Option, None, IsSome, IfSome, true, Some}
-use Rattle.pool_pages.specs.Count.{count, rounded_up}
-use Rattle.pool_pages.specs.Told.{Told}
-use Rattle.pool_pages.specs.MemoryTypes.{minimum_byte_size, refused_limits}
-use Rattle.pool_pages.specs.declared.module_types.MemoryDecl.{MemoryDecl}
-use Rattle.pool_images.specs.Images.{Image}
-use Rattle.pool_images.specs.Slots.{Slot, IsClean, IsFresh, FitsInto}
-use Rattle.pool_index.specs.Shard.{ShardState, use_of}
-use Rattle.pool_hall.specs.declared.unit_name.SlotKind.TheVariants.{Memory as memory_kind, Stack as stack_kind}
-use Rattle.pool_memory.specs.Memories.{slot_of}
-use Rattle.pool_memory.specs.Static.{CanHold}
-use Rattle.pool_slots.specs.Cells.{is_taken, unmapped, IsCleanOnceUsed}
-use Rattle.pool_slots.specs.Colourings.{stripe_colour}
-use Rattle.pool_slots.specs.RegionCells.{CellState}
-use Rattle.pool_slots.specs.SlotQueues.{plain_slot, Queue, Queued, first_of_kind, HasOwners, IsSpareOf}
-use Rattle.pool_slots.specs.declared.plan.Plan.{Plan}
-use Rattle.pool_slots.specs.CellOf.{cell_of}
-use Rattle.pool_slots.specs.Plans.{cell_place, home_of, IsPlacedAllocator}
-use Rattle.pool_slots.specs.declared.slot_name.SlotName.{SlotName}
+use Rattle.pool_alloc.specs.Imports.{count, rounded_up, Told, minimum_byte_size, refused_limits, MemoryDecl, Image, Slot, IsClean, IsFresh, FitsInto, IsRangeOf, ShardState, use_of, memory_kind, stack_kind, slot_of, CanHold, is_taken, unmapped, IsCleanOnceUsed, stripe_colour, CellState, plain_slot, Queue, Queued, first_of_kind, HasOwners, IsSpareOf, Plan, cell_of, cell_place, home_of, IsPlacedAllocator, SlotName, TableType, room_of, IsRoom, type_maximum, Allocator, SlotKind, CanMerge, IsAt, IsShardPart, IsCellPart, IsHere, IsOut, IsPlain, ImageSlot, Unmapped, Unknown, PreviouslyUsed, Taken}
 use Rattle.pool_alloc.specs.Freeing.{AreUsedInTurn, HasHome, CanBeFreed}
-use Rattle.pool_pages.specs.declared.table_type.TableType.{TableType}
-use Rattle.pool_table.specs.Making.{room_of}
-use Rattle.pool_table.specs.Tables.{IsRoom, type_maximum}
-use Rattle.pool_slots.specs.declared.plan.Allocator.{Allocator}
-use Rattle.pool_hall.specs.declared.unit_name.SlotKind.{SlotKind}
 use Rattle.pool_alloc.specs.TableLeases.{LeasedTable, table_slot}
 use Rattle.pool_alloc.specs.TableSteps.{IsInRegion, CanQueue, table_bytes}
 use Rattle.pool_alloc.specs.Modules.{HasImages, IfAllocated, IfTable}
 use Rattle.pool_alloc.specs.Reserved.{Reserved}
 use Rattle.pool_alloc.specs.Rows.{FlushStep, run, zero, put, free, flush_step}
-use Rattle.pool_slots.specs.QueueMerges.{CanMerge}
-use Rattle.pool_slots.specs.Parts.{IsAt, IsShardPart, IsCellPart}
-use Rattle.pool_slots.specs.HeapLists.{IsHere, IsOut}
 use Rattle.pool_alloc.specs.Steps.{IsModule, HasMemories, IsHeapAsked, IsHeapsPart, heaps_at, memories_wanted, tables_wanted, image_wanted, IsQueuePart, allocator_for, queues_searched, shard_at, cell_named, queue_at, freed_of, first_shard, shard_tried, queue_tried}
 use Rattle.pool_alloc.specs.declared.pool_core.PoolCore.{PoolCore}
 use Rattle.pool_alloc.specs.declared.pool_core.Settings.{Settings}
 use Rattle.pool_alloc.specs.declared.frame.Frame.{Frame}
 use Rattle.pool_alloc.specs.declared.frame.FreedSlot.{FreedSlot}
 use Rattle.pool_alloc.specs.declared.frame.Object.TheVariants.{Memory, Table, Stack}
-use Rattle.pool_slots.specs.PlainSlots.{IsPlain}
 use Rattle.pool_alloc.specs.StackLeases.{LeasedStack, stack_slot}
 use Rattle.pool_alloc.specs.declared.frame.Asked.{Asked}
 use Rattle.pool_alloc.specs.declared.frame.Phase.{Phase}
 use Rattle.pool_alloc.specs.declared.frame.Phase.TheVariants.{Idle, Key, Validate, TestStack, TestHeap, CountInstance, Pick, TakeQueue, TakeRegion, Empty, Instantiate, MakeMemory, MakeTable, CountObject, TakeHeap, MakeHeap, CountHeap, PutNoHeap, PutBack, FreeOne, UncountObject, UncountHeap, PutHeap, FreeHeap, Reset, Merge, Flush, UncountInstance, ValidateComponent, CountComponent, UncountComponent, Purge, Release}
-use Rattle.pool_images.specs.Slots.{IsRangeOf}
-use Rattle.pool_slots.specs.declared.cells.ImageSlot.{ImageSlot}
-use Rattle.pool_slots.specs.declared.cells.ImageSlot.TheVariants.{Unmapped, Unknown, PreviouslyUsed, Taken}
 use Rattle.pool_alloc.specs.Purges.{has_turns, purged_stripe}
 use Rattle.pool_alloc.specs.Releases.{released_stripe, nth_taken}
 use Rattle.pool_alloc.specs.declared.purge.PurgeCursor.{PurgeCursor}
@@ -66,15 +37,16 @@ pub record HasAllocators (plan : Plan) (stripe : ℕ) : Type 0 where
   pub stacks : 0 < length plan.stacks
   pub heaps : 0 < length plan.heaps
 
+-- The allocator has a shard so many after the home one, and the numbers of its places fit 32 bits.
 pub record CanTryShard (plan : Plan) (a : Allocator) (tried : ℕ) : Type 0 where
   pub inside : tried < a.shards
   pub placed : IsPlacedAllocator a
 
-pub record CanTryQueue (plan : Plan) (home : ℕ) : Type 0 where
+-- There is a queue to try, and the numbers of the queues' places fit 32 bits.
+pub record CanTryQueue (plan : Plan) : Type 0 where
   pub some : 0 < plan.queues
   pub few : queues_searched plan < 2 ^ 32
   pub placed : plan.first_queue + plan.queues ≤ 2 ^ 32
-  pub own : plan.owned ≡ true → home < plan.queues
 
 -- the sizes of a module's memories can be computed
 abbrev pub CanValidate : List MemoryDecl → Type 0
@@ -192,22 +164,25 @@ module _ {P H : Type 0} where
   CanFlush (put kind) c f = ((m : Queued) → first_of_kind kind f.local.slots ≡ Some m → CanPlace c.plan m.name × IsAt IsCellPart (cell_place c.plan m.name) c.parts) × CanPutNext f.local f.freed
   CanFlush free c f = IsAt IsShardPart (first_shard c.plan f.freed.items) c.parts × CanFree c.plan f.freed.items (shard_at (first_shard c.plan f.freed.items) c)
 
-  -- a slot's cell is there, and a region lies in it; and likewise one that the region comes back into
+  -- A slot's cell is there, and a region lies in it.
   abbrev pub CanTakeOf : SlotName → PoolCore P H → Type 0
   CanTakeOf name c = CanPlace c.plan name × IsAt IsCellPart (cell_place c.plan name) c.parts × (is_taken (cell_named name c).holds ≡ false)
 
+  -- This can be put into the cell of a slot.
   abbrev pub CanPutOf : SlotName → ImageSlot P → PoolCore P H → Type 0
   CanPutOf name held c = CanPlace c.plan name × IsAt IsCellPart (cell_place c.plan name) c.parts × IsCleanOnceUsed (cell_of held)
 
+  -- The slot can be freed in the shard where it is at home.
   abbrev pub CanFreeOf : SlotName → PoolCore P H → Type 0
   CanFreeOf name c = IsAt IsShardPart (home_of c.plan name).place c.parts × CanFreeOne name c.plan (shard_at (home_of c.plan name).place c)
 
-  -- the list of heaps is there, and a slot's entry is, or it is out
+  -- The list of heaps has this slot, and its heap can be taken.
   pub record CanTakeHeapOf (slot : ℕ) (c : PoolCore P H) : Type 0 where
     pub list : IsAt IsHeapsPart c.plan.heap_list c.parts
     pub inside : slot < length (heaps_at c)
     pub here : IsHere slot (heaps_at c)
 
+  -- A heap can come back to this slot, which is out.
   pub record CanPutHeapOf (slot : ℕ) (c : PoolCore P H) : Type 0 where
     pub list : IsAt IsHeapsPart c.plan.heap_list c.parts
     pub out : IsOut slot (heaps_at c)
@@ -226,6 +201,7 @@ module _ {P : Type 0} where
   CanForget _ = Unit {0}
 
 module _ {P H : Type 0} where
+  -- What the next step of a purge needs of the pool's parts.
   abbrev pub CanPurge : PurgeCursor → PurgeStep P → PoolCore P H → Type 0
   CanPurge p (purging_step.Pick tried) c = has_turns c.settings.max_memories_per_module c.plan ≡ true → CanPickAffine c p tried
   CanPurge p (purging_step.TakeRegion name) c = CanTakeOf name c
@@ -250,6 +226,7 @@ module _ {P : Type 0} where
   CanDrain s _ = Unit {0}
 
 module _ {P H : Type 0} where
+  -- What the next step of a release needs of the pool's parts.
   abbrev pub CanRelease : ReleaseStep P → PoolCore P H → Type 0
   CanRelease releasing_step.Reserve c = length c.plan.memories < 2 ^ 32
   CanRelease (releasing_step.TakeWarm r j) c = CanTakeWarm c r j
@@ -258,7 +235,7 @@ module _ {P H : Type 0} where
   CanRelease (releasing_step.PutRegion r k at held) c = CanEndStripe c.plan r × (k < length r.taken.items) × CanPutOf at.name held c
   CanRelease (releasing_step.Free r x) c = CanEndStripe c.plan r × (x.bytes ≤ 2 ^ 32) × CanFreeOf x.name c
 
-  -- in each phase
+  -- What the code of a step needs, in each phase.
   abbrev pub CanStepAt : Phase P H → PoolCore P H → Frame P H → Type 0
   CanStepAt Idle c f = Unit {0}
   CanStepAt Key c f = (0 < length c.plan.memories) × (length c.plan.memories < 2 ^ 32)
@@ -267,7 +244,7 @@ module _ {P H : Type 0} where
   CanStepAt TestHeap c f = IsHeapAsked f.asked
   CanStepAt CountInstance c f = c.counters.core_instances + 1 < 2 ^ 64
   CanStepAt (Pick tried) c f = HasAllocators c.plan f.stripe × CanTryShard c.plan (allocator_for c.plan f) tried × IsAt IsShardPart (shard_tried tried c.plan f) c.parts × (length f.objects.memories.items < 2 ^ 32)
-  CanStepAt TakeQueue c f = (f.queues < queues_searched c.plan) × HasAllocators c.plan f.stripe × CanTryQueue c.plan f.home × IsAt IsQueuePart (queue_tried f.queues c.plan f) c.parts × IsSpareOf (queue_at (queue_tried f.queues c.plan f) c) f.local
+  CanStepAt TakeQueue c f = (f.queues < queues_searched c.plan) × HasAllocators c.plan f.stripe × CanTryQueue c.plan × IsAt IsQueuePart (queue_tried f.queues c.plan f) c.parts × IsSpareOf (queue_at (queue_tried f.queues c.plan f) c) f.local
   CanStepAt (TakeRegion name) c f = CanPlace c.plan name × IsAt IsCellPart (cell_place c.plan name) c.parts × CanTakeRegion c.settings name (cell_named name c)
   CanStepAt (Empty at held) c f = Unit {0}
   CanStepAt (Instantiate at held) c f = HasNext f.asked (length f.objects.memories.items) × IsClean held × IfAllocated f (CanBegin held (image_wanted f))
@@ -291,7 +268,7 @@ module _ {P H : Type 0} where
   CanStepAt (Reset (Memory lease)) c f = CanReset c.settings (slot_of lease.memory) f.local
   CanStepAt (Reset (Table lease)) c f = CanResetTable c.settings lease f.local
   CanStepAt (Reset (Stack lease)) c f = CanResetStack c.settings lease f.local
-  CanStepAt Merge c f = CanTryQueue c.plan f.home × IsAt IsQueuePart (queue_tried 0 c.plan f) c.parts × CanMerge (queue_at (queue_tried 0 c.plan f) c) f.local
+  CanStepAt Merge c f = CanTryQueue c.plan × IsAt IsQueuePart (queue_tried 0 c.plan f) c.parts × CanMerge (queue_at (queue_tried 0 c.plan f) c) f.local
   CanStepAt Flush c f = CanFlush (flush_step f.local f.freed.items) c f
   CanStepAt UncountInstance c f = 0 < c.counters.core_instances
   CanStepAt (ValidateComponent info) c f = Unit {0}

@@ -1,13 +1,7 @@
 -- A pool that is closed: its queues are flushed, one after the other, each as by a give-back that has nothing else to give
 -- back.
 use Rattle.std.specs.Prelude.{◌≡◌, ℕ, ◌+◌, ◌<◌, ◌==◌, List, [], ◌∷◌, Bool, true, if◌then◌else◌}
-use Rattle.std.specs.List.{list_all}
-use Rattle.pool_pages.specs.MakerTold.{MakerTold}
-use Rattle.pool_index.specs.Shard.{used_count}
-use Rattle.pool_slots.specs.ListUnits.{all_away, all_kept}
-use Rattle.pool_slots.specs.Plans.{queue_tried}
-use Rattle.pool_slots.specs.SlotQueues.{Queue, after_take, taken_into}
-use Rattle.pool_slots.specs.declared.part.PoolPart.{PoolPart}
+use Rattle.pool_alloc.specs.Imports.{list_all, MakerTold, used_count, all_away, all_kept, queue_tried, Queue, after_take, taken_into, PoolPart}
 use Rattle.pool_slots.specs.declared.part.PoolPart.TheVariants as part
 use Rattle.pool_alloc.specs.Sound.{IsCore, IsFrame}
 use Rattle.pool_alloc.specs.Steps.{queue_at, with_queue, counting_instances}
@@ -36,11 +30,12 @@ pub record IsBare {P : Type 0} (what : Asked) (end : Ending) (objects : Instance
   pub no_tables : objects.tables.items ≡ []
 
 module _ {P H : Type 0} where
-  -- none of a part's slots is used, nor of all parts
+  -- No slot of a part is used.
   abbrev pub has_free : PoolPart P H → Bool
   has_free (part.Shard s) = used_count s == 0
   has_free _ = true
 
+  -- No slot of any part is used.
   abbrev pub all_free : List (PoolPart P H) → Bool
   all_free parts = list_all has_free parts
 
@@ -54,20 +49,22 @@ module _ {P H : Type 0} where
   abbrev pub IsGivenBack : PoolCore P H → Type 0
   IsGivenBack c = IsPartitioned (λ (h : Holding). h) c []
 
-  -- the place of a queue, and that so many of the first are empty
+  -- The place of the queue after n others.
   abbrev pub nth_queue : ℕ → PoolCore P H → ℕ
   nth_queue n c = queue_tried c.plan 0 n
 
+  -- The first n queues hold no slots.
   abbrev pub AreEmptied : ℕ → PoolCore P H → Type 0
   AreEmptied n c = (j : ℕ) → j < n → (queue_at (nth_queue j c) c).slots ≡ []
 
-  -- it is in one of these phases
+  -- The phase is one of those that a closing goes through.
   abbrev pub IsClosingAt : Phase P H → Type 0
   IsClosingAt Idle = Unit {0}
   IsClosingAt Flush = Unit {0}
   IsClosingAt UncountInstance = Unit {0}
   IsClosingAt _ = ⊥
 
+  -- The frame flushes a queue of the closing pool, and does nothing else.
   abbrev pub IsFlushing : Frame P H → Type 0
   IsFlushing f = IsClosingAt f.phase × IsBare f.asked f.ending f.objects
 
@@ -79,19 +76,22 @@ module _ {P H : Type 0} where
     pub whole : IsPartitioned (λ (h : Holding). h) c (held_by f ∷ [])
     pub emptied : AreEmptied n c
 
-  -- with no call under way
+  -- The closing flushed so many queues, and flushes none at this moment.
   abbrev pub IsClosed : MakerTold → ℕ → PoolCore P H → Frame P H → Type 0
   IsClosed maker n c f = IsClosing maker n c f × (f.phase ≡ Idle)
 
-  -- A queue is taken whole, into a frame that flushes it, as if an instance of nothing were given back.
+  -- The pool once a queue was taken whole to be flushed, as if an instance of nothing were given back.
   abbrev pub queue_taken : ℕ → PoolCore P H → PoolCore P H
   queue_taken p c = counting_instances (c.counters.core_instances + 1) (with_queue p (after_take (queue_at p c)) c)
 
+  -- The frame once it took over a queue that is to be flushed.
   abbrev pub frame_taking : Queue → Frame P H → Frame P H
   frame_taking queue f = record f { asked = nothing_asked; local = taken_into f.local queue; ending = returned }
 
+  -- What comes next for a queue that was taken: it is flushed where it holds something, else its call is counted off.
   abbrev pub closing_phase : Bool → Phase P H
   closing_phase is_flushed = if is_flushed then UncountInstance else Flush
 
+  -- The frame that begins to flush a queue of the closing pool.
   abbrev pub frame_closing : Queue → Frame P H → Frame P H
   frame_closing queue f = let g : Frame P H = frame_taking queue f in gone_to (closing_phase (is_flushed g)) g

@@ -1,10 +1,6 @@
 -- When slots can be freed.
-use Rattle.std.specs.List.{AllByRecursion}
 use Rattle.std.specs.Prelude.{◌≡◌, ℕ, ◌^◌, ◌≤◌, ◌==◌, List, [], ◌∷◌, ◌++◌, if◌then◌else◌, IsSome, ◌<◌}
-use Rattle.pool_index.specs.Shard.{ShardState, use_of, after_free}
-use Rattle.pool_slots.specs.Plans.{allocators_of, home_of, have_number, IsPlacedAllocator}
-use Rattle.pool_slots.specs.declared.plan.Plan.{Plan}
-use Rattle.pool_slots.specs.declared.slot_name.SlotName.{SlotName}
+use Rattle.pool_alloc.specs.Imports.{AllByRecursion, ShardState, use_of, after_free, allocators_of, home_of, have_number, IsPlacedAllocator, Plan, SlotName}
 use Rattle.pool_alloc.specs.declared.frame.FreedSlot.{FreedSlot}
 
 -- each slot of the list is used in the shard when its turn comes
@@ -17,7 +13,7 @@ pub record HasHome (plan : Plan) (name : SlotName) : Type 0 where
   pub placed : AllByRecursion IsPlacedAllocator (allocators_of plan name.kind)
   pub has : 0 < have_number (allocators_of plan name.kind) name.slot
 
--- and a slot can be freed that keeps no more bytes resident than a slot may
+-- The slot can be freed, and keeps no more bytes resident than a slot may.
 pub record CanBeFreed (plan : Plan) (x : FreedSlot) : Type 0 where
   pub home : HasHome plan x.name
   pub bytes : x.bytes ≤ 2 ^ 32
@@ -28,10 +24,12 @@ abbrev pub CanFreeNext : Plan → ℕ → List FreedSlot → ShardState → Type
 CanFreeNext plan place [] shard = ⊥
 CanFreeNext plan place (x ∷ rest) shard = ((home_of plan x.name).place ≡ place → IsSome (use_of shard (home_of plan x.name).local.0)) × CanBeFreed plan x
 
+-- The shard at a place once the first slot that waits was freed, if that is at home there.
 abbrev pub shard_after_next : Plan → ℕ → List FreedSlot → ShardState → ShardState
 shard_after_next plan place [] shard = shard
 shard_after_next plan place (x ∷ rest) shard = if (home_of plan x.name).place == place then after_free (home_of plan x.name).local x.bytes shard else shard
 
+-- The slots that still wait then; one that is at home elsewhere goes to the end.
 abbrev pub freed_after_next : Plan → ℕ → List FreedSlot → List FreedSlot
 freed_after_next plan place [] = []
 freed_after_next plan place (x ∷ rest) = if (home_of plan x.name).place == place then rest else rest ++ x ∷ []

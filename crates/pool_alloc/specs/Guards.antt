@@ -1,7 +1,6 @@
 -- A region whose first page is hidden: it guards what lies behind it.
 use Rattle.std.specs.Prelude.{◌≡◌, ℕ, ◌%◌, ◌≤◌, IfSome}
-use Rattle.pool_pages.specs.MakerTold.{fresh}
-use Rattle.pool_pages.specs.Told.{Told, PageCall, hiding}
+use Rattle.pool_alloc.specs.Imports.{fresh, Told, PageCall, hiding}
 
 -- the first page is hidden, which is the first call on the region
 abbrev pub guarding : ℕ → PageCall

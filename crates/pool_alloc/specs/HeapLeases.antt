@@ -1,8 +1,6 @@
 -- Heaps that were granted.
 use Rattle.std.specs.Prelude.{ℕ, ◌<◌}
-use Rattle.pool_slots.specs.HeapUnits.{heap_slot}
-use Rattle.pool_slots.specs.declared.plan.Plan.{Plan}
-use Rattle.pool_slots.specs.declared.slot_name.RegionNumbers.{RegionNumbers}
+use Rattle.pool_alloc.specs.Imports.{heap_slot, Plan, RegionNumbers}
 use Rattle.pool_alloc.specs.declared.frame.TakenSlot.{TakenSlot}
 
 -- a heap that was granted, the number of its slot, and what the unit of that tells since it is out
@@ -11,7 +9,7 @@ pub record LeasedHeap (H : Type 0) : Type 0 where
   pub heap : H
   pub numbers : RegionNumbers
 
--- those numbers: the slot notes the memory with this index
+-- The numbers that a heap's unit tells: its slot notes the memory with this index.
 abbrev pub heap_numbers : ℕ → RegionNumbers
 heap_numbers memory = record { faults = memory; erases = 0 }
 
@@ -19,6 +17,6 @@ heap_numbers memory = record { faults = memory; erases = 0 }
 abbrev pub heap_slot_taken : {H : Type 0} → LeasedHeap H → TakenSlot
 heap_slot_taken l = record { name = heap_slot l.index; numbers = l.numbers }
 
--- it is one of the pool
+-- The lease of a heap is one of the pool.
 abbrev pub IsHeapLease : {H : Type 0} → Plan → LeasedHeap H → Type 0
 IsHeapLease plan l = l.index < plan.totals.heap

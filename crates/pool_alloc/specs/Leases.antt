@@ -1,15 +1,6 @@
 -- What is granted, and how a lease is changed.
 use Rattle.std.specs.Prelude.{◌≡◌, ℕ, ◌+◌, ◌≤◌, List, [], ◌∷◌, length, slice_index_or, slice_set, false, Option, Some, Result, OnOk, OnErr}
-use Rattle.pool_images.specs.Slots.{IsInUse}
-use Rattle.pool_limits.specs.Exchanges.{Exchange}
-use Rattle.pool_limits.specs.LimiterTold.{LimiterTold}
-use Rattle.pool_limits.specs.declared.errors.GrowFault.{GrowFault}
-use Rattle.pool_limits.specs.declared.errors.Trap.{Trap}
-use Rattle.pool_memory.specs.Growing.{GrowsAsking}
-use Rattle.pool_memory.specs.Memories.{MemoryState, slot_of, memory_written, access_answer}
-use Rattle.pool_hall.specs.declared.unit_name.SlotKind.TheVariants.{Memory as memory_kind}
-use Rattle.pool_slots.specs.declared.slot_name.RegionNumbers.{RegionNumbers}
-use Rattle.pool_slots.specs.declared.slot_name.SlotName.{SlotName}
+use Rattle.pool_alloc.specs.Imports.{IsInUse, Exchange, LimiterTold, GrowFault, Trap, GrowsAsking, MemoryState, slot_of, memory_written, access_answer, memory_kind, RegionNumbers, SlotName}
 use Rattle.pool_alloc.specs.Reserved.{Reserved}
 use Rattle.pool_alloc.specs.declared.frame.TakenSlot.{TakenSlot}
 

@@ -9,16 +9,11 @@ pub mod Freeing
 pub mod Guards
 pub mod HeapLeases
 pub mod Holding
-pub mod InTurn
+mod Imports
 pub mod Leases
 pub mod Made
 pub mod Modules
 pub mod Objects
-pub mod OnDemandAnswers
-pub mod OnDemandGrants
-pub mod OnDemandInstances
-pub mod OnDemandRefusals
-pub mod OnDemandStacks
 pub mod Own
 pub mod PartFlows
 pub mod PartyTold

@@ -1,21 +1,6 @@
 -- A pool as it is made.
 use Rattle.std.specs.Prelude.{◌≡◌, ◌⊎◌, ℕ, ◌+◌, ◌*◌, ◌<◌, List, Bool, true, Option, Some, None, ◌^◌}
-use Rattle.pool_pages.specs.Count.{count, rounded_up}
-use Rattle.pool_pages.specs.MakerTold.{MakerTold, Planned}
-use Rattle.pool_pages.specs.SettingsRules.{slab_stripes}
-use Rattle.pool_pages.specs.Told.{Told, Rose}
-use Rattle.pool_pages.specs.declared.bad_config.BadConfig.{BadConfig}
-use Rattle.pool_pages.specs.declared.config.PoolingAllocationConfig.{PoolingAllocationConfig}
-use Rattle.pool_pages.specs.declared.module_types.Tunables.{Tunables}
-use Rattle.pool_pages.specs.declared.module_types.MemoryKind.TheVariants.{LinearMemory}
-use Rattle.pool_pages.specs.declared.offered.Offered.{Offered}
-use Rattle.pool_slots.specs.PartsMade.{AreMadeTo, lists_some_making, fails_some_slot, SomeGivenUp}
-use Rattle.pool_slots.specs.PlansMade.{places_planned}
-use Rattle.pool_slots.specs.StripedPlans.{divided, IsStripedPlanOf}
-use Rattle.pool_slots.specs.declared.part_maker.PartSettings.{PartSettings}
-use Rattle.pool_slots.specs.declared.slot_name.OfKinds.{OfKinds}
-use Rattle.pool_slots.specs.declared.striped_plan.StripedPlanSettings.{StripedPlanSettings}
-use Rattle.pool_slots.specs.declared.errors.PoolNewError.{PoolNewError}
+use Rattle.pool_alloc.specs.Imports.{count, rounded_up, MakerTold, Planned, slab_stripes, Told, Rose, BadConfig, PoolingAllocationConfig, Tunables, LinearMemory, Offered, AreMadeTo, lists_some_making, fails_some_slot, SomeGivenUp, places_planned, divided, IsStripedPlanOf, PartSettings, OfKinds, StripedPlanSettings, PoolNewError}
 use Rattle.pool_slots.specs.declared.errors.PoolNewError.TheVariants as refused
 use Rattle.pool_alloc.specs.Calls.{lists_made}
 use Rattle.pool_alloc.specs.declared.pool_core.PoolCore.{PoolCore}

@@ -1,7 +1,6 @@
 -- The module of which an instance is asked for.
 use Rattle.std.specs.Prelude.{◌≡◌, length, slice_get, Option, IfSome}
-use Rattle.pool_pages.specs.declared.module_types.MemoryDecl.{MemoryDecl}
-use Rattle.pool_pages.specs.declared.table_type.TableType.{TableType}
+use Rattle.pool_alloc.specs.Imports.{MemoryDecl, TableType}
 use Rattle.pool_alloc.specs.Steps.{memories_wanted, tables_wanted}
 use Rattle.pool_alloc.specs.declared.frame.Frame.{Frame}
 use Rattle.pool_alloc.specs.declared.frame.Asked.{Asked}
@@ -17,6 +16,6 @@ module _ {P H : Type 0} where
   abbrev pub IfAllocated : Frame P H → (MemoryDecl → Type 0) → Type 0
   IfAllocated f Q = IfSome (slice_get (memories_wanted f.asked) (length f.objects.memories.items)) Q
 
-  -- and the table
+  -- Something holds of the table that is allocated next.
   abbrev pub IfTable : Frame P H → (TableType → Type 0) → Type 0
   IfTable f Q = IfSome (slice_get (tables_wanted f.asked) (length f.objects.tables.items)) Q

@@ -16,10 +16,11 @@ abbrev pub objects_wanted : Asked → ℕ
 objects_wanted asked = length (memories_wanted asked) + length (tables_wanted asked) + stacks_wanted asked + heaps_wanted asked
 
 module _ {P : Type 0} where
-  -- how many of them are there, and nothing of them
+  -- How many objects an instance's leases are.
   abbrev pub objects_in : InstanceLease P → ℕ
   objects_in lease = length lease.memories.items + length lease.tables.items
 
+  -- The objects of a call that was granted nothing.
   abbrev pub no_objects : InstanceLease P
   no_objects = record { memories = no_room; tables = no_room }
 

@@ -1,24 +1,9 @@
 -- What a party does by itself with what it has taken.
 use Rattle.std.specs.Prelude.{ℕ, List, ◌++◌, map, Bool, true, false, Option, Some, None, Result, Ok, Err, slice_get}
-use Rattle.pool_pages.specs.Count.{count}
-use Rattle.pool_pages.specs.Told.{Told}
-use Rattle.pool_pages.specs.declared.module_types.MemoryDecl.{MemoryDecl}
-use Rattle.pool_pages.specs.declared.module_types.MemoryType.{MemoryType}
-use Rattle.pool_pages.specs.declared.unsupported.Unsupported.{Unsupported}
-use Rattle.pool_images.specs.Slots.{Slot, kept_bytes, left_ranges, reset_slot}
-use Rattle.pool_limits.specs.declared.errors.LimiterError.{LimiterError}
-use Rattle.pool_memory.specs.Memories.{MemoryState}
-use Rattle.pool_memory.specs.Static.{Static, made_static}
-use Rattle.pool_memory.specs.Making.{limits_answer, fixed_in}
-use Rattle.pool_memory.specs.declared.memory_error.MemoryError.{MemoryError}
+use Rattle.pool_alloc.specs.Imports.{count, Told, MemoryDecl, MemoryType, Unsupported, Slot, kept_bytes, left_ranges, reset_slot, LimiterError, MemoryState, Static, made_static, limits_answer, fixed_in, MemoryError, stripe_colour, Queue, Queued, with_slot, QueuedRange, HeapMakeFault, AllocError}
 use Rattle.pool_memory.specs.declared.memory_error.MemoryError.TheVariants as unmade
-use Rattle.pool_slots.specs.Colourings.{stripe_colour}
-use Rattle.pool_slots.specs.SlotQueues.{Queue, Queued, with_slot}
-use Rattle.pool_slots.specs.declared.queued_range.QueuedRange.{QueuedRange}
 use Rattle.pool_slots.specs.declared.queued_range.QueueKind.TheVariants as queued
-use Rattle.pool_slots.specs.declared.heap_maker.HeapMakeFault.{HeapMakeFault}
 use Rattle.pool_slots.specs.declared.heap_maker.HeapMakeFault.TheVariants as no_heap
-use Rattle.pool_slots.specs.declared.errors.AllocError.{AllocError}
 use Rattle.pool_slots.specs.declared.errors.AllocError.TheVariants as refusal
 use Rattle.pool_alloc.specs.Leases.{memory_slot}
 use Rattle.pool_alloc.specs.declared.frame.TakenSlot.{TakenSlot}
@@ -63,7 +48,7 @@ refusal_of (unmade.LimiterDenied min) = refusal.LimiterDenied false min
 refusal_of (unmade.LimiterFault e) = refusal.LimiterFault e
 refusal_of unmade.PageFault = refusal.PageFault
 
--- and why a heap isn't
+-- The error of a heap's maker as the allocator's refusal.
 abbrev pub heap_refusal : HeapMakeFault → AllocError
 heap_refusal no_heap.Memory = refusal.Memory
 heap_refusal no_heap.HeapFault = refusal.HeapFault
@@ -78,6 +63,7 @@ abbrev pub made_of_limits : Result (ℕ × Option ℕ) MemoryError → MemoryTyp
 made_of_limits (Err e) ty room slot = Err (refusal_of e)
 made_of_limits (Ok limits) ty room slot = made_of ty (made_static room limits.0 limits.1 slot)
 
+-- The memory that is made in a slot for what the module declares; want of memory where it declares none.
 abbrev pub made_for : ℕ → Result Bool LimiterError → Slot → Option MemoryDecl → Result MemoryState AllocError
 made_for room answer slot None = Err refusal.Memory
 made_for room answer slot (Some decl) = made_of_limits (limits_answer answer decl.ty) decl.ty room slot

@@ -1,8 +1,6 @@
 -- What a step moves, on the one part that it changes.
 use Rattle.std.specs.Prelude.{◌≡◌, ◌+◌}
-use Rattle.pool_hall.specs.Sum.{total}
-use Rattle.pool_slots.specs.PartUnits.{part_away, part_kept}
-use Rattle.pool_slots.specs.declared.part.PoolPart.{PoolPart}
+use Rattle.pool_alloc.specs.Imports.{total, part_away, part_kept, PoolPart}
 use Rattle.pool_alloc.specs.Places.{Thing, frame_count}
 use Rattle.pool_alloc.specs.Stepping.{count_granted, grant_count}
 use Rattle.pool_alloc.specs.Turns.{After}

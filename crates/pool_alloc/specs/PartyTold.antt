@@ -1,11 +1,8 @@
 -- What those tell that a party brings to its steps: its limiter, and its maker of heaps.
 use Rattle.std.specs.Prelude.{◌≡◌, Result, MatchResult, IfErr, IfSome, IsSome, false, true}
-use Rattle.pool_pages.specs.Told.{risen}
-use Rattle.pool_limits.specs.LimiterTold.{LimiterTold}
-use Rattle.pool_slots.specs.HeapsTold.{HeapsTold, RaisesHeapFaults, fails_next}
-use Rattle.pool_slots.specs.declared.heap_maker.HeapMakeFault.{HeapMakeFault}
-use Rattle.pool_slots.specs.declared.heap_maker.HeapMakeFault.TheVariants.{HeapFault}
+use Rattle.pool_alloc.specs.Imports.{risen, LimiterTold, HeapsTold, RaisesHeapFaults, fails_next, HeapMakeFault, HeapFault}
 
+-- What a party brings to its steps: what its limiter tells, and what its maker of heaps tells.
 pub record PartyTold : Type 0 where
   pub limiter : LimiterTold
   pub heaps : HeapsTold

@@ -1,15 +1,7 @@
 -- The stacks of a pool: the regions of their slots, in cells, in queues and in hands, and a stack that was granted.
 use Rattle.std.specs.Prelude.{◌≡◌, ℕ, ◌+◌, ◌<◌, Bool, true, false, None, replicate}
-use Rattle.pool_pages.specs.Count.{count}
-use Rattle.pool_pages.specs.MakerTold.{MakerTold, made_region}
-use Rattle.pool_pages.specs.Told.{Told}
+use Rattle.pool_alloc.specs.Imports.{count, MakerTold, made_region, Told, Slot, IsClean, Reads, identity, Cell, unmapped, taken, identity_made, stack_item, IsPlain, stack_kept, stack_ranges, stack_zeroed, Queue, plain_slot, with_ranges, with_slot, Plan}
 use Rattle.pool_pages.specs.declared.pages.RegionName.TheVariants.{Stack}
-use Rattle.pool_images.specs.Slots.{Slot, IsClean, Reads, identity}
-use Rattle.pool_slots.specs.Cells.{Cell, unmapped, taken, identity_made}
-use Rattle.pool_slots.specs.HeldSlots.{stack_item}
-use Rattle.pool_slots.specs.PlainSlots.{IsPlain, stack_kept, stack_ranges, stack_zeroed}
-use Rattle.pool_slots.specs.SlotQueues.{Queue, plain_slot, with_ranges, with_slot}
-use Rattle.pool_slots.specs.declared.plan.Plan.{Plan}
 use Rattle.pool_slots.specs.declared.queued_range.QueueKind.TheVariants as queued
 use Rattle.pool_alloc.specs.StackLeases.{LeasedStack}
 use Rattle.pool_alloc.specs.declared.frame.TakenSlot.{TakenSlot}

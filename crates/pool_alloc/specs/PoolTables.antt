@@ -1,18 +1,7 @@
 -- The tables of a pool: the regions of their slots, in cells, in queues and in hands, and a table that was granted.
 use Rattle.std.specs.Prelude.{◌≡◌, ℕ, ◌<◌, None, replicate, option_map}
-use Rattle.pool_pages.specs.Count.{count}
-use Rattle.pool_pages.specs.MakerTold.{MakerTold, made_region}
-use Rattle.pool_pages.specs.Told.{Told}
+use Rattle.pool_alloc.specs.Imports.{count, MakerTold, made_region, Told, Slot, IsClean, Cell, unmapped, taken, IsSlotOf, IsPlain, plain_slot, Plan, TableType, empty, kind_of, new_table, in_region}
 use Rattle.pool_pages.specs.declared.pages.RegionName.TheVariants.{Table}
-use Rattle.pool_images.specs.Slots.{Slot, IsClean}
-use Rattle.pool_slots.specs.Cells.{Cell, unmapped, taken, IsSlotOf}
-use Rattle.pool_slots.specs.PlainSlots.{IsPlain}
-use Rattle.pool_slots.specs.SlotQueues.{plain_slot}
-use Rattle.pool_slots.specs.declared.plan.Plan.{Plan}
-use Rattle.pool_pages.specs.declared.table_type.TableType.{TableType}
-use Rattle.pool_table.specs.Elements.{empty}
-use Rattle.pool_table.specs.Making.{kind_of, new_table}
-use Rattle.pool_table.specs.Views.{in_region}
 use Rattle.pool_alloc.specs.TableLeases.{LeasedTable, LiesInRegion}
 use Rattle.pool_alloc.specs.TableSteps.{IsInRegion, table_bytes}
 use Rattle.pool_alloc.specs.declared.pool_core.Settings.{Settings}

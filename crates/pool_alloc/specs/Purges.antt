@@ -1,20 +1,7 @@
 -- A purge: it goes through the stripes, and in each through the memories that a module may have. In turns it picks a warm slot
 -- that was used for the memory last, forgets what the slot holds, and frees it.
 use Rattle.std.specs.Prelude.{◌≡◌, ℕ, ◌+◌, ◌-◌, ◌*◌, ◌^◌, ◌<◌, ◌&&◌, List, length, min, sum_by, drop, nat_lt, if◌then◌else◌, Bool, true, false, Option, Some, None}
-use Rattle.pool_pages.specs.declared.module_types.CompiledModuleId.{CompiledModuleId}
-use Rattle.pool_images.specs.Slots.{Slot, forgotten}
-use Rattle.pool_index.specs.Shard.{ShardState, affine_answer, after_affine_pick, after_free, slot_number}
-use Rattle.pool_index.specs.declared.ids.MemoryInModule.{MemoryInModule}
-use Rattle.pool_index.specs.declared.ids.SlotId.{SlotId}
-use Rattle.pool_slots.specs.Cells.{Cell, unmapped, unknown, previously_used, taken}
-use Rattle.pool_slots.specs.CellOf.{cell_of}
-use Rattle.pool_slots.specs.Plans.{home_of}
-use Rattle.pool_slots.specs.RegionCells.{CellState, cell_numbers, cell_emptied, cell_filled}
-use Rattle.pool_slots.specs.declared.cells.ImageSlot.{ImageSlot}
-use Rattle.pool_slots.specs.declared.cells.ImageSlot.TheVariants.{Unmapped, Unknown, PreviouslyUsed, Taken}
-use Rattle.pool_slots.specs.declared.plan.Allocator.{Allocator}
-use Rattle.pool_slots.specs.declared.plan.Plan.{Plan}
-use Rattle.pool_slots.specs.declared.slot_name.SlotName.{SlotName}
+use Rattle.pool_alloc.specs.Imports.{CompiledModuleId, Slot, forgotten, ShardState, affine_answer, after_affine_pick, after_free, slot_number, MemoryInModule, SlotId, Cell, unmapped, unknown, previously_used, taken, cell_of, home_of, CellState, cell_numbers, cell_emptied, cell_filled, ImageSlot, Unmapped, Unknown, PreviouslyUsed, Taken, Allocator, Plan, SlotName}
 use Rattle.pool_alloc.specs.Leases.{memory_slot}
 use Rattle.pool_alloc.specs.Steps.{StepGiven, stripe_allocator, shard_at, cell_named, with_shard, with_cell}
 use Rattle.pool_alloc.specs.Turns.{Turn, goes, ends, Row, lifted}
@@ -37,25 +24,28 @@ has_turns per_module plan = nat_lt 0 plan.totals.memory && nat_lt 0 per_module
 abbrev pub purge_begun : CompiledModuleId → PurgeCursor
 purge_begun id = record { id = id; stripe = 0; memory = 0; turn = 0; purged = 0 }
 
--- the memory that slots are looked for, and the allocator of the stripe
+-- The memory for which a purge looks for slots.
 abbrev pub purged_memory : PurgeCursor → MemoryInModule
 purged_memory p = record { 0 = p.id; 1 = record { 0 = p.memory } }
 
+-- The allocator of the stripe at which a purge stands.
 abbrev pub purged_stripe : Plan → PurgeCursor → Allocator
 purged_stripe plan p = stripe_allocator plan p.stripe
 
--- one more is found
+-- A purge that found one slot more.
 abbrev pub found_one : PurgeCursor → PurgeCursor
 found_one p = record p { purged = min (p.purged + 1) (2 ^ 64 - 1) }
 
--- Where a purge goes on behind a stripe, behind a memory in it, and behind a turn, if it does. Each memory has at most as many
--- turns in a stripe as that has slots.
+-- Where a purge goes on behind a stripe, if there is another.
 abbrev pub behind_stripe : Plan → PurgeCursor → Option PurgeCursor
 behind_stripe plan p = if nat_lt (p.stripe + 1) (length plan.memories) then Some (record p { stripe = p.stripe + 1; memory = 0; turn = 0 }) else None
 
+-- Where a purge goes on behind a memory: with the module's next one, or the next stripe's first.
 abbrev pub behind_memory : ℕ → Plan → PurgeCursor → Option PurgeCursor
 behind_memory per_module plan p = if nat_lt (p.memory + 1) per_module then Some (record p { memory = p.memory + 1; turn = 0 }) else behind_stripe plan p
 
+-- Where a purge goes on once a slot was freed: with another turn for the memory, while the stripe may have more slots
+-- of it.
 abbrev pub behind_turn : ℕ → Plan → PurgeCursor → Option PurgeCursor
 behind_turn per_module plan p = if nat_lt (p.turn + 1) (purged_stripe plan p).capacity then Some (record p { turn = p.turn + 1 }) else behind_memory per_module plan p
 
@@ -73,6 +63,7 @@ module _ {P : Type 0} where
   known_after true slot = Unknown (forgotten slot)
   known_after false slot = PreviouslyUsed slot
 
+  -- What goes back into the cell of a slot that was forgotten: clean, unknown after a fault, or never used.
   abbrev pub after_forgetting : Bool → ImageSlot P → Slot → ImageSlot P
   after_forgetting fault (Unmapped region) slot = Unmapped region
   after_forgetting fault (Unknown old) slot = known_after fault slot
@@ -90,6 +81,7 @@ module _ {P H : Type 0} where
   affine_picked per_module plan p (Some slot) shard tried = goes (Purge (found_one p) (TakeRegion (memory_slot (slot_number shard slot.0))))
   affine_picked per_module plan p None shard tried = if nat_lt (tried + 1) (purged_stripe plan p).shards then goes (Purge p (Pick (tried + 1))) else purge_to p (behind_memory per_module plan p)
 
+  -- A shard is asked for a warm slot that is affine to the memory, and gives the last freed one.
   abbrev pub pick_affine_on : ℕ → Plan → PurgeCursor → ℕ → ShardState → Frame P H → Row ShardState P H
   pick_affine_on per_module plan p tried shard f = record {
     part = after_affine_pick (purged_memory p) shard;
@@ -104,10 +96,11 @@ module _ {P H : Type 0} where
       lifted (λ shard. with_shard place shard c) (pick_affine_on c.settings.max_memories_per_module c.plan p tried (shard_at place c) f)
   pick_affine_row false p tried c f = record { part = c; frame = f; turn = ends (answer.Purged p.purged) }
 
-  -- The region of the slot leaves its cell, and comes back.
+  -- The region of a slot that a purge found leaves its cell.
   abbrev pub take_affine_on : PurgeCursor → SlotName → CellState → Frame P H → Row CellState P H
   take_affine_on p name cell f = record { part = cell_emptied cell; frame = f; turn = goes (Purge p (Forget (record { name = name; numbers = cell_numbers cell }) (image_in cell.holds))) }
 
+  -- The region that was forgotten goes back into its cell, and its slot is freed next.
   abbrev pub put_affine_on : PurgeCursor → SlotName → Cell → CellState → Frame P H → Row CellState P H
   put_affine_on p name held cell f = record { part = cell_filled held cell; frame = f; turn = goes (Purge p (Free name)) }
 
@@ -119,6 +112,7 @@ module _ {P H : Type 0} where
     turn = purge_to p (behind_turn per_module plan p);
   }
 
+  -- The rows of a purge, by its step.
   abbrev pub purge_row : StepGiven H → PurgeCursor → PurgeStep P → PoolCore P H → Frame P H → Row (PoolCore P H) P H
   purge_row g p (Pick tried) c f = pick_affine_row (has_turns c.settings.max_memories_per_module c.plan) p tried c f
   purge_row g p (TakeRegion name) c f = lifted (λ cell. with_cell name cell c) (take_affine_on p name (cell_named name c) f)

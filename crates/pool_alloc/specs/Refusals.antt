@@ -1,16 +1,7 @@
 -- Which modules and components the pool refuses, and for which of the rules that they break.
 use Rattle.std.specs.Prelude.{ℕ, ◌%◌, ◌^◌, ◌+◌, ◌==◌, ◌-◌, List, [], ◌∷◌, length, min, nat_le, nat_lt, sum_by, if◌then◌else◌, Option, Some, None}
-use Rattle.std.specs.Option.{option_or}
-use Rattle.pool_pages.specs.MemoryTypes.{minimum_byte_size, refused_limits}
-use Rattle.pool_pages.specs.declared.module_types.ComponentInfo.{ComponentInfo}
-use Rattle.pool_pages.specs.declared.module_types.ImageDecl.{ImageDecl}
-use Rattle.pool_pages.specs.declared.module_types.MemoryDecl.{MemoryDecl}
-use Rattle.pool_pages.specs.declared.module_types.MemoryType.{MemoryType}
-use Rattle.pool_pages.specs.declared.module_types.ModuleInfo.{ModuleInfo}
-use Rattle.pool_pages.specs.declared.module_types.Part.{Part}
-use Rattle.pool_pages.specs.declared.table_type.TableType.{TableType}
-use Rattle.pool_pages.specs.declared.unsupported.Unsupported.{Unsupported}
-use Rattle.pool_pages.specs.declared.unsupported.Unsupported.TheVariants.{ImageOffset, MemoriesPerModule, MemoryUnrepresentable, MemoryExceedsSlot, MemoryShared, TablesPerModule, TotalTables, TableExceedsSlot, InstanceSize, ComponentInstances, ComponentMemories, ComponentTables, ComponentSize}
+use Rattle.pool_alloc.specs.Imports.{option_or, minimum_byte_size, refused_limits, ComponentInfo, ImageDecl, MemoryDecl, MemoryType, ModuleInfo, Part, TableType, Unsupported, ImageOffset, MemoriesPerModule, MemoryUnrepresentable, MemoryExceedsSlot, MemoryShared, TablesPerModule, TotalTables, TableExceedsSlot, InstanceSize, ComponentMemories, ComponentTables, ComponentSize}
+use Rattle.pool_types.specs.declared.unsupported.Unsupported.TheVariants.{ComponentInstances}
 use Rattle.pool_alloc.specs.declared.frame.Asked.{Asked}
 use Rattle.pool_alloc.specs.declared.frame.Asked.TheVariants.{Heap as heap_asked}
 use Rattle.pool_alloc.specs.declared.pool_core.Settings.{Settings}
@@ -57,7 +48,7 @@ long_table s i (ty ∷ tys) = option_or (if nat_lt s.table_elements ty.limits.mi
 abbrev pub instance_size : ModuleInfo → ℕ
 instance_size info = min (info.state_bytes + sum_by (λ (part : Part). part.bytes) info.parts) (2 ^ 64 - 1)
 
--- it may take so many
+-- The refusal of a module whose instances take more bytes than the settings allow.
 abbrev pub size_refused : Settings → ModuleInfo → Option Unsupported
 size_refused s info = if nat_lt s.core_instance_size (instance_size info) then Some (InstanceSize (instance_size info) s.core_instance_size) else None
 
@@ -90,6 +81,7 @@ heap_refused s _ = None
 abbrev pub component_size : ComponentInfo → ℕ
 component_size info = min (info.own_bytes + info.core_bytes) (2 ^ 64 - 1)
 
+-- The refusal of a component that takes more bytes than the settings allow.
 abbrev pub component_size_refused : Settings → ComponentInfo → Option Unsupported
 component_size_refused s info = if nat_lt s.component_instance_size (component_size info) then Some (ComponentSize (component_size info) s.component_instance_size info.own_bytes info.core_bytes) else None
 

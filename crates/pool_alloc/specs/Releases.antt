@@ -1,20 +1,8 @@
 -- A release: stripe by stripe it takes all warm slots, decommits the regions of those that keep bytes resident, and frees all of
 -- them in the order in which they were taken.
 use Rattle.std.specs.Prelude.{◌≡◌, ℕ, ◌+◌, ◌-◌, ◌*◌, ◌^◌, ◌<◌, ◌||◌, ◌==◌, List, [], ◌∷◌, ◌++◌, length, map, min, sum_by, drop, nat_lt, if◌then◌else◌, Bool, true, false, slice_index_or}
-use Rattle.pool_images.specs.Slots.{Slot}
-use Rattle.pool_index.specs.Freed.{taken_outside}
-use Rattle.pool_index.specs.Shard.{ShardState, after_take_warm, after_free, taken_slots}
-use Rattle.pool_index.specs.declared.ids.SlotId.{SlotId}
-use Rattle.pool_slots.specs.Cells.{Cell}
-use Rattle.pool_slots.specs.CellOf.{cell_of}
-use Rattle.pool_slots.specs.Plans.{home_of}
-use Rattle.pool_slots.specs.RegionCells.{CellState, cell_numbers, cell_emptied, cell_filled}
-use Rattle.pool_slots.specs.declared.cells.ImageSlot.{ImageSlot}
-use Rattle.pool_slots.specs.declared.cells.ImageSlot.TheVariants.{Unmapped, Unknown, PreviouslyUsed, Taken}
+use Rattle.pool_alloc.specs.Imports.{Slot, taken_outside, ShardState, after_take_warm, after_free, taken_slots, SlotId, Cell, cell_of, home_of, CellState, cell_numbers, cell_emptied, cell_filled, ImageSlot, Unmapped, Unknown, PreviouslyUsed, Taken, Allocator, Plan, SlotName}
 use Rattle.pool_slots.specs.declared.errors.AllocError.TheVariants as refusal
-use Rattle.pool_slots.specs.declared.plan.Allocator.{Allocator}
-use Rattle.pool_slots.specs.declared.plan.Plan.{Plan}
-use Rattle.pool_slots.specs.declared.slot_name.SlotName.{SlotName}
 use Rattle.pool_alloc.specs.Leases.{memory_slot}
 use Rattle.pool_alloc.specs.Purges.{image_in}
 use Rattle.pool_alloc.specs.Steps.{StepGiven, stripe_allocator, shard_at, cell_named, with_shard, with_cell}
@@ -45,13 +33,15 @@ release_begun plan = record {
   released = 0;
 }
 
+-- The allocator of the stripe at which a release stands.
 abbrev pub released_stripe : Plan → ReleaseCursor → Allocator
 released_stripe plan r = stripe_allocator plan r.stripe
 
--- a slot that was taken, with its bytes; and all warm slots of a shard, by their names
+-- A warm slot that was taken, by its name in the pool, with its resident bytes.
 abbrev pub slot_outside : SlotId × ℕ → FreedSlot
 slot_outside p = record { name = memory_slot p.0.0; bytes = p.1 }
 
+-- All warm slots of a shard by their names in the pool, with their resident bytes, in the order of freeing.
 abbrev pub slots_outside : ShardState → List FreedSlot
 slots_outside shard = map slot_outside (taken_outside shard)
 
@@ -76,6 +66,7 @@ not_resident (x ∷ rest) = if x.bytes == 0 then not_resident rest + 1 else 0
 abbrev pub bytes_kept : ReleaseCursor → FreedSlot → ℕ
 bytes_kept r x = if r.failed then x.bytes else 0
 
+-- The slot's bytes count as released, unless a decommit of its stripe failed.
 abbrev pub releasing : ReleaseCursor → FreedSlot → ReleaseCursor
 releasing r x = record r { released = if r.failed then r.released else min (r.released + x.bytes) (2 ^ 64 - 1) }
 
@@ -96,6 +87,7 @@ module _ {P H : Type 0} where
   abbrev pub drain_at : Plan → ReleaseCursor → ℕ → Turn P H
   drain_at plan r k = if nat_lt k (length r.taken.items) then goes (Release (TakeRegion r k)) else free_first plan r.taken.items r
 
+  -- The next slot from a place on that keeps bytes resident is decommitted.
   abbrev pub drain_from : Plan → ReleaseCursor → ℕ → Turn P H
   drain_from plan r k = drain_at plan r (k + not_resident (drop k r.taken.items))
 
@@ -104,12 +96,15 @@ module _ {P H : Type 0} where
   reserve_row true c f = record { part = c; frame = f; turn = ends (answer.Refused refusal.Memory) }
   reserve_row false c f = record { part = c; frame = f; turn = goes (Release (TakeWarm (release_begun c.plan) 0)) }
 
+  -- The next shard's warm slots are taken, or after the last shard the decommits begin.
   abbrev pub warm_taken : Plan → ReleaseCursor → ℕ → Turn P H
   warm_taken plan r j = if nat_lt (j + 1) (released_stripe plan r).shards then goes (Release (TakeWarm r (j + 1))) else drain_from plan r 0
 
+  -- All warm slots of a shard are taken.
   abbrev pub take_warm_on : Plan → ReleaseCursor → ℕ → ShardState → Frame P H → Row ShardState P H
   take_warm_on plan r j shard f = record { part = after_take_warm shard; frame = f; turn = warm_taken plan (taking shard r) j }
 
+  -- The region of a slot that keeps bytes resident leaves its cell, to be decommitted.
   abbrev pub take_resident_on : ReleaseCursor → ℕ → SlotName → CellState → Frame P H → Row CellState P H
   take_resident_on r k name cell f = record { part = cell_emptied cell; frame = f; turn = goes (Release (Decommit r k (record { name = name; numbers = cell_numbers cell }) (image_in cell.holds))) }
 
@@ -122,9 +117,11 @@ module _ {P : Type 0} where
   after_decommit Taken slot = Taken
 
 module _ {P H : Type 0} where
+  -- The region goes back into its cell, and the next slot follows.
   abbrev pub put_resident_on : Plan → ReleaseCursor → ℕ → Cell → CellState → Frame P H → Row CellState P H
   put_resident_on plan r k held cell f = record { part = cell_filled held cell; frame = f; turn = drain_from plan r (k + 1) }
 
+  -- A slot that was taken is freed, with nothing resident where all decommits of its stripe succeeded.
   abbrev pub free_taken_on : Plan → ReleaseCursor → FreedSlot → ShardState → Frame P H → Row ShardState P H
   free_taken_on plan r x shard f = record {
     part = after_free (home_of plan x.name).local (bytes_kept r x) shard;
@@ -132,6 +129,7 @@ module _ {P H : Type 0} where
     turn = free_first plan r.taken.items (releasing r x);
   }
 
+  -- The rows of a release, by its step.
   abbrev pub release_row : StepGiven H → ReleaseStep P → PoolCore P H → Frame P H → Row (PoolCore P H) P H
   release_row g Reserve c f = reserve_row g.wants c f
   release_row g (TakeWarm r j) c f =

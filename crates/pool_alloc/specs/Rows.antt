@@ -1,41 +1,15 @@
 -- The step table: what each step of a call does to the pool, of which it changes one part, and to the party's frame, and
 -- with which turn it ends.
 use Rattle.std.specs.Prelude.{◌≡◌, ℕ, ◌+◌, ◌-◌, ◌%◌, ◌^◌, ◌==◌, ◌||◌, List, [], ◌∷◌, length, Bool, true, false, nat_lt, nat_le, if◌then◌else◌, Option, Some, None, Result, Ok, Err, is_some}
-use Rattle.pool_pages.specs.declared.module_types.ComponentInfo.{ComponentInfo}
-use Rattle.pool_pages.specs.declared.unsupported.Unsupported.{Unsupported}
-use Rattle.pool_images.specs.Slots.{Slot, forgotten}
-use Rattle.pool_index.specs.Shard.{ShardState, pick_answer, after_pick, after_free, slot_number}
-use Rattle.pool_index.specs.declared.ids.SlotId.{SlotId}
-use Rattle.pool_limits.specs.declared.errors.LimiterError.{LimiterError}
-use Rattle.pool_memory.specs.Memories.{MemoryState, slot_of}
-use Rattle.pool_memory.specs.MemoryStates.{state_of}
-use Rattle.pool_memory.specs.declared.memory.Memory.{Memory}
-use Rattle.pool_memory.specs.declared.memory_error.MemoryError.{MemoryError}
-use Rattle.pool_slots.specs.Cells.{Cell, unmapped, unknown, previously_used, taken}
-use Rattle.pool_slots.specs.CellOf.{cell_of}
-use Rattle.pool_slots.specs.Plans.{home_of}
-use Rattle.pool_slots.specs.declared.cells.ImageSlot.TheVariants.{Unmapped, Unknown}
-use Rattle.pool_slots.specs.declared.slot_name.SlotName.{SlotName}
-use Rattle.pool_slots.specs.HeapLists.{heap_in, heap_taken, heap_returned}
-use Rattle.pool_slots.specs.HeapUnits.{heap_slot}
-use Rattle.pool_slots.specs.RegionCells.{CellState, cell_numbers, cell_emptied, cell_filled}
-use Rattle.pool_slots.specs.declared.heap_list.HeapEntry.{HeapEntry}
-use Rattle.pool_slots.specs.declared.heap_maker.HeapMakeFault.{HeapMakeFault}
-use Rattle.pool_slots.specs.SlotQueues.{Queue, Queued, is_to_zero, first_of_kind, others_of_kind, first_zeroed, after_append, after_take, taken_into, drained}
-use Rattle.pool_slots.specs.declared.plan.Plan.{Plan}
-use Rattle.pool_hall.specs.declared.unit_name.SlotKind.{SlotKind}
-use Rattle.pool_hall.specs.declared.unit_name.SlotKind.TheVariants.{Memory as memory_kind, Table as table_kind, Stack as stack_kind, Heap as heap_kind}
-use Rattle.pool_pages.specs.Told.{Told}
-use Rattle.std.specs.List.{list_any}
+use Rattle.pool_alloc.specs.Imports.{ComponentInfo, Unsupported, Slot, forgotten, ShardState, pick_answer, after_pick, after_free, slot_number, SlotId, LimiterError, MemoryState, slot_of, state_of, Memory, MemoryError, Cell, unmapped, unknown, previously_used, taken, cell_of, home_of, Unmapped, Unknown, SlotName, heap_in, heap_taken, heap_returned, heap_slot, CellState, cell_numbers, cell_emptied, cell_filled, HeapEntry, HeapMakeFault, Queue, Queued, is_to_zero, first_of_kind, others_of_kind, first_zeroed, after_append, after_take, taken_into, drained, Plan, SlotKind, memory_kind, table_kind, stack_kind, heap_kind, Told, list_any, AllocError, CoreInstances}
+use Rattle.pool_slots.specs.declared.errors.ConcurrencyKind.TheVariants.{ComponentInstances}
 use Rattle.pool_alloc.specs.Objects.{no_objects}
 use Rattle.pool_alloc.specs.PoolStacks.{stack_made, stack_reset}
 use Rattle.pool_alloc.specs.StackLeases.{LeasedStack}
 use Rattle.pool_alloc.specs.TableLeases.{LeasedTable}
 use Rattle.pool_alloc.specs.TableSteps.{table_made, table_reset_into}
 use Rattle.pool_alloc.specs.declared.frame.FreedSlot.{FreedSlot}
-use Rattle.pool_slots.specs.declared.errors.AllocError.{AllocError}
 use Rattle.pool_slots.specs.declared.errors.AllocError.TheVariants as refusal
-use Rattle.pool_slots.specs.declared.errors.ConcurrencyKind.TheVariants.{CoreInstances, ComponentInstances}
 use Rattle.pool_alloc.specs.Reserved.{with_item}
 use Rattle.pool_alloc.specs.HeapLeases.{LeasedHeap, heap_numbers}
 use Rattle.pool_alloc.specs.Leases.{Lease, first_index, slot_taken}
@@ -48,16 +22,14 @@ use Rattle.pool_alloc.specs.declared.pool_core.Settings.{Settings}
 use Rattle.pool_alloc.specs.declared.frame.Frame.{Frame}
 use Rattle.pool_alloc.specs.declared.frame.Phase.{Phase}
 use Rattle.pool_alloc.specs.declared.frame.TakenSlot.{TakenSlot}
-use Rattle.pool_alloc.specs.declared.frame.Phase.TheVariants.{Idle, Key, Validate, TestStack, TestHeap, CountInstance, Pick, TakeQueue, TakeRegion, Empty, Instantiate, MakeMemory, MakeTable, CountObject, TakeHeap, MakeHeap, CountHeap, PutNoHeap, PutBack, FreeOne, UncountObject, UncountHeap, PutHeap, FreeHeap, Reset, Merge, Flush, UncountInstance, ValidateComponent, CountComponent, UncountComponent}
-use Rattle.pool_alloc.specs.declared.frame.Grant.TheVariants.{Component}
+use Rattle.pool_alloc.specs.declared.frame.Phase.TheVariants.{Idle, Key, Validate, TestStack, TestHeap, CountInstance, Pick, TakeQueue, TakeRegion, Empty, Instantiate, MakeMemory, MakeTable, CountObject, TakeHeap, MakeHeap, CountHeap, PutNoHeap, PutBack, FreeOne, UncountObject, UncountHeap, PutHeap, FreeHeap, Reset, Merge, Flush, UncountInstance, ValidateComponent, CountComponent, UncountComponent, Purge, Release}
+use Rattle.pool_alloc.specs.declared.frame.Grant.TheVariants.{Component, Stack, Heap}
 use Rattle.pool_alloc.specs.declared.frame.Ending.{Ending}
 use Rattle.pool_alloc.specs.declared.frame.Ending.TheVariants.{Refused as refused}
 use Rattle.pool_alloc.specs.declared.frame.Object.{Object}
 use Rattle.pool_alloc.specs.declared.frame.Object.TheVariants as object
-use Rattle.pool_alloc.specs.declared.frame.Grant.TheVariants.{Stack, Heap}
 use Rattle.pool_alloc.specs.declared.frame.Outcome.{Outcome}
 use Rattle.pool_alloc.specs.declared.frame.Outcome.TheVariants as answer
-use Rattle.pool_alloc.specs.declared.frame.Phase.TheVariants.{Purge, Release}
 use Rattle.pool_alloc.specs.Purges.{purge_row}
 use Rattle.pool_alloc.specs.Releases.{release_row}
 
@@ -88,14 +60,15 @@ abbrev pub kind_settled : List Queued → List FreedSlot → SlotKind
 kind_settled slots [] = kind_queued flush_kinds slots
 kind_settled slots (x ∷ freed) = x.name.kind
 
--- Where no ranges are left, the slots of a kind are zeroed by hand that have to be, one by one, then put back one by one, and
--- then freed.
+-- The next part of a flush once nothing is zeroed any more: a slot of the kind is put back, or slots are freed.
 abbrev pub put_step : SlotKind → List Queued → FlushStep
 put_step kind slots = if some_queued kind slots then put kind else free
 
+-- The next part of a flush without ranges: a slot of the kind is zeroed by hand, put back, or freed, in this order.
 abbrev pub settled_step : SlotKind → List Queued → FlushStep
 settled_step kind slots = if list_any (is_to_zero kind) slots then zero kind else put_step kind slots
 
+-- The next part of a flush: decommits while there are ranges, then the slots go back kind by kind.
 abbrev pub flush_step : Queue → List FreedSlot → FlushStep
 flush_step local freed = if length local.ranges == 0 then settled_step (kind_settled local.slots freed) local.slots else run
 
@@ -111,6 +84,7 @@ module _ {P H : Type 0} where
   picked plan (Some p) shard tried f = goes (taken_next (allocator_for plan f).kind (record { kind = (allocator_for plan f).kind; slot = slot_number shard p.0.0 }))
   picked plan None shard tried f = if nat_lt (tried + 1) (allocator_for plan f).shards then goes (Pick (tried + 1)) else slot_search plan f
 
+  -- A shard is asked for a slot, by what the party wants it for: the policy is that of the shard.
   abbrev pub pick_on : Plan → ℕ → ShardState → Frame P H → Row ShardState P H
   pick_on plan tried shard f = record {
     part = after_pick (wanted f) shard;
@@ -122,7 +96,7 @@ module _ {P H : Type 0} where
   abbrev pub free_one_on : Plan → SlotName → ShardState → Frame P H → Row ShardState P H
   free_one_on plan name shard f = record { part = after_free (home_of plan name).local 0 shard; frame = f; turn = next }
 
-  -- The slot of a heap is, and then the heap's memory is given back.
+  -- The slot of a heap is freed, and then the heap's memory is given back.
   abbrev pub free_heap_on : Plan → SlotName → Lease → ShardState → Frame P H → Row ShardState P H
   free_heap_on plan name memory shard f = record { part = after_free (home_of plan name).local 0 shard; frame = f; turn = goes (UncountObject (object.Memory memory)) }
 
@@ -142,12 +116,15 @@ module _ {P H : Type 0} where
   unmapped_next s stack_kind at region = goes (CountObject (object.Stack (stack_made s at region)))
   unmapped_next s _ at region = goes Idle
 
+  -- What is done with a region once it left its cell: begun where it was never used, emptied where nothing is known of
+  -- it, instantiated where it is clean.
   abbrev pub region_next : Settings → TakenSlot → Cell → Turn P H
   region_next s at (unmapped region) = unmapped_next s at.name.kind at region
   region_next s at (unknown held) = goes (Empty at held)
   region_next s at (previously_used held) = goes (Instantiate at held)
   region_next s at taken = goes Idle
 
+  -- The region of a slot leaves its cell, with the numbers that tell how it stood.
   abbrev pub take_region_on : Settings → SlotName → CellState → Frame P H → Row CellState P H
   take_region_on s name cell f = record { part = cell_emptied cell; frame = f; turn = region_next s (record { name = name; numbers = cell_numbers cell }) cell.holds }
 
@@ -163,6 +140,7 @@ module _ {P H : Type 0} where
     turn = flush;
   }
 
+  -- A slot of the local queue goes back into its cell, and the others stay queued.
   abbrev pub put_region_on : Queued → List Queued → CellState → Frame P H → Row CellState P H
   put_region_on m rest cell f = region_put m cell (record f { local = record f.local { slots = rest } })
 
@@ -180,6 +158,7 @@ module _ {P H : Type 0} where
   merged true whole f = record { part = drained whole; frame = record f { local = taken_into f.local whole }; turn = flush }
   merged false whole f = record { part = whole; frame = f; turn = next }
 
+  -- The local queue is appended to the home queue; a batch of ranges comes back whole to be flushed.
   abbrev pub merge_on : Settings → Queue → Frame P H → Row Queue P H
   merge_on s queue f =
       let whole : Queue = after_append queue f.local in
@@ -191,6 +170,7 @@ module _ {P H : Type 0} where
   heap_next at (Some heap) = goes (CountHeap (record { index = at.name.slot; heap = heap; numbers = at.numbers }))
   heap_next at None = goes (MakeHeap at)
 
+  -- The heap of a slot is taken, or the maker is asked for one; the slot notes the memory that goes with it.
   abbrev pub take_heap_on : SlotName → List (HeapEntry H) → Frame P H → Row (List (HeapEntry H)) P H
   take_heap_on name heaps f =
       let memory : ℕ = first_index f.objects.memories.items in
@@ -204,23 +184,27 @@ module _ {P H : Type 0} where
   abbrev pub put_heap_on : ℕ → Option H → Phase P H → List (HeapEntry H) → Frame P H → Row (List (HeapEntry H)) P H
   put_heap_on slot heap next_phase heaps f = record { part = heap_returned slot heap heaps; frame = f; turn = goes next_phase }
 
-  -- a row on one part, in the pool
+  -- A row on the shard at a place, as a row on the pool.
   abbrev pub in_shard : ℕ → PoolCore P H → Row ShardState P H → Row (PoolCore P H) P H
   in_shard place c r = lifted (λ shard. with_shard place shard c) r
 
+  -- A row on the cell of a slot, as a row on the pool.
   abbrev pub in_cell : SlotName → PoolCore P H → Row CellState P H → Row (PoolCore P H) P H
   in_cell name c r = lifted (λ cell. with_cell name cell c) r
 
+  -- A row on the queue at a place, as a row on the pool.
   abbrev pub in_queue : ℕ → PoolCore P H → Row Queue P H → Row (PoolCore P H) P H
   in_queue place c r = lifted (λ queue. with_queue place queue c) r
 
+  -- A row on the list of heaps, as a row on the pool.
   abbrev pub in_heaps : PoolCore P H → Row (List (HeapEntry H)) P H → Row (PoolCore P H) P H
   in_heaps c r = lifted (λ heaps. with_heaps heaps c) r
 
--- the refusal of an instance, and of a component
+-- The refusal of an instance where as many are granted as may be.
 abbrev pub no_instance_left : Settings → AllocError
 no_instance_left s = refusal.Limit (record { limit = s.max_core_instances; kind = CoreInstances })
 
+-- The refusal of a component where as many are granted as may be.
 abbrev pub no_component_left : Settings → AllocError
 no_component_left s = refusal.Limit (record { limit = s.max_component_instances; kind = ComponentInstances })
 
@@ -247,6 +231,7 @@ module _ {P H : Type 0} where
     turn = goes next_phase;
   }
 
+  -- A request that breaks a rule is refused at once; else it goes on, if there is memory for its lists.
   abbrev pub validated : Option Unsupported → Bool → Phase P H → PoolCore P H → Frame P H → Row (PoolCore P H) P H
   validated (Some rule) wants next_phase c f = refused_at_once (refusal.Unsupported rule) c f
   validated None wants next_phase c f = reserved wants next_phase c f
@@ -255,11 +240,12 @@ module _ {P H : Type 0} where
   abbrev pub validate_row : Bool → PoolCore P H → Frame P H → Row (PoolCore P H) P H
   validate_row wants c f = validated (module_refused c.settings c.plan.totals.table (info_wanted f.asked)) wants CountInstance c f
 
-  -- Stacks are tested for being enabled.
+  -- Stacks are off, and the request is refused at once; or a slot for one is picked.
   abbrev pub stacks_tested : Bool → PoolCore P H → Frame P H → Row (PoolCore P H) P H
   stacks_tested true c f = refused_at_once refusal.StacksDisabled c f
   stacks_tested false c f = record { part = c; frame = record f { objects = no_objects }; turn = goes (Pick 0) }
 
+  -- A request for a stack is refused where the pool's stacks have no size, and else a slot is picked.
   abbrev pub test_stack_row : PoolCore P H → Frame P H → Row (PoolCore P H) P H
   test_stack_row c f = stacks_tested (c.settings.stack_size == 0) c f
 
@@ -268,6 +254,7 @@ module _ {P H : Type 0} where
   heaps_tested false wants c f = refused_at_once refusal.HeapsDisabled c f
   heaps_tested true wants c f = validated (heap_refused c.settings f.asked) wants (Pick 0) c f
 
+  -- A request for a heap is refused without a collector, or for its memory's type, and else its memory is allocated.
   abbrev pub test_heap_row : Bool → PoolCore P H → Frame P H → Row (PoolCore P H) P H
   test_heap_row wants c f = heaps_tested c.settings.tunables.tunables.collector wants c f
 
@@ -276,6 +263,7 @@ module _ {P H : Type 0} where
   counted true c f = record { part = counting_instances (c.counters.core_instances + 1) c; frame = f; turn = next }
   counted false c f = record { part = counting_instances (c.counters.core_instances + 1) c; frame = failing (no_instance_left c.settings) f; turn = next }
 
+  -- The instance is counted, or refused where as many are counted as may be.
   abbrev pub count_instance_row : PoolCore P H → Frame P H → Row (PoolCore P H) P H
   count_instance_row c f = counted (nat_lt c.counters.core_instances c.settings.max_core_instances) c f
 
@@ -284,9 +272,11 @@ module _ {P H : Type 0} where
   paged true at held phase c f = record { part = c; frame = failing refusal.PageFault f; turn = goes (PutBack at (Unknown (forgotten held))) }
   paged false at held phase c f = record { part = c; frame = f; turn = goes phase }
 
+  -- A slot of which nothing is known is emptied, and then instantiated; after a fault it is put back as unknown.
   abbrev pub empty_row : Bool → Slot → TakenSlot → PoolCore P H → Frame P H → Row (PoolCore P H) P H
   empty_row fault held at c f = paged fault at held (Instantiate at held) c f
 
+  -- A slot gets its size and its image, and then becomes a memory; after a fault it is put back as unknown.
   abbrev pub instantiate_row : Bool → Slot → TakenSlot → PoolCore P H → Frame P H → Row (PoolCore P H) P H
   instantiate_row fault held at c f = paged fault at held (MakeMemory at held) c f
 
@@ -295,11 +285,12 @@ module _ {P H : Type 0} where
   was_made at held (Ok memory) c f = record { part = c; frame = f; turn = goes (CountObject (object.Memory (record { index = at.name.slot; memory = memory; numbers = at.numbers }))) }
   was_made at held (Err e) c f = record { part = c; frame = failing e f; turn = goes (PutBack at (Unknown (forgotten held))) }
 
-  -- the same of what the code's making answers
+  -- What follows the making of a memory, by what the code's making answers.
   abbrev pub made_by : {M L : Type 0} → TakenSlot → Result (Memory M L) (Slot × MemoryError) → PoolCore P H → Frame P H → Row (PoolCore P H) P H
   made_by at (Ok memory) c f = was_made at (slot_of (state_of memory)) (Ok (state_of memory)) c f
   made_by at (Err left) c f = was_made at left.0 (Err (refusal_of left.1)) c f
 
+  -- The limiter is asked, and the memory is made in its slot; or the slot is put back and the call fails.
   abbrev pub make_memory_row : Result Bool LimiterError → TakenSlot → Slot → PoolCore P H → Frame P H → Row (PoolCore P H) P H
   make_memory_row given at held c f = was_made at held (memory_made c.settings (memories_wanted f.asked) (length f.objects.memories.items) given held) c f
 
@@ -308,11 +299,12 @@ module _ {P H : Type 0} where
   was_made_table at region (Ok lease) c f = record { part = c; frame = f; turn = goes (CountObject (object.Table lease)) }
   was_made_table at region (Err e) c f = record { part = c; frame = failing e f; turn = goes (PutBack at (Unmapped region)) }
 
-  -- the same of what the code's making answers
+  -- What follows the making of a table, by what the code's making answers.
   abbrev pub table_made_by : TakenSlot → Result LeasedTable (Told × AllocError) → PoolCore P H → Frame P H → Row (PoolCore P H) P H
   table_made_by at (Ok lease) c f = record { part = c; frame = f; turn = goes (CountObject (object.Table lease)) }
   table_made_by at (Err left) c f = was_made_table at left.0 (Err left.1) c f
 
+  -- The limiter is asked, and the table is made in its region; or that is put back as it is and the call fails.
   abbrev pub make_table_row : Result Bool LimiterError → TakenSlot → Told → PoolCore P H → Frame P H → Row (PoolCore P H) P H
   make_table_row given at region c f = was_made_table at region (table_made c.settings (tables_wanted f.asked) (length f.objects.tables.items) given at region) c f
 
@@ -330,7 +322,8 @@ module _ {P H : Type 0} where
   }
   count_object_row (object.Stack lease) c f = record { part = counting_stacks (c.counters.stacks + 1) c; frame = f; turn = ends (answer.Granted (Stack lease)) }
 
-  -- The maker of heaps is asked.
+  -- The maker of heaps was asked: its heap is counted next, or the call fails for its reason and the slot goes back
+  -- without a heap.
   abbrev pub make_heap_row : Result H HeapMakeFault → TakenSlot → PoolCore P H → Frame P H → Row (PoolCore P H) P H
   make_heap_row (Ok heap) at c f = record { part = c; frame = f; turn = heap_next at (Some heap) }
   make_heap_row (Err fault) at c f = record { part = c; frame = failing (heap_refusal fault) f; turn = goes (PutNoHeap at) }
@@ -340,84 +333,98 @@ module _ {P H : Type 0} where
   heap_granted [] lease c f = record { part = c; frame = f; turn = goes Idle }
   heap_granted (memory ∷ rest) lease c f = record { part = counting_heaps (c.counters.gc_heaps + 1) c; frame = record f { objects = no_objects }; turn = ends (answer.Granted (Heap lease memory)) }
 
+  -- The heap is counted, and the call ends with it and its memory.
   abbrev pub count_heap_row : LeasedHeap H → PoolCore P H → Frame P H → Row (PoolCore P H) P H
   count_heap_row lease c f = heap_granted f.objects.memories.items lease c f
 
-  -- The object is no grant any more.
+  -- An object that is given back is counted off, and reset next.
   abbrev pub uncount_object_row : Object P → PoolCore P H → Frame P H → Row (PoolCore P H) P H
   uncount_object_row (object.Memory lease) c f = record { part = counting_memories (c.counters.memories - 1) c; frame = f; turn = goes (Reset (object.Memory lease)) }
   uncount_object_row (object.Table lease) c f = record { part = counting_tables (c.counters.tables - 1) c; frame = f; turn = goes (Reset (object.Table lease)) }
   uncount_object_row (object.Stack lease) c f = record { part = counting_stacks (c.counters.stacks - 1) c; frame = f; turn = goes (Reset (object.Stack lease)) }
 
-  -- Nor is the heap. Its memory is given back after it.
+  -- The heap is counted off, and comes back to its slot next. Its memory is given back after it.
   abbrev pub uncount_heap_row : LeasedHeap H → Lease → PoolCore P H → Frame P H → Row (PoolCore P H) P H
   uncount_heap_row lease memory c f = record { part = counting_heaps (c.counters.gc_heaps - 1) c; frame = f; turn = goes (PutHeap lease memory) }
 
-  -- The object is reset into the local queue. That is flushed where it has no range or as many as a batch, and else
-  -- appended to the home queue. Where a page call of a memory's reset failed, nothing is known of the slot.
+  -- After a reset: the local queue is flushed where it has no range or a batch of them, and else appended to the home
+  -- queue.
   abbrev pub reset_turn : ℕ → Queue → Turn P H
   reset_turn batch local = if (length local.ranges == 0) || nat_le batch (length local.ranges) then flush else goes Merge
 
+  -- A memory's slot after its reset: queued with the ranges that it leaves, or put back as unknown after a fault.
   abbrev pub was_reset : Bool → Slot → Lease → PoolCore P H → Frame P H → Row (PoolCore P H) P H
   was_reset true held lease c f = record { part = c; frame = f; turn = goes (PutBack (slot_taken lease) (Unknown (forgotten held))) }
   was_reset false held lease c f =
       let local : Queue = reset_into c.settings.keep_resident.bytes (slot_taken lease) (slot_of lease.memory) f.local in
       record { part = c; frame = record f { local = local }; turn = reset_turn c.settings.batch local }
 
+  -- A table is reset by hand and queued with the range that it leaves.
   abbrev pub table_reset_row : LeasedTable → PoolCore P H → Frame P H → Row (PoolCore P H) P H
   table_reset_row lease c f =
       let local : Queue = table_reset_into c.settings lease f.local in
       record { part = c; frame = record f { local = local }; turn = reset_turn c.settings.batch local }
 
+  -- A stack is reset by hand where stacks are given back zeroed, and queued with the range that it leaves.
   abbrev pub stack_reset_row : LeasedStack → PoolCore P H → Frame P H → Row (PoolCore P H) P H
   stack_reset_row lease c f =
       let local : Queue = stack_reset c.settings.stack_keep_resident.bytes lease f.local in
       record { part = c; frame = record f { local = local }; turn = reset_turn c.settings.batch local }
 
+  -- The reset of an object that is given back, by what it is.
   abbrev pub reset_row : StepGiven H → Object P → PoolCore P H → Frame P H → Row (PoolCore P H) P H
   reset_row g (object.Memory lease) c f = was_reset g.fault g.slot lease c f
   reset_row g (object.Table lease) c f = table_reset_row lease c f
   reset_row g (object.Stack lease) c f = stack_reset_row lease c f
 
+  -- The instance is counted off, and the call ends with its answer.
   abbrev pub uncount_instance_row : PoolCore P H → Frame P H → Row (PoolCore P H) P H
   uncount_instance_row c f = record { part = counting_instances (c.counters.core_instances - 1) c; frame = f; turn = ends (answer_of f.ending) }
 
-  -- A component is tested.
+  -- The component breaks a rule and is refused at once, or is counted next.
   abbrev pub component_tested : Option Unsupported → PoolCore P H → Frame P H → Row (PoolCore P H) P H
   component_tested (Some rule) c f = refused_at_once (refusal.Unsupported rule) c f
   component_tested None c f = record { part = c; frame = f; turn = goes CountComponent }
 
+  -- A component that breaks a rule is refused at once; else it is counted next.
   abbrev pub validate_component_row : ComponentInfo → PoolCore P H → Frame P H → Row (PoolCore P H) P H
   validate_component_row info c f = component_tested (component_refused c.settings info) c f
 
-  -- It is counted, also where there are too many. A grant of one is that it is counted.
+  -- The component is counted, or refused where there are too many. Its grant is that it is counted.
   abbrev pub component_counted : Bool → PoolCore P H → Frame P H → Row (PoolCore P H) P H
   component_counted true c f = record { part = counting_components (c.counters.component_instances + 1) c; frame = f; turn = ends (answer.Granted Component) }
   component_counted false c f = record { part = counting_components (c.counters.component_instances + 1) c; frame = failing (no_component_left c.settings) f; turn = goes UncountComponent }
 
+  -- The component is counted, which is its grant, or refused where as many are counted as may be.
   abbrev pub count_component_row : PoolCore P H → Frame P H → Row (PoolCore P H) P H
   count_component_row c f = component_counted (nat_lt c.counters.component_instances c.settings.max_component_instances) c f
 
+  -- The component is counted off, and the call ends with its answer.
   abbrev pub uncount_component_row : PoolCore P H → Frame P H → Row (PoolCore P H) P H
   uncount_component_row c f = record { part = counting_components (c.counters.component_instances - 1) c; frame = f; turn = ends (answer_of f.ending) }
 
-  -- The rows of a flush. The ranges of one slot are decommitted, which leaves this queue.
+  -- The ranges of one slot are decommitted, which leaves this queue.
   abbrev pub decommit_row : Queue → PoolCore P H → Frame P H → Row (PoolCore P H) P H
   decommit_row queue c f = record { part = c; frame = record f { local = queue }; turn = flush }
 
+  -- The first slot of a kind goes back into its cell; where there is none, nothing happens.
   abbrev pub put_first : Option Queued → List Queued → PoolCore P H → Frame P H → Row (PoolCore P H) P H
   put_first None rest c f = record { part = c; frame = f; turn = goes Idle }
   put_first (Some m) rest c f = in_cell m.name c (put_region_on m rest (cell_named m.name c) f)
 
+  -- The next queued slot of a kind goes back into its cell, and waits to be freed.
   abbrev pub put_region_row : SlotKind → PoolCore P H → Frame P H → Row (PoolCore P H) P H
   put_region_row kind c f = put_first (first_of_kind kind f.local.slots) (others_of_kind kind f.local.slots) c f
 
+  -- The next slot that has to be zeroed by hand is.
   abbrev pub zero_row : SlotKind → PoolCore P H → Frame P H → Row (PoolCore P H) P H
   zero_row kind c f = record { part = c; frame = record f { local = record f.local { slots = first_zeroed kind f.local.slots } }; turn = flush }
 
+  -- The slots that wait for one shard are freed there, in order.
   abbrev pub free_row : PoolCore P H → Frame P H → Row (PoolCore P H) P H
   free_row c f = let place : ℕ = first_shard c.plan f.freed.items in in_shard place c (free_on c.plan place (shard_at place c) f)
 
+  -- The rows of a flush, by which part of it is next.
   abbrev pub flush_row : FlushStep → Queue → PoolCore P H → Frame P H → Row (PoolCore P H) P H
   flush_row run queue c f = decommit_row queue c f
   flush_row (zero kind) queue c f = zero_row kind c f
@@ -430,6 +437,7 @@ SettlesTo step c f after = (queue : Queue) → after ≡ stepped (flush_row step
 
 -- The table.
 module _ {P H : Type 0} where
+  -- The step table, by phases: each row leaves one part of the pool changed at most.
   abbrev pub row_of : StepGiven H → Phase P H → PoolCore P H → Frame P H → Row (PoolCore P H) P H
   row_of g Idle c f = record { part = c; frame = f; turn = stays }
   row_of g Key c f = key_row c f

@@ -19,10 +19,11 @@ IsSearchedBy granted known = known
 IsSearchedBy _ known = Unit {0}
 
 module _ {P H : Type 0} where
-  -- so it is of the first n shards that are tried, and the first n queues that are taken are empty
+  -- The first n shards that are tried are full.
   abbrev pub AreFull : ℕ → PoolCore P H → Frame P H → Type 0
   AreFull n c f = (j : ℕ) → j < n → HasNoSlot (shard_at (shard_tried j c.plan f) c)
 
+  -- The first n queues after the party's home one hold no slots.
   abbrev pub AreEmpty : ℕ → PoolCore P H → Frame P H → Type 0
   AreEmpty n c f = (j : ℕ) → j < n → (queue_at (queue_tried j c.plan f) c).slots ≡ []
 
@@ -33,5 +34,6 @@ module _ {P H : Type 0} where
   IsSearchedAt Flush c f = IsSearchedBy f.ending (AreEmpty f.queues c f)
   IsSearchedAt _ c f = Unit {0}
 
+  -- All that the call has gone through so far holds no slot for it.
   abbrev pub IsSearched : PoolCore P H → Frame P H → Type 0
   IsSearched c f = IsSearchedAt f.phase c f

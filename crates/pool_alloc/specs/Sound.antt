@@ -1,42 +1,14 @@
 -- What holds of the pool's parts, and of a party's frame, between steps.
-use Rattle.std.specs.List.{AllByRecursion}
-use Rattle.std.specs.Prelude.{◌≡◌, ℕ, ◌+◌, ◌*◌, ◌%◌, ◌^◌, ◌<◌, ◌≤◌, List, [], length, slice_get, slice_index_or, All, Bool, false, true, Option, None, IsSome, IfSome, ◌⊎◌}
-use Rattle.pool_pages.specs.Count.{IsPageSize, count, rounded_up}
-use Rattle.pool_pages.specs.MakerTold.{MakerTold}
-use Rattle.pool_pages.specs.MemoryTypes.{minimum_byte_size, refused_limits}
-use Rattle.pool_pages.specs.declared.module_types.MemoryDecl.{MemoryDecl}
-use Rattle.pool_images.specs.Images.{Image}
-use Rattle.pool_images.specs.Slots.{Slot, IsClean, IsBegun, FitsInto}
-use Rattle.pool_hall.specs.declared.unit_name.SlotKind.TheVariants.{Memory as memory_kind, Table as table_kind, Stack as stack_kind, Heap as heap_kind}
-use Rattle.pool_memory.specs.Memories.{MemoryState, slot_of as image_slot_of}
-use Rattle.pool_memory.specs.Making.{maximum_asked}
-use Rattle.pool_memory.specs.Static.{CanHold, static_capacity}
-use Rattle.pool_slots.specs.Cells.{Cell, IsCell, IsSlotOf, is_taken}
-use Rattle.pool_slots.specs.Colourings.{coloured_region, stripe_colour}
-use Rattle.pool_slots.specs.CellOf.{cell_of}
-use Rattle.pool_slots.specs.SlotNames.{of_kind}
-use Rattle.pool_slots.specs.declared.slot_name.RegionNumbers.{RegionNumbers}
-use Rattle.pool_slots.specs.declared.slot_name.SlotName.{SlotName}
-use Rattle.pool_hall.specs.declared.unit_name.SlotKind.{SlotKind}
+use Rattle.std.specs.Prelude.{◌≡◌, ℕ, ◌+◌, ◌*◌, ◌%◌, ◌^◌, ◌<◌, ◌≤◌, List, [], length, slice_get, slice_index_or, All, Bool, false, true, Option, None, IsSome, IfSome, ◌⊎◌, ◌-◌, drop}
+use Rattle.pool_alloc.specs.Imports.{AllByRecursion, IsPageSize, count, rounded_up, MakerTold, minimum_byte_size, refused_limits, MemoryDecl, Image, Slot, IsClean, IsBegun, FitsInto, memory_kind, table_kind, stack_kind, heap_kind, MemoryState, image_slot_of, maximum_asked, CanHold, static_capacity, Cell, IsCell, IsSlotOf, is_taken, coloured_region, stripe_colour, cell_of, of_kind, RegionNumbers, SlotName, SlotKind, CellState, IsShardOf, part_at, Role, shard_role, cell_role, queue_role, heaps_role, role_at, IsPlacedAllocator, IsPlanned, Allocator, Plan, PoolPart, Queue, Queued, HasOwners, IsQueue, owner, Told, TableType, QueuedRange}
 use Rattle.pool_alloc.specs.Objects.{objects_in, objects_wanted}
 use Rattle.pool_alloc.specs.declared.frame.Object.{Object}
 use Rattle.pool_alloc.specs.declared.frame.Object.TheVariants.{Memory, Table, Stack}
 use Rattle.pool_alloc.specs.declared.lease.InstanceLease.{InstanceLease}
-use Rattle.pool_slots.specs.RegionCells.{CellState}
-use Rattle.pool_slots.specs.ListUnits.{IsShardOf}
-use Rattle.pool_slots.specs.Parts.{part_at}
-use Rattle.pool_slots.specs.Plans.{Role, shard_role, cell_role, queue_role, heaps_role, role_at, IsPlacedAllocator, IsPlanned}
-use Rattle.pool_slots.specs.declared.plan.Allocator.{Allocator}
-use Rattle.pool_slots.specs.declared.plan.Plan.{Plan}
-use Rattle.pool_slots.specs.declared.part.PoolPart.{PoolPart}
 use Rattle.pool_slots.specs.declared.part.PoolPart.TheVariants as part
-use Rattle.pool_slots.specs.SlotQueues.{Queue, Queued, HasOwners, IsQueue, owner}
 use Rattle.pool_alloc.specs.Reserved.{Reserved}
 use Rattle.pool_alloc.specs.HeapLeases.{IsHeapLease, heap_numbers}
 use Rattle.pool_alloc.specs.Leases.{Lease, IsUsable, first_index}
-use Rattle.pool_pages.specs.Told.{Told}
-use Rattle.pool_pages.specs.declared.table_type.TableType.{TableType}
-use Rattle.pool_slots.specs.declared.queued_range.QueuedRange.{QueuedRange}
 use Rattle.pool_alloc.specs.PoolStacks.{IsInStackCell, IsNewStack, IsQueuedStack, IsStackLease}
 use Rattle.pool_alloc.specs.PoolTables.{IsPoolTable, IsInTableCell, IsTableRegion, IsTableLease, IsBegunTable}
 use Rattle.pool_alloc.specs.Modules.{HasImages, IfAllocated, IfTable}
@@ -54,7 +26,6 @@ use Rattle.pool_alloc.specs.declared.frame.Asked.TheVariants.{Stack as stack_ask
 use Rattle.pool_alloc.specs.declared.frame.FreedSlot.{FreedSlot}
 use Rattle.pool_alloc.specs.declared.frame.Phase.{Phase}
 use Rattle.pool_alloc.specs.declared.frame.Phase.TheVariants.{Idle, Key, Validate, TestStack, TestHeap, CountInstance, Pick, TakeQueue, TakeRegion, Empty, Instantiate, MakeMemory, MakeTable, CountObject, TakeHeap, MakeHeap, CountHeap, PutNoHeap, PutBack, FreeOne, UncountObject, UncountHeap, PutHeap, FreeHeap, Reset, Merge, Flush, UncountInstance, ValidateComponent, CountComponent, UncountComponent, Purge, Release}
-use Rattle.std.specs.Prelude.{◌-◌, drop}
 use Rattle.pool_alloc.specs.Purges.{purged_stripe}
 use Rattle.pool_alloc.specs.Releases.{slots_in, released_stripe, nth_taken}
 use Rattle.pool_alloc.specs.declared.purge.PurgeCursor.{PurgeCursor}
@@ -112,7 +83,6 @@ pub record IsPoolPlan (plan : Plan) (places : ℕ) : Type 0 where
   pub heaps : 0 < length plan.heaps
   pub heap_shards : AllByRecursion IsStripe plan.heaps
   pub queues : 0 < plan.queues
-  pub shared : plan.owned ≡ false
 
 -- the region of memory slot i of the pool as it is made, in the colour of its stripe where there are two or more
 abbrev pub memory_region : MakerTold → Settings → ℕ → Told
@@ -122,43 +92,48 @@ memory_region maker s i = coloured_region s.num_stripes maker s.behaviour (count
 abbrev pub IsPoolSlot : MakerTold → Settings → ℕ → Slot → Type 0
 IsPoolSlot maker s i slot = IsSlotOf (memory_region maker s i) (stripe_colour s.num_stripes i) s.max_memory_size slot
 
--- the name of one of the pool's slots that have cells, and of one of those that have none
+-- The name of one of the pool's slots that have cells: a memory's, a table's or a stack's.
 pub record IsSlotName (plan : Plan) (name : SlotName) : Type 0 where
   pub cells : HasCells name.kind
   pub inside : name.slot < of_kind name.kind plan.totals
 
+-- The name of one of the pool's heaps.
 pub record IsHeapName (plan : Plan) (name : SlotName) : Type 0 where
   pub kind : name.kind ≡ heap_kind
   pub inside : name.slot < plan.totals.heap
 
--- by its kind, what the cell of a slot may hold, and its cell
+-- What the cell of a slot may hold, by the slot's kind.
 abbrev pub MayHold : MakerTold → Settings → SlotKind → ℕ → Cell → Type 0
 MayHold maker s memory_kind i held = IsCell (memory_region maker s i) (stripe_colour s.num_stripes i) s.max_memory_size held
 MayHold maker s table_kind i held = IsInTableCell maker s i held
 MayHold maker s stack_kind i held = IsInStackCell maker s i held
 MayHold maker s _ i held = ⊥
 
+-- The cell of a slot: it has the slot's name, and holds what such a cell may hold.
 pub record IsCellOf (maker : MakerTold) (s : Settings) (name : SlotName) (cell : CellState) : Type 0 where
   pub named : cell.name ≡ name
   pub holds : MayHold maker s name.kind name.slot cell.holds
 
--- and as what it lies in a queue
+-- As what a slot may lie in a queue, by its kind.
 abbrev pub MayQueue : MakerTold → Settings → SlotKind → ℕ → Slot → Type 0
 MayQueue maker s memory_kind i slot = IsPoolSlot maker s i slot
 MayQueue maker s table_kind i slot = IsPoolTable maker s i slot
 MayQueue maker s stack_kind i slot = IsQueuedStack maker s i slot
 MayQueue maker s _ i slot = ⊥
 
--- A table is zeroed by hand where a decommit fails, and so is a stack where stacks are given back zeroed, and not otherwise.
+-- What is zeroed by hand after a failed decommit: something where slots are given back zeroed, and nothing otherwise.
 pub record IsByHand (zeroing : Bool) (by_hand : Option ℕ) : Type 0 where
   pub zeroed : zeroing ≡ true → IsSome by_hand
   pub left : zeroing ≡ false → by_hand ≡ None
 
+-- Which queued slots are to be zeroed by hand after a failed decommit: each table, and stacks that are given back
+-- zeroed.
 abbrev pub MustBeByHand : Settings → SlotKind → Option ℕ → Type 0
 MustBeByHand s table_kind by_hand = IsSome by_hand
 MustBeByHand s stack_kind by_hand = IsByHand s.stack_zeroing by_hand
 MustBeByHand s _ by_hand = Unit {0}
 
+-- A queued slot lies in the region of its slot, and is zeroed by hand exactly where its kind is.
 pub record IsQueuedOf (maker : MakerTold) (s : Settings) (m : Queued) : Type 0 where
   pub slot : MayQueue maker s m.name.kind m.name.slot m.slot
   pub by_hand : MustBeByHand s m.name.kind m.by_hand
@@ -194,7 +169,8 @@ IsPartFor maker s _ _ = ⊥
 abbrev pub IsPartAt : {P H : Type 0} → MakerTold → Settings → Plan → ℕ → PoolPart P H → Type 0
 IsPartAt maker s plan p x = IsPartFor maker s (role_at plan p) x
 
--- what holds of the pool's parts between steps, whatever parties do
+-- What holds of the pool's parts between steps, whatever parties do: its settings make sense, its plan is right for so
+-- many parts, and each part is what the plan has its place for.
 pub record IsCore {P H : Type 0} (maker : MakerTold) (c : PoolCore P H) : Type 0 where
   pub settings : IsSettings c.settings
   pub page : c.settings.page ≡ maker.page
@@ -208,12 +184,13 @@ pub record IsLeaseOf (maker : MakerTold) (s : Settings) (plan : Plan) (l : Lease
   pub slot : IsPoolSlot maker s l.index (image_slot_of l.memory)
   pub memory : IsUsable l.memory
 
--- an object is a lease of the pool, and so is each of an instance
+-- An object is a lease of the pool.
 abbrev pub IsObjectOf : {P : Type 0} → MakerTold → Settings → Plan → Object P → Type 0
 IsObjectOf maker s plan (Memory lease) = IsLeaseOf maker s plan lease
 IsObjectOf maker s plan (Table lease) = IsTableLease maker s plan lease
 IsObjectOf maker s plan (Stack lease) = IsStackLease maker s plan lease
 
+-- Each memory and each table of an instance lies in the region of its slot of the pool.
 abbrev pub AreLeasesOf : {P : Type 0} → MakerTold → Settings → Plan → InstanceLease P → Type 0
 AreLeasesOf maker s plan lease = All (IsLeaseOf maker s plan) lease.memories.items × All (IsTableLease maker s plan) lease.tables.items
 
@@ -248,12 +225,12 @@ pub record AreSupported (s : Settings) (memories : List MemoryDecl) (images : Li
   pub few : length memories < 2 ^ 32
   pub each : (k : ℕ) → IfSome (slice_get memories k) (λ decl. IsSupported s decl (slice_index_or images k None))
 
--- A table doesn't begin with more elements than it may have, nor with more than a table of the pool. There are no more tables
--- than the pool has slots for them.
+-- A table doesn't begin with more elements than it may have, nor with more than a table of the pool.
 pub record IsTableSupported (s : Settings) (ty : TableType) : Type 0 where
   pub limits : refused_limits ty.limits ≡ None
   pub minimum : ty.limits.min ≤ s.table_elements
 
+-- Every table of the module fits a slot, and there are no more than the pool has slots for tables.
 pub record AreTablesSupported (s : Settings) (total : ℕ) (tables : List TableType) : Type 0 where
   pub few : length tables ≤ total
   pub each : (k : ℕ) → IfSome (slice_get tables k) (IsTableSupported s)
@@ -303,7 +280,7 @@ pub record NothingWaits (local : Queue) (freed : Reserved FreedSlot) : Type 0 wh
   pub no_slots : local.slots ≡ []
   pub none_freed : freed.items ≡ []
 
--- nor is anything granted or given back
+-- A party has no slots queued or waiting, and no objects granted or given back.
 pub record NothingHeld {P : Type 0} (local : Queue) (freed : Reserved FreedSlot) (objects : InstanceLease P) : Type 0 where
   pub settled : NothingWaits local freed
   pub no_memories : objects.memories.items ≡ []
@@ -349,7 +326,7 @@ pub record IsRequest (aim : Ending) (asked : Asked) (queues : ℕ) : Type 0 wher
   pub asked_for : IsModule asked
   pub images : HasImages asked
 
--- by its ending, what a call has beside its next step
+-- What a call has beside its next step, by its ending.
 abbrev pub Aims : {P : Type 0} → Settings → Plan → Ending → Asked → ℕ → InstanceLease P → Type 0
 Aims s plan granted asked queues objects = IsToGrant s plan asked queues objects
 Aims s plan returned asked queues objects = Unit {0}
@@ -362,14 +339,14 @@ pub record IsPurging (s : Settings) (plan : Plan) (p : PurgeCursor) : Type 0 whe
   pub turn : p.turn < (purged_stripe plan p).capacity
   pub some : 0 < plan.totals.memory
 
--- it begins
+-- A purge is at its first pick.
 pub record IsFirstPick (p : PurgeCursor) (j : ℕ) : Type 0 where
   pub stripe : p.stripe ≡ 0
   pub memory : p.memory ≡ 0
   pub turn : p.turn ≡ 0
   pub first : j ≡ 0
 
--- or it picks from this shard of the stripe
+-- A purge picks from this shard of its stripe.
 pub record IsPicking (s : Settings) (plan : Plan) (p : PurgeCursor) (j : ℕ) : Type 0 where
   pub purging : IsPurging s plan p
   pub tried : j < (purged_stripe plan p).shards
@@ -397,7 +374,7 @@ pub record IsReleasing (plan : Plan) (r : ReleaseCursor) (left : ℕ) : Type 0 w
   pub room : length r.local.items + (left + slots_in (drop (r.stripe + 1) plan.memories)) ≤ r.local.room
   pub taken_room : r.taken.room ≡ r.local.room
 
--- it has the region of one of them
+-- A release has the region of one of the slots that it took.
 pub record IsDraining (maker : MakerTold) (s : Settings) (plan : Plan) (r : ReleaseCursor) (k : ℕ) (name : SlotName) (held : Cell) : Type 0 where
   pub releasing : IsReleasing plan r 0
   pub place : k < length r.taken.items
@@ -414,28 +391,35 @@ IsReleaseAt maker s plan (releasing_step.PutRegion r k at held) = IsDraining mak
 IsReleaseAt maker s plan (releasing_step.Free r x) = IsReleasing plan r 0 × IsFreedOf plan x × (x.name.kind ≡ memory_kind)
 
 module _ {P H : Type 0} where
+  -- The party's frame has no slots queued, and none that wait to be freed.
   abbrev pub HasNoneWaiting : Frame P H → Type 0
   HasNoneWaiting f = NothingWaits f.local f.freed
 
+  -- The party's frame has no slots queued or waiting, and no objects granted or given back.
   abbrev pub IsAtRest : Frame P H → Type 0
   IsAtRest f = NothingHeld f.local f.freed f.objects
 
+  -- What the frame's call has beside its next step, by its ending.
   abbrev pub IsAiming : Settings → Plan → Frame P H → Type 0
   IsAiming s plan f = Aims s plan f.ending f.asked f.queues f.objects
 
+  -- The frame's call is a request that wants another object.
   abbrev pub IsAllocating : Settings → Plan → Frame P H → Type 0
   IsAllocating s plan f = GrantsMore s plan f.ending f.asked f.queues f.objects
 
-  -- a memory is allocated, a table, a stack, or a heap, for which its memory was granted before
+  -- A memory is next.
   abbrev pub IsMemoryNext : Frame P H → Type 0
   IsMemoryNext f = length f.objects.memories.items < length (memories_wanted f.asked)
 
+  -- A table is next: the memories are all there, and an instance is asked for.
   abbrev pub IsTableNext : Frame P H → Type 0
   IsTableNext f = (length (memories_wanted f.asked) ≤ length f.objects.memories.items) × IsForInstance f.asked
 
+  -- A stack is next.
   abbrev pub IsStackNext : Frame P H → Type 0
   IsStackNext f = f.asked ≡ stack_asked
 
+  -- A heap is next: its memory is there.
   abbrev pub IsHeapNext : Frame P H → Type 0
   IsHeapNext f = (length (memories_wanted f.asked) ≤ length f.objects.memories.items) × (heaps_wanted f.asked ≡ 1)
 
@@ -447,6 +431,7 @@ module _ {P H : Type 0} where
   abbrev pub HasFreedRoom : Settings → Frame P H → Type 0
   HasFreedRoom s f = (f.freed.room ≡ 2 * s.batch) × (length f.freed.items + length f.local.slots ≤ 2 * s.batch)
 
+  -- The frame's call is a request at its beginning.
   abbrev pub IsRequested : Frame P H → Type 0
   IsRequested f = IsRequest f.ending f.asked f.queues
 

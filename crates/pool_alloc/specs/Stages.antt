@@ -1,15 +1,8 @@
 -- How far a call is, as its party may know it, and how a step takes it on: to which stage, with which answer, and what is
 -- known then.
 use Rattle.std.specs.Prelude.{◌≡◌, ◌⊎◌, ℕ, ◌+◌, ◌<◌, ◌≤◌, length, Bool, false, Option, Some, None, Result, Ok, Err, true}
-use Rattle.pool_pages.specs.MakerTold.{MakerTold}
-use Rattle.pool_pages.specs.declared.module_types.ComponentInfo.{ComponentInfo}
-use Rattle.pool_pages.specs.declared.unsupported.Unsupported.{Unsupported}
-use Rattle.pool_images.specs.Slots.{Slot, IsLeft}
-use Rattle.pool_slots.specs.declared.heap_maker.HeapMakeFault.{HeapMakeFault}
+use Rattle.pool_alloc.specs.Imports.{MakerTold, ComponentInfo, Unsupported, Slot, IsLeft, HeapMakeFault, LimiterError, MemoryState, AllocError, Told, SlotName, has_number}
 use Rattle.pool_alloc.specs.PartyTold.{PartyTold, MakesHeap}
-use Rattle.pool_limits.specs.declared.errors.LimiterError.{LimiterError}
-use Rattle.pool_memory.specs.Memories.{MemoryState}
-use Rattle.pool_slots.specs.declared.errors.AllocError.{AllocError}
 use Rattle.pool_slots.specs.declared.errors.AllocError.TheVariants as refusal
 use Rattle.pool_alloc.specs.Answers.{AsksForMemory}
 use Rattle.pool_alloc.specs.Modules.{IfAllocated, IfTable}
@@ -17,15 +10,12 @@ use Rattle.pool_alloc.specs.Objects.{objects_in, objects_wanted}
 use Rattle.pool_alloc.specs.Own.{memory_made, heap_refusal}
 use Rattle.pool_alloc.specs.TableLeases.{LeasedTable}
 use Rattle.pool_alloc.specs.TableSteps.{AsksForTable, table_made}
-use Rattle.pool_pages.specs.Told.{Told}
 use Rattle.pool_alloc.specs.declared.frame.TakenSlot.{TakenSlot}
-use Rattle.pool_slots.specs.declared.slot_name.SlotName.{SlotName}
 use Rattle.pool_alloc.specs.Places.{right_to, slot_count, instance_count, kept_count, away_count, frame_count}
 use Rattle.pool_alloc.specs.Refusals.{module_refused, heap_refused, component_refused}
 use Rattle.pool_alloc.specs.Rows.{no_instance_left, no_component_left}
 use Rattle.pool_alloc.specs.Searches.{IsSearched}
 use Rattle.pool_alloc.specs.Sound.{AreSupported, AreTablesSupported, IsAllocating, IsMemoryNext, IsTableNext, IsHeapNext, HasSlot}
-use Rattle.pool_slots.specs.Plans.{has_number}
 use Rattle.pool_alloc.specs.Steps.{info_wanted, memories_wanted, images_wanted, tables_wanted, allocator_for, slot_next}
 use Rattle.pool_alloc.specs.Stepping.{is_idle}
 use Rattle.pool_alloc.specs.Turns.{After, no_slot_left}
@@ -34,13 +24,12 @@ use Rattle.pool_alloc.specs.declared.frame.Ending.{Ending}
 use Rattle.pool_alloc.specs.declared.frame.Ending.TheVariants.{Granted as granted, Returned as returned, Refused as refused}
 use Rattle.pool_alloc.specs.declared.frame.Asked.{Asked}
 use Rattle.pool_alloc.specs.declared.frame.Asked.TheVariants.{Stack as stack_asked, Heap as heap_asked}
-use Rattle.pool_alloc.specs.declared.frame.Grant.TheVariants.{Instance, Stack, Heap}
+use Rattle.pool_alloc.specs.declared.frame.Grant.TheVariants.{Instance, Stack, Heap, Component}
 use Rattle.pool_alloc.specs.declared.frame.Frame.{Frame}
 use Rattle.pool_alloc.specs.declared.frame.Outcome.{Outcome}
 use Rattle.pool_alloc.specs.declared.frame.Outcome.TheVariants as answer
 use Rattle.pool_alloc.specs.declared.frame.Phase.{Phase}
 use Rattle.pool_alloc.specs.declared.frame.Phase.TheVariants.{Idle, Key, Validate, TestStack, TestHeap, CountInstance, CountObject, CountHeap, ValidateComponent, CountComponent, UncountComponent, Purge, Release}
-use Rattle.pool_alloc.specs.declared.frame.Grant.TheVariants.{Instance, Component}
 use Rattle.pool_alloc.specs.declared.release.ReleaseStep.{ReleaseStep}
 use Rattle.pool_alloc.specs.declared.release.ReleaseStep.TheVariants.{Reserve}
 
@@ -71,17 +60,18 @@ pub data Stage : Type 0 where
   reserving : Stage
   releasing : Stage
 
--- how the test of a component ends it at once
+-- The refusal with which the test of a component ends it at once.
 abbrev pub IsBroken : Option Unsupported → AllocError → Type 0
 IsBroken (Some rule) e = e ≡ refusal.Unsupported rule
 IsBroken None e = ⊥
 
--- the stage by the ending, where so many objects are made
+-- How far a request is where so many objects are made, by what is asked for.
 abbrev pub progress_by : Asked → ℕ → Progress
 progress_by stack_asked made = seeks_stack
 progress_by (heap_asked ty) made = seeks_heap made
 progress_by _ made = admitted made
 
+-- The stage of a call that is under way with its objects, by its ending.
 abbrev pub stage_by : Asked → Ending → ℕ → Stage
 stage_by asked granted made = asks (progress_by asked made)
 stage_by asked returned made = returning
@@ -98,11 +88,13 @@ IsUntested (Some rule) e = e ≡ refusal.Unsupported rule
 IsUntested None e = e ≡ refusal.Memory
 
 module _ {P : Type 0} where
+  -- A release before its room is reserved, or after that.
   abbrev pub stage_of_release : ReleaseStep P → Stage
   stage_of_release Reserve = reserving
   stage_of_release _ = releasing
 
 module _ {P H : Type 0} where
+  -- How far a call is, by its phase, its ending and the objects that it has.
   abbrev pub stage_at : Phase P H → Asked → Ending → ℕ → Stage
   stage_at Idle asked ending granted_so_far = no_call
   stage_at Key asked ending granted_so_far = keys
@@ -119,6 +111,7 @@ module _ {P H : Type 0} where
   stage_at (Release step) asked ending granted_so_far = stage_of_release step
   stage_at _ asked ending granted_so_far = stage_by asked ending granted_so_far
 
+  -- How far a frame's call is, which is all that its party knows of it.
   abbrev pub stage_of : Frame P H → Stage
   stage_of f = stage_at f.phase f.asked f.ending (objects_in f.objects)
 
@@ -154,7 +147,7 @@ module _ {P H : Type 0} where
     pub asked : IfAllocated f (AsksForMemory given old.limiter new.limiter)
     pub is : memory_made c.settings (memories_wanted f.asked) (length f.objects.memories.items) given held ≡ made
 
-  -- and likewise for table n
+  -- A step of the call makes table n, or fails to.
   pub record MakesTable (old new : PartyTold) (c : PoolCore P H) (f : Frame P H) (n : ℕ) (made : Result LeasedTable AllocError) : Type 0 where
     pub number : n ≡ objects_in f.objects
     pub allocating : IsAllocating c.settings c.plan f
@@ -179,13 +172,14 @@ module _ {P H : Type 0} where
   abbrev pub HasHeap : PartyTold → PartyTold → PoolCore P H → Frame P H → ℕ → Type 0
   HasHeap old new c f n = SeeksHeap c f n × ((new.heaps ≡ old.heaps) ⊎ ((heap : H) × MakesHeap (Ok heap) old.heaps new.heaps))
 
-  -- The test of a heap: there is no collector, or its memory breaks a rule, or there was no memory for the list; and what is
-  -- known where it is passed.
+  -- Why the test of a heap isn't passed: there is no collector, its memory breaks a rule, or there was no memory for
+  -- the list.
   abbrev pub IsHeapUntested : PoolCore P H → Frame P H → AllocError → Type 0
   IsHeapUntested c f e =
       ((c.settings.tunables.tunables.collector ≡ false) × (e ≡ refusal.HeapsDisabled))
       ⊎ ((c.settings.tunables.tunables.collector ≡ true) × IsUntested (heap_refused c.settings f.asked) e)
 
+  -- A heap may be asked for: there is a collector, and the type of its memory breaks no rule.
   pub record IsHeapTested (c : PoolCore P H) (f : Frame P H) : Type 0 where
     pub enabled : c.settings.tunables.tunables.collector ≡ true
     pub rules : heap_refused c.settings f.asked ≡ None

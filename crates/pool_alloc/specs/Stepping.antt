@@ -1,14 +1,8 @@
 -- A step: a row of the table under answers that may come, and what it keeps.
 use Rattle.std.specs.Prelude.{◌≡◌, ◌⊎◌, ℕ, ◌+◌, ◌^◌, ◌<◌, ◌≤◌, ◌&&◌, length, List, Bool, true, false, not, Option, Some, None, is_some}
-use Rattle.pool_pages.specs.MakerTold.{MakerTold}
-use Rattle.pool_limits.specs.Exchanges.{Exchange}
+use Rattle.pool_alloc.specs.Imports.{MakerTold, Exchange, ShardState, CellState, HeapEntry, SlotName, Queue}
 use Rattle.pool_alloc.specs.PartyTold.{PartyTold}
 use Rattle.pool_alloc.specs.Steps.{StepGiven, with_shard, with_cell, with_queue, counting_keys, counting_instances, counting_memories, counting_tables, counting_stacks, counting_heaps, counting_components, with_heaps}
-use Rattle.pool_index.specs.Shard.{ShardState}
-use Rattle.pool_slots.specs.RegionCells.{CellState}
-use Rattle.pool_slots.specs.declared.heap_list.HeapEntry.{HeapEntry}
-use Rattle.pool_slots.specs.declared.slot_name.SlotName.{SlotName}
-use Rattle.pool_slots.specs.SlotQueues.{Queue}
 use Rattle.pool_alloc.specs.StackLeases.{stack_taken}
 use Rattle.pool_alloc.specs.Turns.{After}
 use Rattle.pool_alloc.specs.Rows.{row}
@@ -25,43 +19,49 @@ use Rattle.pool_alloc.specs.declared.frame.Outcome.{Outcome}
 use Rattle.pool_alloc.specs.declared.frame.Outcome.TheVariants.{Key, Granted, Returned, Purged, Released, Refused}
 
 module _ {P H : Type 0} where
-  -- what a grant has
+  -- What the slots and regions of a grant weigh.
   abbrev pub grant_count : Thing → Grant P H → ℕ
   grant_count t (Instance lease) = instance_count t lease
   grant_count t Component = 0
   grant_count t (Stack lease) = taken_count t (stack_taken lease)
   grant_count t (Heap lease memory) = heap_count t lease memory
 
+  -- 1 for a grant that is an instance.
   abbrev pub grant_instances : Grant P H → ℕ
   grant_instances (Instance lease) = 1
   grant_instances Component = 0
   grant_instances (Stack lease) = 0
   grant_instances (Heap lease memory) = 0
 
+  -- 1 for a grant that is a component.
   abbrev pub grant_components : Grant P H → ℕ
   grant_components (Instance lease) = 0
   grant_components Component = 1
   grant_components (Stack lease) = 0
   grant_components (Heap lease memory) = 0
 
+  -- How many memories a grant has: an instance's, or the one of a heap.
   abbrev pub grant_memories : Grant P H → ℕ
   grant_memories (Instance lease) = length lease.memories.items
   grant_memories Component = 0
   grant_memories (Stack lease) = 0
   grant_memories (Heap lease memory) = 1
 
+  -- How many tables a grant has.
   abbrev pub grant_tables : Grant P H → ℕ
   grant_tables (Instance lease) = length lease.tables.items
   grant_tables Component = 0
   grant_tables (Stack lease) = 0
   grant_tables (Heap lease memory) = 0
 
+  -- 1 for a grant that is a stack.
   abbrev pub grant_stacks : Grant P H → ℕ
   grant_stacks (Instance lease) = 0
   grant_stacks Component = 0
   grant_stacks (Stack lease) = 1
   grant_stacks (Heap lease memory) = 0
 
+  -- 1 for a grant that is a heap.
   abbrev pub grant_heaps : Grant P H → ℕ
   grant_heaps (Instance lease) = 0
   grant_heaps Component = 0
@@ -91,7 +91,7 @@ module _ {P H : Type 0} where
   abbrev pub StepsTo : PartyTold → PartyTold → PoolCore P H → Frame P H → After P H → Type 0
   StepsTo old new c f a = (g : StepGiven H) × Takes old new g c f a
 
-  -- the same, with what passed between the step and the limiter: that and no more
+  -- A step of the table, with what passed between it and the limiter: that and no more.
   abbrev pub StepsAsking : (List Exchange → Type 0) → PartyTold → PartyTold → PoolCore P H → Frame P H → After P H → Type 0
   StepsAsking Passes old new c f a = (g : StepGiven H) × (Takes old new g c f a × LimiterHears Passes g f.phase f)
 
@@ -111,22 +111,27 @@ module _ {P H : Type 0} where
     pub settings : new.settings ≡ old.settings
     pub plan : new.plan ≡ old.plan
 
-  -- A step changes one part of the pool, or none: a shard, the cell of a slot, a queue, the list of heaps, or a counter.
+  -- Only the shard at one place changed.
   abbrev pub ChangesShard : PoolCore P H → PoolCore P H → Type 0
   ChangesShard old new = (place : ℕ) × (shard : ShardState) × (new ≡ with_shard place shard old)
 
+  -- Only the cell of one slot changed.
   abbrev pub ChangesCell : PoolCore P H → PoolCore P H → Type 0
   ChangesCell old new = (name : SlotName) × (cell : CellState) × (new ≡ with_cell name cell old)
 
+  -- Only one queue changed.
   abbrev pub ChangesQueue : PoolCore P H → PoolCore P H → Type 0
   ChangesQueue old new = (place : ℕ) × (queue : Queue) × (new ≡ with_queue place queue old)
 
+  -- Only the list of heaps changed.
   abbrev pub ChangesHeaps : PoolCore P H → PoolCore P H → Type 0
   ChangesHeaps old new = (heaps : List (HeapEntry H)) × (new ≡ with_heaps heaps old)
 
+  -- Only one counter changed.
   abbrev pub ChangesCounter : PoolCore P H → PoolCore P H → Type 0
   ChangesCounter old new = (n : ℕ) × ((new ≡ counting_keys n old) ⊎ ((new ≡ counting_instances n old) ⊎ ((new ≡ counting_memories n old) ⊎ ((new ≡ counting_tables n old) ⊎ ((new ≡ counting_stacks n old) ⊎ ((new ≡ counting_heaps n old) ⊎ (new ≡ counting_components n old)))))))
 
+  -- At most one part of the pool changed: a shard, a cell, a queue, the list of heaps or a counter.
   abbrev pub ChangesOnePart : PoolCore P H → PoolCore P H → Type 0
   ChangesOnePart old new = (new ≡ old) ⊎ (ChangesShard old new ⊎ (ChangesCell old new ⊎ (ChangesQueue old new ⊎ (ChangesHeaps old new ⊎ ChangesCounter old new))))
 

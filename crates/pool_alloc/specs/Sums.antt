@@ -1,47 +1,37 @@
 -- What the parts of the pool have together, for its numbers.
 use Rattle.std.specs.Prelude.{ℕ, ◌-◌, ◌^◌, List, length, min, sum_by, map, None, Some, if◌then◌else◌}
-use Rattle.pool_pages.specs.declared.pages.PageCalls.{PageCalls}
-use Rattle.pool_index.specs.Shard.{resident_bytes}
-use Rattle.pool_memory.specs.Memories.{slot_of}
-use Rattle.pool_pages.specs.MakerTold.{no_calls}
-use Rattle.pool_pages.specs.CallSums.{added}
-use Rattle.pool_slots.specs.Cells.{all_calls, calls_in}
-use Rattle.pool_slots.specs.CellOf.{cell_of}
+use Rattle.pool_alloc.specs.Imports.{PageCalls, resident_bytes, slot_of, no_calls, added, all_calls, calls_in, cell_of, PoolPart, calls_held, same_kind, option_map_or, Told, SlotKind, memory_kind, table_kind, stack_kind}
 use Rattle.pool_alloc.specs.declared.frame.Object.{Object}
 use Rattle.pool_alloc.specs.declared.frame.Object.TheVariants.{Memory, Table, Stack}
 use Rattle.pool_alloc.specs.declared.lease.InstanceLease.{InstanceLease}
-use Rattle.pool_slots.specs.declared.part.PoolPart.{PoolPart}
 use Rattle.pool_slots.specs.declared.part.PoolPart.TheVariants as part
-use Rattle.pool_slots.specs.SlotQueues.{calls_held, same_kind}
-use Rattle.std.specs.Option.{option_map_or}
-use Rattle.pool_pages.specs.Told.{Told}
-use Rattle.pool_hall.specs.declared.unit_name.SlotKind.{SlotKind}
-use Rattle.pool_hall.specs.declared.unit_name.SlotKind.TheVariants.{Memory as memory_kind, Table as table_kind, Stack as stack_kind}
 use Rattle.pool_alloc.specs.Leases.{Lease}
 use Rattle.pool_alloc.specs.TableLeases.{LeasedTable}
 use Rattle.pool_alloc.specs.declared.pool_core.PoolCore.{PoolCore}
 use Rattle.pool_alloc.specs.declared.metrics.Metrics.{Metrics}
 use Rattle.pool_alloc.specs.declared.frame.Frame.{Frame}
 use Rattle.pool_alloc.specs.declared.frame.Phase.{Phase}
-use Rattle.pool_alloc.specs.declared.frame.Phase.TheVariants.{Empty, Instantiate, MakeMemory, MakeTable, CountObject, PutBack, UncountObject, UncountHeap, PutHeap, FreeHeap, Reset}
-use Rattle.pool_alloc.specs.declared.frame.Phase.TheVariants.{Purge, Release}
+use Rattle.pool_alloc.specs.declared.frame.Phase.TheVariants.{Empty, Instantiate, MakeMemory, MakeTable, CountObject, PutBack, UncountObject, UncountHeap, PutHeap, FreeHeap, Reset, Purge, Release}
 use Rattle.pool_alloc.specs.declared.purge.PurgeStep.{PurgeStep}
 use Rattle.pool_alloc.specs.declared.purge.PurgeStep.TheVariants as purging_step
 use Rattle.pool_alloc.specs.declared.release.ReleaseStep.{ReleaseStep}
 use Rattle.pool_alloc.specs.declared.release.ReleaseStep.TheVariants as releasing_step
 
--- how many slots of a kind are warm in the shards, and how many bytes those keep resident, up to the ends of their types
+-- How many warm slots of a kind a part has, if it is a shard of that kind.
 abbrev pub warm_in : {P H : Type 0} → SlotKind → PoolPart P H → ℕ
 warm_in kind (part.Shard s) = if same_kind kind s.kind then length s.warm else 0
 warm_in kind _ = 0
 
+-- How many warm slots of a kind the parts have, up to the end of the count's type.
 abbrev pub warm_slots : {P H : Type 0} → SlotKind → List (PoolPart P H) → ℕ
 warm_slots kind parts = min (sum_by (warm_in kind) parts) (2 ^ 32 - 1)
 
+-- How many bytes the warm slots of a part keep resident, if it is a shard of this kind.
 abbrev pub resident_in : {P H : Type 0} → SlotKind → PoolPart P H → ℕ
 resident_in kind (part.Shard s) = if same_kind kind s.kind then resident_bytes s else 0
 resident_in kind _ = 0
 
+-- How many bytes the warm slots of a kind keep resident, up to the end of the count's type.
 abbrev pub resident_sum : {P H : Type 0} → SlotKind → List (PoolPart P H) → ℕ
 resident_sum kind parts = min (sum_by (resident_in kind) parts) (2 ^ 64 - 1)
 
@@ -53,6 +43,7 @@ part_calls (part.Stack cell) = calls_in cell.holds
 part_calls (part.Queue q) = calls_held q.slots
 part_calls _ = no_calls
 
+-- The page calls on the regions that lie in the pool's parts.
 abbrev pub calls_of_parts : {P H : Type 0} → List (PoolPart P H) → PageCalls
 calls_of_parts parts = all_calls (map part_calls parts)
 
@@ -60,18 +51,21 @@ calls_of_parts parts = all_calls (map part_calls parts)
 abbrev pub table_calls : LeasedTable → PageCalls
 table_calls l = option_map_or (λ (region : Told). region.calls) l.table.region no_calls
 
--- the calls on the region of an object, and on those of memories, of tables and of an instance, together
+-- The page calls on the region of an object.
 abbrev pub calls_of_object : {P : Type 0} → Object P → PageCalls
 calls_of_object (Memory lease) = (slot_of lease.memory).region.calls
 calls_of_object (Table lease) = table_calls lease
 calls_of_object (Stack lease) = lease.stack.slot.region.calls
 
+-- The page calls on the regions of granted memories.
 abbrev pub calls_of_leases : List Lease → PageCalls
 calls_of_leases leases = all_calls (map (λ l. (slot_of l.memory).region.calls) leases)
 
+-- The page calls on the regions of granted tables.
 abbrev pub calls_of_tables : List LeasedTable → PageCalls
 calls_of_tables leases = all_calls (map table_calls leases)
 
+-- The page calls on the regions of an instance.
 abbrev pub calls_of_instance : {P : Type 0} → InstanceLease P → PageCalls
 calls_of_instance lease = added (calls_of_leases lease.memories.items) (calls_of_tables lease.tables.items)
 
@@ -81,19 +75,20 @@ module _ {P H : Type 0} where
   calls_kept c = calls_of_parts c.parts
 
 module _ {P : Type 0} where
-  -- the calls on the region that a purge has taken for its next step, and a release
+  -- The page calls on the region that a purge has out.
   abbrev pub calls_in_purge : PurgeStep P → PageCalls
   calls_in_purge (purging_step.Forget at held) = calls_in (cell_of held)
   calls_in_purge (purging_step.PutRegion at held) = calls_in (cell_of held)
   calls_in_purge _ = no_calls
 
+  -- The page calls on the region that a release has out.
   abbrev pub calls_in_release : ReleaseStep P → PageCalls
   calls_in_release (releasing_step.Decommit r k at held) = calls_in (cell_of held)
   calls_in_release (releasing_step.PutRegion r k at held) = calls_in (cell_of held)
   calls_in_release _ = no_calls
 
 module _ {P H : Type 0} where
-  -- the calls on the region that a call has taken for its next step, and on all that it has
+  -- The page calls on the region that a call has out for its next step.
   abbrev pub calls_in_phase : Phase P H → PageCalls
   calls_in_phase (Empty at held) = held.region.calls
   calls_in_phase (Instantiate at held) = held.region.calls
@@ -110,10 +105,11 @@ module _ {P H : Type 0} where
   calls_in_phase (Release step) = calls_in_release step
   calls_in_phase _ = no_calls
 
+  -- The page calls on all regions that a party's frame has: of its objects, its queue and its phase.
   abbrev pub calls_in_frame : Frame P H → PageCalls
   calls_in_frame f = added (calls_of_instance f.objects) (added (calls_held f.local.slots) (calls_in_phase f.phase))
 
-  -- the pool's numbers
+  -- All numbers of the pool: what is granted, and per kind the warm slots with their resident bytes.
   abbrev pub metrics_of : PoolCore P H → Metrics
   metrics_of c = record {
     core_instances = c.counters.core_instances;

@@ -1,22 +1,8 @@
 -- Tables that were granted, and how their leases are changed.
 use Rattle.std.specs.Prelude.{◌≡◌, ℕ, ◌+◌, ◌<◌, ◌≤◌, slice_get, Option, Some, IfSome, is_ok, Result, Ok, Err}
-use Rattle.pool_pages.specs.Told.{Told}
-use Rattle.pool_limits.specs.LimiterTold.{LimiterTold}
-use Rattle.pool_limits.specs.Exchanges.{Exchange}
-use Rattle.pool_limits.specs.declared.errors.GrowFault.{GrowFault}
-use Rattle.pool_limits.specs.declared.errors.Trap.{Trap}
-use Rattle.pool_limits.specs.declared.errors.Trap.TheVariants.{TableOutOfBounds}
+use Rattle.pool_alloc.specs.Imports.{Told, LimiterTold, Exchange, GrowFault, Trap, TableOutOfBounds, RegionNumbers, SlotName, uninitialised, func, gc_ref, cont, type_of, TableGrowsAsking, StoreTold, StoreCall, StoredFill, stored_answer, table_view, element_type_of, IsStatic, IsTable, TableView, FillsTable, LiesThere, state_in, GcTableError}
 use Rattle.pool_hall.specs.declared.unit_name.SlotKind.TheVariants as slot_kind
-use Rattle.pool_slots.specs.declared.slot_name.RegionNumbers.{RegionNumbers}
-use Rattle.pool_slots.specs.declared.slot_name.SlotName.{SlotName}
 use Rattle.pool_table.specs.Elements as elem
-use Rattle.pool_table.specs.Elements.{uninitialised, func, gc_ref, cont, type_of}
-use Rattle.pool_table.specs.Growing.{TableGrowsAsking}
-use Rattle.pool_table.specs.Stores.{StoreTold, StoreCall, StoredFill, stored_answer}
-use Rattle.pool_table.specs.TableStates.{table_view, element_type_of, IsStatic}
-use Rattle.pool_table.specs.Tables.{IsTable}
-use Rattle.pool_table.specs.Views.{TableView, FillsTable, LiesThere, state_in}
-use Rattle.pool_table.specs.declared.gc_store.GcTableError.{GcTableError}
 use Rattle.pool_table.specs.declared.gc_store.GcTableError.TheVariants as failed
 use Rattle.pool_table.specs.declared.table.Table.{Table}
 use Rattle.pool_alloc.specs.declared.frame.TakenSlot.{TakenSlot}
@@ -29,10 +15,11 @@ pub record LeasedTable : Type 0 where
   pub table : TableView
   pub numbers : RegionNumbers
 
--- the name of a table's slot, and the slot of a table with the numbers
+-- The name of a table's slot.
 abbrev pub table_slot : ℕ → SlotName
 table_slot slot = record { kind = slot_kind.Table; slot = slot }
 
+-- The slot of a table's lease, with the numbers of its region.
 abbrev pub table_taken : LeasedTable → TakenSlot
 table_taken l = record { name = table_slot l.index; numbers = l.numbers }
 
@@ -40,14 +27,10 @@ table_taken l = record { name = table_slot l.index; numbers = l.numbers }
 abbrev pub HasType : {P : Type 0} → Table P → Type 0
 HasType table = element_type_of table ≡ type_of (table_view table).kind
 
--- so are they, and the table lies in a region
+-- The table lies in a region, and has elements of the type that its kind says.
 pub record IsOverRegion {P : Type 0} (table : Table P) : Type 0 where
   pub static : IsStatic table
   pub element_type : HasType table
-
--- a region with other bytes
-abbrev pub IsSameRegion : Told → Told → Type 0
-IsSameRegion old new = new ≡ record old { contents = new.contents }
 
 -- the element that a caller names
 abbrev pub element_of : Element → elem.Element
@@ -84,7 +67,7 @@ pub record IsSet {G : Type 0} (told : G → StoreTold) (leads : G → StoreCall 
   pub inside : at + count ≤ old.size → SetsElements told leads at count e old new before after result
   pub outside : old.size < at + count → (result ≡ Err (failed.Trap TableOutOfBounds)) × (new ≡ old) × (after ≡ before)
 
--- the same of a lease, whose table still lies in its region
+-- So many elements of a lease's table were set, and it still lies in its region.
 pub record IsFilled {G : Type 0} (told : G → StoreTold) (leads : G → StoreCall → G → Type 0) (at count : ℕ) (e : elem.Element) (old new : LeasedTable) (before after : G) (result : Result (Unit {0}) GcTableError) : Type 0 where
   pub same : new ≡ record old { table = new.table }
   pub set : IsSet told leads at count e old.table new.table before after result

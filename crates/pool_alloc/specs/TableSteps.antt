@@ -1,26 +1,8 @@
 -- What the steps of a table do that change no part of the pool: a table is made, and reset.
 use Rattle.std.specs.Prelude.{◌≡◌, ℕ, ◌*◌, ◌<◌, ◌≤◌, ◌^◌, length, min, nat_lt, replicate, if◌then◌else◌, Bool, false, true, Option, Some, None, option_map, Result, Ok, Err, List, [], ◌∷◌, slice_get}
-use Rattle.pool_pages.specs.Count.{rounded_up}
-use Rattle.pool_pages.specs.Told.{Told}
-use Rattle.pool_pages.specs.declared.table_type.TableType.{TableType}
-use Rattle.pool_pages.specs.declared.unsupported.Unsupported.TheVariants.{TableSize}
-use Rattle.pool_limits.specs.Growth.{table_answer}
-use Rattle.pool_limits.specs.LimiterTold.{LimiterTold, after_answer}
-use Rattle.pool_limits.specs.declared.errors.LimiterError.{LimiterError}
-use Rattle.pool_slots.specs.PlainSlots.{IsPlain, IsUnusedFrom, bottom_reset, above_bottom}
-use Rattle.pool_slots.specs.SlotQueues.{Queue, Queued, HasOwners, holds, plain_slot, with_slot, with_ranges}
+use Rattle.pool_alloc.specs.Imports.{rounded_up, Told, TableType, TableSize, table_answer, LimiterTold, after_answer, LimiterError, IsPlain, IsUnusedFrom, bottom_reset, above_bottom, Queue, Queued, HasOwners, holds, plain_slot, with_slot, with_ranges, SlotName, RegionNumbers, AllocError, data_size, width, empty, Exchange, Exchanged, may_grow, kind_of, room_of, new_table, making_question, type_maximum, in_region, TableError}
 use Rattle.pool_slots.specs.declared.queued_range.QueueKind.TheVariants as queued
-use Rattle.pool_slots.specs.declared.slot_name.SlotName.{SlotName}
-use Rattle.pool_slots.specs.declared.slot_name.RegionNumbers.{RegionNumbers}
-use Rattle.pool_slots.specs.declared.errors.AllocError.{AllocError}
 use Rattle.pool_slots.specs.declared.errors.AllocError.TheVariants as alloc
-use Rattle.pool_slots.specs.TableSizes.{data_size}
-use Rattle.pool_table.specs.Elements.{width, empty}
-use Rattle.pool_limits.specs.Exchanges.{Exchange, Exchanged, may_grow}
-use Rattle.pool_table.specs.Making.{kind_of, room_of, new_table, making_question}
-use Rattle.pool_table.specs.Tables.{type_maximum}
-use Rattle.pool_table.specs.Views.{in_region}
-use Rattle.pool_table.specs.declared.table_error.TableError.{TableError}
 use Rattle.pool_table.specs.declared.table_error.TableError.TheVariants as unmade
 use Rattle.pool_alloc.specs.declared.frame.TakenSlot.{TakenSlot}
 use Rattle.pool_alloc.specs.declared.pool_core.Settings.{Settings}
@@ -62,11 +44,12 @@ table_queued page keep l region = record {
 abbrev pub table_reset : ℕ → ℕ → LeasedTable → Told → Queue → Queue
 table_reset page keep l region q = with_slot (table_queued page keep l region) (with_ranges queued.Table l.index (above_bottom keep (bytes_used page l)) q)
 
--- by its region; a table that lies in none isn't one of a pool
+-- The local queue once a table that lies in a region was reset into it.
 abbrev pub reset_in : ℕ → ℕ → LeasedTable → Option Told → Queue → Queue
 reset_in page keep l None q = q
 reset_in page keep l (Some region) q = table_reset page keep l region q
 
+-- The local queue once a table was reset into it.
 abbrev pub table_reset_into : Settings → LeasedTable → Queue → Queue
 table_reset_into s l q = reset_in s.page s.table_keep_resident.bytes l l.table.region q
 
@@ -109,6 +92,7 @@ abbrev pub made_unless : Option AllocError → LeasedTable → Result LeasedTabl
 made_unless (Some e) l = Err e
 made_unless None l = Ok l
 
+-- A table with its minimum of empty elements in the region of a slot.
 abbrev pub table_in : Settings → TableType → TakenSlot → Told → LeasedTable
 table_in s ty at region = record {
   index = at.name.slot;
@@ -116,15 +100,16 @@ table_in s ty at region = record {
   numbers = at.numbers;
 }
 
+-- The table in the region of a slot, or why it isn't made; want of memory where none is declared.
 abbrev pub made_table : Settings → Result Bool LimiterError → TakenSlot → Told → Option TableType → Result LeasedTable AllocError
 made_table s answer at region None = Err alloc.Memory
 made_table s answer at region (Some ty) = made_unless (table_refused answer ty.limits.min (room_of ty (table_bytes s ty))) (table_in s ty at region)
 
--- table k of the module
+-- Table k of the module in the region of a slot, or why it isn't made.
 abbrev pub table_made : Settings → List TableType → ℕ → Result Bool LimiterError → TakenSlot → Told → Result LeasedTable AllocError
 table_made s tables k answer at region = made_table s answer at region (slice_get tables k)
 
--- the same of what the code's making answers, which hands the region back with a refusal
+-- What the code's making of a table answers, which hands the region back with a refusal.
 abbrev pub handed_back : Told → Result LeasedTable AllocError → Result LeasedTable (Told × AllocError)
 handed_back region (Ok l) = Ok l
 handed_back region (Err e) = Err (region, e)

@@ -1,18 +1,13 @@
 -- How a call goes on: a row of the step table gives a part, the frame and a turn, and one function says what the turn
 -- leaves of the frame.
 use Rattle.std.specs.Prelude.{◌&&◌, ◌==◌, List, [], ◌∷◌, length, Bool, true, false, nat_lt, if◌then◌else◌, Option, Some, None, ℕ, ◌+◌, ◌%◌, ◌^◌}
-use Rattle.pool_slots.specs.declared.errors.AllocError.{AllocError}
+use Rattle.pool_alloc.specs.Imports.{AllocError, ConcurrencyKind, MemoryStripe, Tables, Fibers, GcHeaps, SlotKind, table_kind, stack_kind, heap_kind, Plan}
 use Rattle.pool_slots.specs.declared.errors.AllocError.TheVariants as refusal
-use Rattle.pool_slots.specs.declared.errors.ConcurrencyKind.{ConcurrencyKind}
-use Rattle.pool_slots.specs.declared.errors.ConcurrencyKind.TheVariants.{MemoryStripe, Tables, Fibers, GcHeaps}
 use Rattle.pool_alloc.specs.Objects.{objects_in, objects_wanted, no_objects}
-use Rattle.pool_hall.specs.declared.unit_name.SlotKind.{SlotKind}
-use Rattle.pool_hall.specs.declared.unit_name.SlotKind.TheVariants.{Table as table_kind, Stack as stack_kind, Heap as heap_kind}
 use Rattle.pool_alloc.specs.Leases.{Lease}
 use Rattle.pool_alloc.specs.TableLeases.{LeasedTable}
 use Rattle.pool_alloc.specs.Steps.{queues_next, allocator_for, kind_next}
 use Rattle.pool_alloc.specs.declared.pool_core.PoolCore.{PoolCore}
-use Rattle.pool_slots.specs.declared.plan.Plan.{Plan}
 use Rattle.pool_alloc.specs.declared.frame.Asked.{Asked}
 use Rattle.pool_alloc.specs.declared.frame.Asked.TheVariants.{Nothing as nothing_asked, Stack as stack_asked, Heap as heap_asked}
 use Rattle.pool_alloc.specs.declared.frame.Frame.{Frame}
@@ -51,12 +46,13 @@ pub record Left (P H : Type 0) : Type 0 where
   pub frame : Frame P H
   pub outcome : Option (Outcome P H)
 
--- what a step leaves, of one part and of the pool
+-- What a step leaves of one part and of the frame, and the call's answer if it ended.
 pub record PartAfter (X P H : Type 0) : Type 0 where
   pub part : X
   pub frame : Frame P H
   pub outcome : Option (Outcome P H)
 
+-- What a step leaves: the pool, the party's frame, and the call's answer if it ended.
 pub record After (P H : Type 0) : Type 0 where
   pub core : PoolCore P H
   pub frame : Frame P H
@@ -83,6 +79,7 @@ module _ {P H : Type 0} where
   abbrev pub gone_to : Phase P H → Frame P H → Frame P H
   gone_to phase f = record f { phase = phase; step_count = (f.step_count + 1) % 2 ^ 64 }
 
+  -- The call goes on with a phase.
   abbrev pub goes_to : Frame P H → Phase P H → Left P H
   goes_to f phase = record { frame = gone_to phase f; outcome = None }
 
@@ -114,6 +111,7 @@ module _ {P H : Type 0} where
       then goes_to f (Pick 0)
       else ends_with (record f { objects = no_objects }) (answer.Granted (Instance f.objects))
 
+  -- What the ending says is next: the next object's slot, or the next object that is given back.
   abbrev pub next_by : Ending → Frame P H → Left P H
   next_by granted f = granted_next f
   next_by returned f = returned_next f.objects.memories.items f.objects.tables.items f
@@ -123,16 +121,19 @@ module _ {P H : Type 0} where
   abbrev pub is_flushed : Frame P H → Bool
   is_flushed f = (length f.local.slots == 0) && (length f.freed.items == 0)
 
+  -- The next part of a flush, or once it is done what the ending says is next.
   abbrev pub flush_next : Frame P H → Left P H
   flush_next f = if is_flushed f then next_by f.ending f else goes_to f Flush
 
+  -- The next queue of a search, or after the last the refusal for room.
   abbrev pub search_next : ℕ → AllocError → Frame P H → Left P H
   search_next queues e f =
       if nat_lt f.queues queues
       then goes_to f TakeQueue
       else returned_next f.objects.memories.items f.objects.tables.items (failing e f)
 
-  -- what a turn leaves
+  -- What a turn leaves of the frame, and the call's answer where it ends: the one function that says how a call goes
+  -- on.
   abbrev pub after : Frame P H → Turn P H → Left P H
   after f (goes phase) = goes_to f phase
   after f (ends outcome) = ends_with f outcome
@@ -141,10 +142,11 @@ module _ {P H : Type 0} where
   after f (search queues e) = search_next queues e f
   after f stays = record { frame = f; outcome = None }
 
-  -- the search for a slot: the refusal for room, where the allocator has so many slots, and its turn
+  -- The refusal for room: how many slots the allocator has, and of what there is none left.
   abbrev pub no_slot_left : Plan → Frame P H → AllocError
   no_slot_left plan f = refusal.Limit (record { limit = (allocator_for plan f).capacity; kind = limit_of (kind_next f) f.stripe })
 
+  -- No shard had a slot: the search goes on through the queues.
   abbrev pub slot_search : Plan → Frame P H → Turn P H
   slot_search plan f = search (queues_next plan f) (no_slot_left plan f)
 
@@ -152,9 +154,10 @@ module _ {P H : Type 0} where
   abbrev pub part_after : {X : Type 0} → Row X P H → PartAfter X P H
   part_after r = let l : Left P H = after r.frame r.turn in record { part = r.part; frame = l.frame; outcome = l.outcome }
 
-  -- and of the pool
+  -- What a step leaves of the pool, beside what its turn leaves of the frame.
   abbrev pub finished : PoolCore P H → Left P H → After P H
   finished c l = record { core = c; frame = l.frame; outcome = l.outcome }
 
+  -- What a row leaves of the pool and of the frame, by its turn.
   abbrev pub stepped : Row (PoolCore P H) P H → After P H
   stepped r = finished r.part (after r.frame r.turn)

@@ -1,10 +1,7 @@
 -- A pool with all that have something of it.
 use Rattle.std.specs.Prelude.{◌≡◌, ℕ, ◌+◌, ◌≤◌, List, [], sum_by}
-use Rattle.pool_index.specs.Shard.{warm_count}
-use Rattle.pool_slots.specs.ListUnits.{all_away, all_kept}
-use Rattle.pool_slots.specs.Plans.{home_of}
+use Rattle.pool_alloc.specs.Imports.{warm_count, all_away, all_kept, home_of, SlotName}
 use Rattle.pool_alloc.specs.Places.{Thing, right_to, region_of, kept_count, away_count, frame_count, frame_instances, frame_memories, frame_tables, phase_stacks, phase_heaps, phase_instances, phase_components}
-use Rattle.pool_slots.specs.declared.slot_name.SlotName.{SlotName}
 use Rattle.pool_alloc.specs.Stepping.{grant_count, grant_instances, grant_components, grant_memories, grant_tables, grant_stacks, grant_heaps}
 use Rattle.pool_alloc.specs.Steps.{shard_at}
 use Rattle.pool_alloc.specs.declared.pool_core.PoolCore.{PoolCore}
@@ -37,11 +34,11 @@ pub record AddUp (some more all : Holding) : Type 0 where
   pub heaps : all.heaps ≡ some.heaps + more.heaps
 
 module _ {P H : Type 0} where
-  -- what a call has
+  -- What a party's call has of the pool.
   abbrev pub held_by : Frame P H → Holding
   held_by f = record { places = λ t. frame_count t f; instances = frame_instances f; components = phase_components f.phase; memories = frame_memories f; tables = frame_tables f; stacks = phase_stacks f.phase; heaps = phase_heaps f.phase }
 
-  -- what a live grant has
+  -- What a live grant has of the pool.
   abbrev pub held_by_grant : Grant P H → Holding
   held_by_grant g = record { places = λ t. grant_count t g; instances = grant_instances g; components = grant_components g; memories = grant_memories g; tables = grant_tables g; stacks = grant_stacks g; heaps = grant_heaps g }
 

@@ -82,7 +82,7 @@ impl<P: Pages, H: GcHeap> PoolCore<P, H> {
     ) -> Option<Outcome<P, H>>
         requires taken { frame.old.queues < queues_searched self.old.plan }
         requires plan { HasAllocators self.old.plan frame.old.stripe }
-        requires tries { CanTryQueue self.old.plan frame.old.home }
+        requires tries { CanTryQueue self.old.plan }
         requires queue { IsAt IsQueuePart (queue_tried frame.old.queues self.old.plan frame.old) self.old.parts }
         requires spare { IsSpareOf (queue_at (queue_tried frame.old.queues self.old.plan frame.old) self.old) frame.old.local }
         ensures { ◌≡◌ {A = After P H} (record { core = self.new; frame = frame.new; outcome = result }) (stepped (in_queue (queue_tried frame.old.queues self.old.plan frame.old) self.old (take_queue_on self.old.plan (queue_at (queue_tried frame.old.queues self.old.plan frame.old) self.old) frame.old))) }

@@ -113,7 +113,7 @@ impl<P: Pages, H: GcHeap> PoolCore<P, H> {
 
     // The frame takes the queue, and gives back an instance of nothing, for which the queue is flushed.
     fn begin_flush(&mut self, frame: &mut Frame<P, H>, at: u32)
-        requires queues { CanTryQueue self.old.plan 0 }
+        requires queues { CanTryQueue self.old.plan }
         requires queue { IsAt IsQueuePart (nth_queue at self.old) self.old.parts }
         requires spare { IsSpareOf (queue_at (nth_queue at self.old) self.old) frame.old.local }
         requires counts { self.old.counters.core_instances + 1 < 2 ^ 64 }

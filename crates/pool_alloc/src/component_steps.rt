@@ -1,5 +1,5 @@
 ghost use Rattle.std.specs.Prelude.{◌≡◌, ◌+◌, ◌<◌, ◌^◌};
-ghost use Rattle.pool_pages.specs.declared.unsupported.Unsupported.{Unsupported};
+ghost use Rattle.pool_types.specs.declared.unsupported.Unsupported.{Unsupported};
 ghost use Rattle.pool_alloc.specs.Rows.{validate_component_row, count_component_row, uncount_component_row};
 ghost use Rattle.pool_alloc.specs.Turns.{After, stepped};
 
@@ -7,8 +7,9 @@ use crate::frame::{Frame, Grant, Outcome, Phase};
 use crate::frame_turns::answer_of;
 use crate::pool_core::PoolCore;
 use crate::size_rules::component_refused;
-use pool_pages::{ComponentInfo, Pages};
+use pool_pages::Pages;
 use pool_slots::{AllocError, ConcurrencyKind, GcHeap, PoolConcurrencyLimitError};
+use pool_types::ComponentInfo;
 
 // A component has nothing of the pool. It is tested, and counted while it is granted.
 impl<P: Pages, H: GcHeap> PoolCore<P, H> {

@@ -23,7 +23,7 @@ impl<P: Pages, H: GcHeap> PoolCore<P, H> {
     // Appends the local queue to the home queue.
     #[inline(never)]
     pub(crate) fn merge(&mut self, alloc: Global, frame: &mut Frame<P, H>) -> Option<Outcome<P, H>>
-        requires tries { CanTryQueue self.old.plan frame.old.home }
+        requires tries { CanTryQueue self.old.plan }
         requires queue { IsAt IsQueuePart (queue_tried 0 self.old.plan frame.old) self.old.parts }
         requires can { CanMerge (queue_at (queue_tried 0 self.old.plan frame.old) self.old) frame.old.local }
         ensures { ◌≡◌ {A = After P H} (record { core = self.new; frame = frame.new; outcome = result }) (stepped (in_queue (queue_tried 0 self.old.plan frame.old) self.old (merge_on self.old.settings (queue_at (queue_tried 0 self.old.plan frame.old) self.old) frame.old))) }

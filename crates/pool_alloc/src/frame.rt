@@ -6,8 +6,9 @@ use crate::reserved::ReservedList;
 use crate::stack_lease::StackLease;
 use crate::table_lease::TableLease;
 use pool_images::{MemoryImageSlot, ModuleMemoryImages};
-use pool_pages::{CompiledModuleId, ComponentInfo, MemoryType, ModuleInfo, PageRegion, Pages};
+use pool_pages::{PageRegion, Pages};
 use pool_slots::{AllocError, DecommitQueue, GcHeap, ImageSlot, RegionNumbers, SlotName};
+use pool_types::{CompiledModuleId, ComponentInfo, MemoryType, ModuleInfo};
 use std::marker::Model;
 use std::sync::Arc;
 

@@ -12,8 +12,9 @@ use crate::frame::{Asked, Call, Ending, Frame, Grant, Object, Phase};
 use crate::purge::{PurgeCursor, PurgeStep};
 use crate::release::ReleaseStep;
 use pool_index::{MemoryInModule, SlotKind};
-use pool_pages::{DefinedMemoryIndex, PageCalls, Pages};
+use pool_pages::{PageCalls, Pages};
 use pool_slots::GcHeap;
+use pool_types::DefinedMemoryIndex;
 
 impl<P: Pages, H: GcHeap> Frame<P, H> {
     /// Begins a call. Takes no memory.

@@ -19,11 +19,12 @@ use crate::part_calls::{free_in, put_heap_in, take_heap_in};
 use crate::pool_core::PoolCore;
 use crate::validations::type_refused;
 use pool_index::SlotKind;
-use pool_pages::{Pages, Unsupported};
+use pool_pages::Pages;
 use pool_slots::{
     AllocError, GcHeap, GcHeapAllocationIndex, HeapMakeFault, HeapMaker, MemoryAllocationIndex,
     RegionNumbers, SlotName,
 };
+use pool_types::Unsupported;
 use std::alloc::Global;
 
 impl<P: Pages, H: GcHeap> PoolCore<P, H> {

@@ -1,28 +1,25 @@
 ghost use Rattle.std.specs.Prelude.{◌≡◌, ◌<◌, ℕ, Option, None, Result, IfErr, IfSome, List, option_map};
 ghost use Rattle.pool_images.specs.Images.{Image};
-ghost use Rattle.pool_pages.specs.declared.module_types.ComponentInfo.{ComponentInfo};
-ghost use Rattle.pool_pages.specs.declared.module_types.MemoryTunables.{MemoryTunables};
-ghost use Rattle.pool_pages.specs.declared.module_types.MemoryType.{MemoryType};
-ghost use Rattle.pool_pages.specs.declared.module_types.ModuleInfo.{ModuleInfo};
-ghost use Rattle.pool_pages.specs.declared.module_types.Tunables.{Tunables};
-ghost use Rattle.pool_pages.specs.declared.table_type.TableType.{TableType};
-ghost use Rattle.pool_pages.specs.declared.unsupported.Unsupported.{Unsupported};
+ghost use Rattle.pool_types.specs.declared.module_types.ComponentInfo.{ComponentInfo};
+ghost use Rattle.pool_types.specs.declared.module_types.MemoryTunables.{MemoryTunables};
+ghost use Rattle.pool_types.specs.declared.module_types.MemoryType.{MemoryType};
+ghost use Rattle.pool_types.specs.declared.module_types.ModuleInfo.{ModuleInfo};
+ghost use Rattle.pool_types.specs.declared.module_types.Tunables.{Tunables};
+ghost use Rattle.pool_types.specs.declared.table_type.TableType.{TableType};
+ghost use Rattle.pool_types.specs.declared.unsupported.Unsupported.{Unsupported};
 ghost use Rattle.pool_slots.specs.declared.errors.AllocError.{AllocError};
 ghost use Rattle.pool_slots.specs.HeapsTold.{HeapsTold};
-ghost use Rattle.pool_pages.specs.MemoryTypes.{refused_limits};
-ghost use Rattle.pool_alloc.specs.OnDemandInstances.{IsModule, AreImagesOf};
-ghost use Rattle.pool_alloc.specs.OnDemandAnswers.{IsLimit};
-ghost use Rattle.pool_alloc.specs.OnDemandRefusals.{refused_by};
-ghost use Rattle.pool_alloc.specs.Requests.{IsMemoryOf, IsSameRequest, lent, kind_for, image_for};
+ghost use Rattle.pool_types.specs.MemoryTypes.{refused_limits};
+ghost use Rattle.pool_alloc.specs.Requests.{IsModule, AreImagesOf, IsLimit, refused_by, IsMemoryOf, IsSameRequest, lent, kind_for, image_for};
 
 use crate::request::InstanceAllocationRequest;
 use pool_index::ShardId;
 use pool_limits::ResourceLimiter;
-use pool_pages::{
+use pool_slots::{AllocError, HeapMaker, MemoryAllocationIndex};
+use pool_types::{
     CompiledModuleId, ComponentInfo, DefinedMemoryIndex, MemoryTunables, MemoryType, ModuleInfo,
     TableType, Unsupported,
 };
-use pool_slots::{AllocError, HeapMaker, MemoryAllocationIndex};
 use std::alloc::Global;
 
 /// What gives instances their memories, tables, stacks and heaps, and takes them back. Each call is made in one caller's

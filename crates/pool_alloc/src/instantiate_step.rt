@@ -1,6 +1,6 @@
 ghost use Rattle.std.specs.Prelude.{◌≡◌, ◌<◌, ◌≤◌, ◌^◌, length, slice_get, slice_index_or, Bool, None, Some, IfSome, IsSome, option_map, if◌then◌else◌};
 ghost use Rattle.std.specs.Arc.{arc_value};
-ghost use Rattle.pool_pages.specs.MemoryTypes.{minimum_byte_size};
+ghost use Rattle.pool_types.specs.MemoryTypes.{minimum_byte_size};
 ghost use Rattle.pool_images.specs.Slots.{Slot, IsClean, FitsInto, hides};
 ghost use Rattle.pool_alloc.specs.Answers.{InstantiatesAs, InstantiatesFor, FollowsPlan, FollowsPlanFor};
 ghost use Rattle.pool_alloc.specs.Rows.{instantiate_row};
@@ -13,8 +13,9 @@ ghost use Rattle.pool_alloc.specs.declared.pool_core.PoolCore.{PoolCore};
 use crate::frame::{Asked, Frame, ModuleCall, Outcome, Phase, TakenSlot};
 use crate::pool_core::PoolCore;
 use pool_images::{MemoryImage, MemoryImageSlot};
-use pool_pages::{DefinedMemoryIndex, MemoryTunables, MemoryType, Pages};
+use pool_pages::Pages;
 use pool_slots::{AllocError, GcHeap, ImageSlot};
+use pool_types::{DefinedMemoryIndex, MemoryTunables, MemoryType};
 use std::sync::Arc;
 
 impl ModuleCall {

@@ -1,62 +1,88 @@
-//! The pooling allocator, a step at a time, and the allocator that makes each thing for the call that asks for it.
+//! The pooling allocator, a step at a time.
+//!
+//! Read `PoolCore` first: a list of parts, counters and settings. A caller has a `Frame`; `Frame::begin` begins a
+//! `Call`, and each `PoolCore::step` makes one step of it, until one answers with an `Outcome`. A step changes at most
+//! one part. A `Grant` holds leases (`InstanceLease`, `MemoryLease`, `TableLease`, `StackLease`, `HeapLease`), which
+//! are read and written without the pool and given back with `Call::GiveBack`. `InstanceAllocator` is the trait of
+//! allocators with one call for each request; `pool_on_demand` implements it, and this pool doesn't.
+//!
+//! To add a step touch `Phase` in `frame.rt`, its code in a `*_steps.rt` and its call in `step.rt`; then its row in
+//! `specs/Rows.antt`, and its share of `specs/Bounds.antt`, `specs/Places.antt` and `specs/Sound.antt`.
+//!
+//! From Wasmtime: `vm/instance/allocator.rs`, and under it `pooling.rs` and the calls of `pooling/`. It stands on
+//! `pool_slots` and the crates below it.
+//!
+//! ```rust
+//! frame.begin(Call::Stack);
+//! let outcome = core.step(alloc, &mut frame, limiter, &mut heaps);
+//! ```
 #![tactic(auto)]
 
-mod allocate_steps;
-mod cell_steps;
+// The core, and how it begins and ends
 mod closing;
-mod component_steps;
-mod flush_steps;
+mod making;
+mod metrics;
+mod parts;
+mod pool_core;
+mod stripes;
+
+// A caller's frame
 mod frame;
 mod frame_calls;
 mod frame_turns;
-mod freeing;
-mod given_answer;
-mod heap_lease;
-mod heap_steps;
-mod holders;
-mod instance_allocator;
-mod instantiate_step;
-mod lease;
-mod make_step;
-mod making;
-mod metrics;
-mod on_demand;
-mod on_demand_allocator;
-mod on_demand_instance;
-mod on_demand_lease;
-mod on_demand_memory;
-mod on_demand_stack;
-mod on_demand_table;
-mod on_demand_turns;
-mod on_demand_validate;
+mod reserved;
+
+// The step, and the part that it is on
 mod part_at;
 mod part_calls;
 mod part_steps;
-mod parts;
-mod pool_core;
-mod purge;
-mod purge_steps;
-mod queue_steps;
-mod refused;
-mod region_steps;
-mod release;
-mod release_steps;
-mod request;
-mod reserved;
-mod reset_step;
-mod shard_steps;
-mod size_rules;
-mod stack_lease;
-mod stack_steps;
 mod step;
-mod stripes;
-mod table_element;
-mod table_lease;
-mod table_rules;
+
+// Steps of a request
+mod allocate_steps;
+mod cell_steps;
+mod component_steps;
+mod heap_steps;
+mod instantiate_step;
+mod make_step;
+mod shard_steps;
+mod stack_steps;
 mod table_steps;
 mod validate_step;
-mod validations;
+
+// Steps of a give-back
+mod flush_steps;
+mod freeing;
+mod queue_steps;
+mod region_steps;
+mod reset_step;
+
+// Steps of a purge and of a release
+mod purge;
+mod purge_steps;
+mod release;
+mod release_steps;
 mod warm_slots;
+
+// What is granted
+mod heap_lease;
+mod lease;
+mod stack_lease;
+mod table_element;
+mod table_lease;
+
+// Rules by which a request is refused
+mod size_rules;
+mod table_rules;
+mod validations;
+
+// The trait of allocators, and its requests
+mod instance_allocator;
+mod request;
+
+// Laws
+mod holders;
+mod refused;
 
 pub use frame::{
     Asked, Call, Frame, FrameLists, Grant, ModuleCall, Object, Outcome, Phase, TakenSlot,
@@ -65,11 +91,6 @@ pub use heap_lease::HeapLease;
 pub use instance_allocator::InstanceAllocator;
 pub use lease::{InstanceLease, MemoryLease};
 pub use metrics::Metrics;
-pub use on_demand::OnDemandInstanceAllocator;
-pub use on_demand_allocator::OnDemandSeat;
-pub use on_demand_lease::{
-    OnDemandHeap, OnDemandInstance, OnDemandMemory, OnDemandStack, OnDemandTable,
-};
 pub use pool_core::{Counters, PoolCore, Settings};
 pub use purge::{PurgeCursor, PurgeStep};
 pub use release::{ReleaseCursor, ReleaseStep};
@@ -79,4 +100,6 @@ pub use size_rules::instance_size;
 pub use stack_lease::StackLease;
 pub use table_element::{Element, element_at, set_elements};
 pub use table_lease::TableLease;
-pub use validate_step::offsets_refused;
+pub use table_rules::table_limits_refused;
+pub use validate_step::{limits_refused, offsets_refused};
+pub use validations::refused_by;

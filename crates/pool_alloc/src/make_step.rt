@@ -1,6 +1,6 @@
 ghost use Rattle.std.specs.Prelude.{◌≡◌, ◌^◌, ◌<◌, ◌≤◌, [], ◌∷◌, length, Bool, Result, Some, None};
-ghost use Rattle.pool_pages.specs.Count.{rounded_up};
-ghost use Rattle.pool_pages.specs.MemoryTypes.{minimum_byte_size, refused_limits};
+ghost use Rattle.pool_types.specs.Count.{rounded_up};
+ghost use Rattle.pool_types.specs.MemoryTypes.{minimum_byte_size, refused_limits};
 ghost use Rattle.pool_limits.specs.Growth.{memory_answer};
 ghost use Rattle.pool_limits.specs.LimiterTold.{after_answer};
 ghost use Rattle.pool_limits.specs.Exchanges.{Exchanged, may_grow};
@@ -21,8 +21,9 @@ use crate::pool_core::{PoolCore, Settings};
 use pool_images::MemoryImageSlot;
 use pool_limits::ResourceLimiter;
 use pool_memory::{Memory, MemoryError, StaticMemory};
-use pool_pages::{MemoryType, Pages};
+use pool_pages::Pages;
 use pool_slots::{AllocError, GcHeap, ImageSlot, MemoryAllocationIndex};
+use pool_types::MemoryType;
 
 // A memory in its slot, or the slot of a memory that is refused.
 type Making<P> = Result<Memory<(), StaticMemory<P>>, (MemoryImageSlot<P>, MemoryError)>;

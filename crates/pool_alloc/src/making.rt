@@ -1,7 +1,7 @@
 ghost use Rattle.std.specs.Prelude.{◌≡◌, ◌+◌, ◌^◌, ◌≤◌, false, None, IfOk, IfErr, IfSome, OnOk, MatchResult};
-ghost use Rattle.pool_pages.specs.Count.{count, rounded_up};
+ghost use Rattle.pool_types.specs.Count.{count, rounded_up};
 ghost use Rattle.pool_pages.specs.MakerTold.{MakerTold};
-ghost use Rattle.pool_pages.specs.SettingsRules.{first_broken_rule, slab_stripes, IsWithinRules};
+ghost use Rattle.pool_types.specs.SettingsRules.{first_broken_rule, slab_stripes, IsWithinRules};
 ghost use Rattle.pool_slots.specs.Colourings.{RaisesUnlessGivenUp, RaisesBehindUnlessGivenUp};
 ghost use Rattle.pool_slots.specs.Makings.{IsListedPoolFault};
 ghost use Rattle.pool_alloc.specs.Calls.{frame_made, frame_over, lists_made};
@@ -15,13 +15,14 @@ use crate::parts::Parts;
 use crate::pool_core::{Counters, PoolCore, Settings};
 use crate::reserved::ReservedList;
 use crate::stripes::num_stripes;
-use pool_pages::{
-    HostAlignedByteCount, MemoryKind, MemoryTunables, Offered, PageMaker, PageSize, Pages,
-    PoolingAllocationConfig, Tunables,
-};
+use pool_pages::{PageMaker, Pages};
 use pool_slots::{
     DecommitQueue, GcHeap, OfKinds, PartSettings, PoolNewError, StripedPlanSettings, make_parts,
     make_striped_plan,
+};
+use pool_types::{
+    HostAlignedByteCount, MemoryKind, MemoryTunables, Offered, PageSize, PoolingAllocationConfig,
+    Tunables,
 };
 use std::alloc::{AllocError, Global};
 

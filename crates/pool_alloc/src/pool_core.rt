@@ -1,7 +1,8 @@
 use crate::frame::FrameLists;
 use crate::parts::Parts;
-use pool_pages::{DecommitBehavior, HostAlignedByteCount, MemoryTunables, PageSize, Pages};
+use pool_pages::Pages;
 use pool_slots::{GcHeap, Plan};
+use pool_types::{DecommitBehavior, HostAlignedByteCount, MemoryTunables, PageSize};
 
 /// How many grants of a kind there are, and how many calls on the key counter there were.
 #[derive(Clone, Copy, Debug, PartialEq, Eq)]

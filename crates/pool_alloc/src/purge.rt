@@ -6,8 +6,9 @@ ghost use Rattle.pool_alloc.specs.Sums.{calls_in_purge};
 use crate::frame::TakenSlot;
 use crate::pool_core::Settings;
 use pool_index::MemoryInModule;
-use pool_pages::{CompiledModuleId, DefinedMemoryIndex, PageCalls, Pages};
+use pool_pages::{PageCalls, Pages};
 use pool_slots::{Allocator, ImageSlot, Plan, SlotName};
+use pool_types::{CompiledModuleId, DefinedMemoryIndex};
 
 /// How far a purge has come. It goes through the stripes, and in each through the memories that a module may have.
 #[derive(Clone, Copy, Debug, PartialEq, Eq)]

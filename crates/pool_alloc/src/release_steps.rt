@@ -18,8 +18,9 @@ use crate::release::{ReleaseCursor, ReleaseStep};
 use crate::reserved::ReservedList;
 use pool_images::MemoryImageSlot;
 use pool_index::Taken;
-use pool_pages::{HostAlignedByteCount, Pages};
+use pool_pages::Pages;
 use pool_slots::{AllocError, Allocator, GcHeap, ImageSlot, Plan};
+use pool_types::HostAlignedByteCount;
 use std::alloc::Global;
 
 impl<P: Pages, H: GcHeap> PoolCore<P, H> {

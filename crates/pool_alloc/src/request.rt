@@ -1,5 +1,5 @@
 use pool_images::ModuleMemoryImages;
-use pool_pages::{CompiledModuleId, ModuleInfo, Tunables};
+use pool_types::{CompiledModuleId, ModuleInfo, Tunables};
 
 /// What an allocation is for: a module and its images, the settings, and who is asked how large its memories and tables may
 /// be. An allocator that has no stripes takes no notice of `stripe`.

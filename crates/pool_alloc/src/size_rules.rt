@@ -2,7 +2,7 @@ ghost use Rattle.std.specs.Prelude.{◌≡◌};
 ghost use Rattle.pool_alloc.specs.Refusals.{instance_size, size_refused, component_size_refused, component_refused};
 
 use crate::pool_core::Settings;
-use pool_pages::{ComponentInfo, ModuleInfo, Unsupported};
+use pool_types::{ComponentInfo, ModuleInfo, Unsupported};
 
 /// How many bytes the state of an instance of the module takes. Stands still at the end of its type.
 pub fn instance_size(info: &ModuleInfo) -> u64

@@ -1,5 +1,5 @@
 ghost use Rattle.std.specs.Prelude.{◌≡◌, ◌≤◌, ◌^◌, ◌<◌, ◌+◌, false};
-ghost use Rattle.pool_pages.specs.Count.{count};
+ghost use Rattle.pool_types.specs.Count.{count};
 ghost use Rattle.pool_slots.specs.PlainSlots.{IsPlain};
 ghost use Rattle.pool_slots.specs.SlotQueues.{plain_slot};
 ghost use Rattle.pool_slots.specs.declared.errors.AllocError.TheVariants as refusal;
@@ -16,8 +16,9 @@ use crate::pool_core::{PoolCore, Settings};
 use crate::reset_step::was_reset;
 use crate::stack_lease::StackLease;
 use pool_images::Ranges;
-use pool_pages::{HostAlignedByteCount, PageRegion, Pages};
+use pool_pages::{PageRegion, Pages};
 use pool_slots::{AllocError, DecommitQueue, GcHeap, QueueKind, Stack};
+use pool_types::HostAlignedByteCount;
 use std::alloc::Global;
 
 impl<P: Pages, H: GcHeap> PoolCore<P, H> {

@@ -1,12 +1,12 @@
 //! In how many stripes the memory slots of a pool lie.
 ghost use Rattle.std.specs.Prelude.{◌≡◌, ◌<◌, ◌≤◌, true};
-ghost use Rattle.pool_pages.specs.SettingsRules.{keys_used, slab_fits, slab_stripes};
+ghost use Rattle.pool_types.specs.SettingsRules.{keys_used, slab_fits, slab_stripes};
 ghost use Rattle.pool_slots.specs.Slabs.{settings_slab};
 
-use pool_pages::{
+use pool_slots::{SlabConstraints, calculate};
+use pool_types::{
     Enabled, HostAlignedByteCount, Offered, PageSize, PoolingAllocationConfig, Tunables,
 };
-use pool_slots::{SlabConstraints, calculate};
 
 // How many stripes the layout of the slots has, one where the pool uses no protection keys.
 pub(crate) fn num_stripes(

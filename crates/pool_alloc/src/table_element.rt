@@ -3,8 +3,9 @@ ghost use Rattle.pool_table.specs.TableStates.{table_view, is_static_table};
 ghost use Rattle.pool_alloc.specs.TableLeases.{element_of, CanBeSet, HasType, IsElementAt, IsSet};
 
 use pool_limits::Trap;
-use pool_pages::{Pages, TableElementType};
+use pool_pages::Pages;
 use pool_table::{ContTableElem, FuncTableElem, GcStore, GcTableError, Table};
+use pool_types::TableElementType;
 
 /// An element of a table.
 #[derive(Clone, Copy, Debug, PartialEq, Eq)]

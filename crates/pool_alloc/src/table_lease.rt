@@ -7,9 +7,10 @@ ghost use Rattle.pool_alloc.specs.Sums.{table_calls};
 use crate::reserved::ReservedList;
 use crate::table_element::{Element, element_at, set_elements};
 use pool_limits::{GrowFault, ResourceLimiter, Trap};
-use pool_pages::{PageCalls, Pages, TableElementType};
+use pool_pages::{PageCalls, Pages};
 use pool_slots::{RegionNumbers, TableAllocationIndex};
 use pool_table::{GcStore, GcTableError, Table};
+use pool_types::TableElementType;
 use std::marker::Model;
 
 /// A table that was granted, and its slot. It must be given back, or its slot stays used for good.

@@ -1,13 +1,13 @@
 ghost use Rattle.std.specs.Prelude.{◌≡◌, ◌<◌, ◌^◌, length};
-ghost use Rattle.pool_pages.specs.MemoryTypes.{refused_limits};
+ghost use Rattle.pool_types.specs.MemoryTypes.{refused_limits};
 ghost use Rattle.pool_alloc.specs.Refusals.{first_refused, tables_refused, long_table};
 
 use crate::pool_core::Settings;
-use pool_pages::{TableType, Unsupported};
+use pool_types::{TableType, Unsupported};
 
 /// The refusal of the first table of which the minimum exceeds the maximum.
 #[tactic(auto, using(crate::proofs::Refusing::refused_here, crate::proofs::Refusing::refused_later, crate::proofs::Refusing::refused_nowhere))]
-pub(crate) fn table_limits_refused(tables: &[TableType]) -> Option<Unsupported>
+pub fn table_limits_refused(tables: &[TableType]) -> Option<Unsupported>
     ensures { result ≡ first_refused (λ ty. refused_limits ty.limits) tables.now }
 {
     for ty in tables {

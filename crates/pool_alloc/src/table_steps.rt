@@ -17,12 +17,13 @@ use crate::pool_core::{PoolCore, Settings};
 use crate::table_lease::TableLease;
 use pool_images::Ranges;
 use pool_limits::ResourceLimiter;
-use pool_pages::{HostAlignedByteCount, PageRegion, PageSize, Pages, TableType, Tunables};
+use pool_pages::{PageRegion, Pages};
 use pool_slots::{
     AllocError, DecommitQueue, GcHeap, HeldSlot, ImageSlot, PlainSlot, QueueKind, QueuedSlot,
     TableAllocationIndex, data_size,
 };
 use pool_table::{ElementSize, Table, TableError};
+use pool_types::{HostAlignedByteCount, PageSize, TableType, Tunables};
 
 /// A table in its slot, or the region of one that is refused.
 type TableMaking<P> = Result<TableLease<P>, (PageRegion<P>, AllocError)>;

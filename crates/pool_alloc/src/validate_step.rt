@@ -1,5 +1,5 @@
 ghost use Rattle.std.specs.Prelude.{◌≡◌, ◌<◌, ◌%◌, ◌==◌, Bool, Some, None, if◌then◌else◌, [], length, IfOk};
-ghost use Rattle.pool_pages.specs.MemoryTypes.{refused_limits};
+ghost use Rattle.pool_types.specs.MemoryTypes.{refused_limits};
 ghost use Rattle.pool_slots.specs.declared.errors.AllocError.TheVariants as refusal;
 ghost use Rattle.pool_alloc.specs.CanStep.{CanValidate};
 ghost use Rattle.pool_alloc.specs.Refusals.{first_refused, offset_refused, number_refused, memory_refused, tables_refused, long_table, objects_refused, module_refused};
@@ -15,10 +15,9 @@ use crate::pool_core::{PoolCore, Settings};
 use crate::reserved::ReservedList;
 use crate::size_rules::size_refused;
 use crate::table_rules::{long_table, table_limits_refused, tables_refused};
-use pool_pages::{
-    ImageDecl, MemoryDecl, MemoryType, ModuleInfo, PageSize, Pages, TableType, Unsupported,
-};
+use pool_pages::Pages;
 use pool_slots::{AllocError, GcHeap};
+use pool_types::{ImageDecl, MemoryDecl, MemoryType, ModuleInfo, PageSize, TableType, Unsupported};
 use std::alloc::Global;
 
 impl<P: Pages, H: GcHeap> PoolCore<P, H> {
@@ -182,7 +181,7 @@ fn offset_of(page: PageSize, offset: u64) -> Option<Unsupported>
 }
 
 #[tactic(auto, using(crate::proofs::Refusing::refused_here, crate::proofs::Refusing::refused_later, crate::proofs::Refusing::refused_nowhere))]
-pub(crate) fn limits_refused(decls: &[MemoryDecl]) -> Option<Unsupported>
+pub fn limits_refused(decls: &[MemoryDecl]) -> Option<Unsupported>
     ensures { result ≡ first_refused (λ d. refused_limits d.ty.limits) decls.now }
 {
     for decl in decls {

@@ -1,14 +1,14 @@
 ghost use Rattle.std.specs.Prelude.{◌≡◌, ◌<◌};
 ghost use Rattle.pool_alloc.specs.CanStep.{CanValidate};
-ghost use Rattle.pool_alloc.specs.OnDemandRefusals.{refused_by};
+ghost use Rattle.pool_alloc.specs.Requests.{refused_by};
 ghost use Rattle.pool_alloc.specs.Refusals.{module_refused, type_refused, component_refused};
 
-use crate::on_demand_allocator::refused_by;
 use crate::pool_core::{PoolCore, Settings};
 use crate::size_rules::component_refused;
 use crate::validate_step::{memory_refused, module_refused};
-use pool_pages::{ComponentInfo, MemoryType, ModuleInfo, Pages, Unsupported};
+use pool_pages::Pages;
 use pool_slots::{AllocError, GcHeap};
+use pool_types::{ComponentInfo, MemoryType, ModuleInfo, Unsupported};
 
 // What the pool refuses whatever is live. The refusals tell the first rule that is broken. No call takes memory.
 impl<P: Pages, H: GcHeap> PoolCore<P, H> {
@@ -43,5 +43,15 @@ pub(crate) fn type_refused(settings: &Settings, ty: &MemoryType) -> Option<Unsup
     match ty.check() {
         Err(rule) => Some(rule),
         Ok(()) => memory_refused(settings, ty),
+    }
+}
+
+/// Refused exactly for the rule that is broken, if there is one.
+pub fn refused_by(rule: Option<Unsupported>) -> Result<(), AllocError>
+    ensures { result ≡ refused_by rule }
+{
+    match rule {
+        None => Ok(()),
+        Some(rule) => Err(AllocError::Unsupported(rule)),
     }
 }

@@ -1,1 +1,1 @@
-pub mod FreshSlots
+mod Imports

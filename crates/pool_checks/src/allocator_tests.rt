@@ -1,5 +1,5 @@
 //! Index allocators, by one caller and by two threads.
-ghost use Rattle.std.specs.Prelude.{◌≡◌, ℕ, ◌<◌, ◌≤◌, [], OnOk, IfSome, length, map};
+ghost use Rattle.std.specs.Prelude.{◌≡◌, ℕ, ◌<◌, ◌≤◌, [], OnOk, length, map};
 ghost use Rattle.std.specs.Thread.{IsSync};
 ghost use Rattle.pool_hall.specs.declared.unit_name.UnitName.{UnitName};
 ghost use Rattle.pool_hall.specs.Seat.{view};
@@ -8,29 +8,13 @@ ghost use Rattle.pool_hall.specs.declared.unit_name.SlotKind.TheVariants.{Memory
 ghost use Rattle.pool_hall.specs.Unit.{pick_unit, times};
 ghost use Rattle.pool_index.specs.Freed.{HasAll};
 
-use pool_index::{
-    IndexSeat, MemoryInModule, ModuleAffinityIndexAllocator, ShardId, SimpleIndexAllocator, SlotId,
-};
-use pool_pages::{CompiledModuleId, DefinedMemoryIndex};
+use pool_index::{IndexSeat, MemoryInModule, ModuleAffinityIndexAllocator, ShardId, SlotId};
+use pool_types::{CompiledModuleId, DefinedMemoryIndex};
 use std::alloc::Global;
 use std::sync::Wait;
 use std::test::*;
 use std::thread;
 use std::thread::Threads;
-
-const ROUNDS: [([u64; 3], [u32; 3]); 7] = [
-    ([1, 0, 0], [0, 10, 10]),
-    ([2, 0, 0], [1, 10, 10]),
-    ([3, 0, 0], [0, 10, 10]),
-    ([2, 1, 0], [1, 2, 10]),
-    ([1, 2, 3], [1, 2, 0]),
-    ([4, 5, 6], [1, 2, 3]),
-    ([3, 0, 0], [0, 10, 10]),
-];
-
-fn memory_of(module: u64) -> Option<MemoryInModule> {
-    Some(MemoryInModule(CompiledModuleId(module), DefinedMemoryIndex(0)))
-}
 
 // Allocates a slot for a module's memory, and keeps it among those that are held.
 fn allocate<R: Wait>(
@@ -45,24 +29,14 @@ fn allocate<R: Wait>(
     ensures seat { OnOk result (IsIndexSeat allocator.now seat.new) }
     ensures held { OnOk result (HasAll (map (λ s. pick_unit Memory s.0) held.new.items) (view seat.new)) }
 {
-    match allocator.alloc(rt, seat, ShardId(0), memory_of(module)) {
+    let memory = MemoryInModule(CompiledModuleId(module), DefinedMemoryIndex(0));
+    match allocator.alloc(rt, seat, ShardId(0), Some(memory)) {
         Ok(slot) => {
             held.push(slot)?;
             Ok(Some(slot.0))
         }
         Err(_) => Ok(None),
     }
-}
-
-fn position(held: &[SlotId], slot: u32) -> Option<usize>
-    ensures { IfSome result (λ at. at < length held.now) }
-{
-    for at in 0..held.len() {
-        if held[at].0 == slot {
-            return Some(at);
-        }
-    }
-    None
 }
 
 // Frees the slot at this place among those that are held.
@@ -83,109 +57,94 @@ fn free_at<R: Wait>(
     allocator.free(rt, seat, slot, 0);
 }
 
-// Frees a slot, if it is held.
-fn give_back<R: Wait>(
-    rt: &R,
-    allocator: &ModuleAffinityIndexAllocator,
-    seat: &mut IndexSeat,
-    held: &mut Vec<SlotId>,
-    slot: u32,
-)
-    requires seat { IsIndexSeat allocator.now seat.old }
-    requires held { HasAll (map (λ s. pick_unit Memory s.0) held.old.items) (view seat.old) }
-    ensures seat { IsIndexSeat allocator.now seat.new }
-    ensures held { HasAll (map (λ s. pick_unit Memory s.0) held.new.items) (view seat.new) }
-{
-    if let Some(at) = position(held.as_slice(), slot) {
-        free_at(rt, allocator, seat, held, at);
-    }
-}
-
-// Allocates for these modules, and then frees these slots, as far as they are held. No module has the number 0.
-fn round<R: Wait>(
-    rt: &R,
-    allocator: &ModuleAffinityIndexAllocator,
-    seat: &mut IndexSeat,
-    held: &mut Vec<SlotId>,
-    picked: &mut Vec<Option<u32>>,
-    modules: [u64; 3],
-    slots: [u32; 3],
-) -> Result<(), Fail>
-    requires seat { IsIndexSeat allocator.now seat.old }
-    requires held { HasAll (map (λ s. pick_unit Memory s.0) held.old.items) (view seat.old) }
-    ensures seat { OnOk result (IsIndexSeat allocator.now seat.new) }
-    ensures held { OnOk result (HasAll (map (λ s. pick_unit Memory s.0) held.new.items) (view seat.new)) }
-{
-    for at in 0..3 {
-        if modules[at] != 0 {
-            picked.push(allocate(rt, allocator, seat, held, modules[at])?)?;
-        }
-    }
-    for at in 0..3 {
-        give_back(rt, allocator, seat, held, slots[at]);
-    }
-    Ok(())
-}
-
-fn orders<R: Wait>(
+// Each pair allocates a slot for a module, or, where that is 0, frees the slot at a place among those that are held. Answers
+// which slots were allocated.
+fn play<R: Wait>(
     rt: &R,
     alloc: Global,
     allocator: &ModuleAffinityIndexAllocator,
-    mut seat: IndexSeat,
+    seat: &mut IndexSeat,
+    calls: &[(u64, usize)],
 ) -> Result<Vec<Option<u32>>, Fail>
-    requires seat { IsIndexSeat allocator.now seat }
+    requires seat { IsIndexSeat allocator.now seat.old }
+    ensures seat { OnOk result (IsIndexSeat allocator.now seat.new) }
 {
     let mut held = Vec::new(alloc);
     let mut picked = Vec::new(alloc);
-    for at in 0..ROUNDS.len() {
-        let (modules, slots) = ROUNDS[at];
-        round(
-            rt,
-            allocator,
-            &mut seat,
-            &mut held,
-            &mut picked,
-            modules,
-            slots,
-        )?;
+    for at in 0..calls.len() {
+        let (module, place) = calls[at];
+        if module != 0 {
+            picked.push(allocate(rt, allocator, seat, &mut held, module)?)?;
+        } else if place < held.len() {
+            free_at(rt, allocator, seat, &mut held, place);
+        }
     }
     Ok(picked)
 }
 
+// A slot goes first to a memory that freed it. Other memories get a cold one while fewer than two are warm, and then the one
+// that is warm longest. In the end three are warm.
 #[test]
 fn affine_slots_first(rt: HostRuntime) -> Result<(), Fail> {
-    let (allocator, seat) = ModuleAffinityIndexAllocator::new(rt.alloc(), 10, 2, 1)?;
-    let picked = orders(&rt, rt.alloc(), &allocator, seat)?;
-    let mut wanted = Vec::new(rt.alloc());
+    let alloc = rt.alloc();
+    let (a, b, c, free) = ((1, 0), (2, 0), (3, 0), (0, 0));
+    let calls = [
+        a,
+        free,
+        b,
+        free,
+        c,
+        free,
+        b,
+        a,
+        free,
+        free,
+        a,
+        b,
+        c,
+        (0, 1),
+        free,
+        free,
+        (4, 0),
+        (5, 0),
+        (6, 0),
+        free,
+        free,
+        free,
+        c,
+    ];
+    let (allocator, mut seat) = ModuleAffinityIndexAllocator::new(alloc, 10, 2, 1)?;
+    let picked = play(&rt, alloc, &allocator, &mut seat, calls.as_slice())?;
+    let mut wanted = Vec::new(alloc);
     for slot in [0, 1, 0, 1, 2, 2, 1, 0, 1, 2, 3, 0] {
         wanted.push(Some(slot))?;
     }
     assert_eq!(rt; picked.as_slice(), wanted.as_slice());
-    assert_eq!(rt; allocator.len(), 10);
-    Ok(())
-}
+    let taken = allocator.take_resident_warm_slots(alloc, &rt, &mut seat)?;
+    let slots = [(SlotId(1), 0), (SlotId(2), 0), (SlotId(3), 0)];
+    assert_eq!(rt; taken.as_slice(), slots.as_slice());
+    allocator.free_many(&rt, &mut seat, taken.as_slice());
+    assert_eq!(rt; allocator.unused_warm_slots(&rt, &mut seat), 3);
+    assert_eq!(rt; allocator.unused_bytes_resident(&rt, &mut seat), 0);
+    assert!(rt; !allocator.is_empty(&rt, &mut seat));
 
-// Two slots are allocated for one memory and freed; whether one is found for it by affinity alone, three times.
-fn cleared<R: Wait>(rt: &R, alloc: Global, warm: u32) -> Result<[bool; 3], Fail> {
-    let (allocator, mut seat) = ModuleAffinityIndexAllocator::new_with_shard_count(
-        alloc, 100, warm, 1,
-    )?;
-    let mut held = Vec::new(alloc);
-    allocate(rt, &allocator, &mut seat, &mut held, 1)?;
-    allocate(rt, &allocator, &mut seat, &mut held, 1)?;
-    give_back(rt, &allocator, &mut seat, &mut held, 0);
-    give_back(rt, &allocator, &mut seat, &mut held, 1);
+    // of two slots that one memory freed each is found by affinity once, whatever may stay warm
     let (id, memory) = (CompiledModuleId(1), DefinedMemoryIndex(0));
-    let first = allocator.alloc_affine_and_clear_affinity(rt, &mut seat, id, memory);
-    let second = allocator.alloc_affine_and_clear_affinity(rt, &mut seat, id, memory);
-    let third = allocator.alloc_affine_and_clear_affinity(rt, &mut seat, id, memory);
-    Ok([first.is_some(), second.is_some(), third.is_some()])
-}
-
-#[test]
-fn affinities_are_cleared(rt: HostRuntime) -> Result<(), Fail> {
     for warm in 0..3 {
-        let found = cleared(&rt, rt.alloc(), warm)?;
+        let (allocator, mut seat) = ModuleAffinityIndexAllocator::new_with_shard_count(
+            alloc, 100, warm, 1,
+        )?;
+        play(
+            &rt,
+            alloc,
+            &allocator,
+            &mut seat,
+            [a, a, free, free].as_slice(),
+        )?;
+        let first = allocator.alloc_affine_and_clear_affinity(&rt, &mut seat, id, memory);
+        let second = allocator.alloc_affine_and_clear_affinity(&rt, &mut seat, id, memory);
+        let third = allocator.alloc_affine_and_clear_affinity(&rt, &mut seat, id, memory);
+        let found = [first.is_some(), second.is_some(), third.is_some()];
         assert_eq!(rt; found, [true, true, false]);
     }
     Ok(())
@@ -270,15 +229,5 @@ fn two_threads_take_turns(rt: HostRuntime) -> Result<(), Fail> {
     for shard in shards.iter() {
         assert!(rt; shard.is_empty());
     }
-    Ok(())
-}
-
-#[test]
-fn slots_without_affinity(rt: HostRuntime) -> Result<(), Fail> {
-    let (allocator, mut seat) = SimpleIndexAllocator::new(rt.alloc(), 1, 1)?;
-    let first = allocator.alloc(&rt, &mut seat, ShardId(7)).ok();
-    let second = allocator.alloc(&rt, &mut seat, ShardId(0)).ok();
-    assert_eq!(rt; (first, second), (Some(SlotId(0)), None));
-    assert!(rt; !allocator.is_empty(&rt, &mut seat));
     Ok(())
 }

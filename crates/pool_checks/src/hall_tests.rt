@@ -52,16 +52,6 @@ impl Slot {
     }
 }
 
-fn may_share<S: Sync>(_: &S) {}
-
-fn may_send<S: Send + Drop>(_: S) {}
-
-// Threads may share a hall and send its seats wherever its parts may be sent.
-fn crosses<T: Part>(hall: &Hall<T>, seat: HallSeat<T>) {
-    may_share(hall);
-    may_send(seat);
-}
-
 // Picks the slot where it is free.
 fn pick<R: Wait>(rt: &R, hall: &Hall<Slot>, seat: &mut HallSeat<Slot>, place: u32) -> bool
     requires own { IsSeatOf hall.now seat.old × IsFree seat.old }

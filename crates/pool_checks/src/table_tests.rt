@@ -1,139 +1,134 @@
-ghost use Rattle.std.specs.Prelude.{◌≡◌, ◌≤◌, Some, None, IfOk, IfSome};
-ghost use Rattle.pool_pages.specs.MadeRegions.{made_told};
-ghost use Rattle.pool_table.specs.Tables.{IsRoom};
-ghost use Rattle.pool_table.specs.TableStates.{IsStatic, element_type_of};
+//! Tables of each kind in lists, which ask a limiter of their host.
+ghost use Rattle.std.specs.Prelude.{◌≡◌, IfOk};
+ghost use Rattle.pool_table.specs.TableStates.{element_type_of};
 
-use pool_limits::{GrowFault, LimiterError, StoreLimits, StoreLimitsBuilder, Trap};
-use pool_pages::{
-    DecommitBehavior, HostAlignedByteCount, IndexType, Limits, MadeRegion, MemoryPages, PageMaker,
-    PageSize, Pages, PlainList, RegionName, TableElementType, TableType, Tunables,
-};
-use pool_table::{ElementSize, GcStore, GcTableError, ListedStore, Table, VMContObj};
+use pool_limits::{GrowFault, GrowthLimiter, LimiterError, ResourceLimiter};
+use pool_pages::MadeRegion;
+use pool_table::{GcTableError, ListedStore, Table, VMContObj};
+use pool_types::{IndexType, Limits, PlainList, TableElementType, TableType, Tunables};
 use std::alloc::Global;
 use std::test::Fail;
 
-const DATA: usize = 4096;
+/// Allows even sizes.
+#[derive(Debug, Drop)]
+struct EvenSizes {
+    noes: u64,
+    errors: u64,
+}
 
-// A table of at least two elements and at most five.
-fn table_type(element: TableElementType) -> TableType
-    ensures element { result.element ≡ element }
-    ensures min { result.limits.min ≡ 2 }
-    ensures max { result.limits.max ≡ Some 5 }
-{
-    TableType {
-        idx_type: IndexType::I32,
-        limits: Limits {
-            min: 2,
-            max: Some(5),
-        },
-        element,
+impl GrowthLimiter for EvenSizes {
+    ghost counts = { λ l. record { noes = l.noes; errors = l.errors } };
+
+    fn may_grow_memory(
+        &mut self,
+        _current: usize,
+        desired: usize,
+        _maximum: Option<usize>,
+    ) -> Result<bool, LimiterError> {
+        if desired % 2 == 0 {
+            return Ok(true);
+        }
+        self.noes = self.noes.saturating_add(1);
+        Ok(false)
+    }
+
+    fn may_grow_table(
+        &mut self,
+        _current: usize,
+        desired: usize,
+        _maximum: Option<usize>,
+    ) -> Result<bool, LimiterError> {
+        if desired % 2 == 0 {
+            return Ok(true);
+        }
+        self.errors = self.errors.saturating_add(1);
+        Err(LimiterError::Other(7))
+    }
+
+    fn noes_so_far(&self) -> u64 {
+        self.noes
+    }
+
+    fn errors_so_far(&self) -> u64 {
+        self.errors
     }
 }
 
-// A page of zeros that can be reached, and one that can't.
-fn room(alloc: Global) -> Result<MadeRegion, Fail>
-    ensures len { IfOk result (λ region. 4096 ≤ (made_told region).len) }
-    ensures zeros { IfOk result (λ region. IfSome (made_told region).contents (IsRoom (made_told region).page (made_told region).len 0 4096)) }
+// A lazy table in a list, of ten elements.
+fn table(
+    alloc: Global,
+    element: TableElementType,
+    even: &mut EvenSizes,
+) -> Result<Table<MadeRegion>, Fail>
+    ensures { IfOk result (λ table. element_type_of table ≡ element) }
 {
-    let page = PageSize::new(4096)?;
-    let mut maker = MemoryPages::new(page);
-    let accessible = HostAlignedByteCount::new(page, DATA)?;
-    let len = HostAlignedByteCount::new(page, 2 * DATA)?;
-    let _accessible = accessible.byte_count();
-    let _len = len.byte_count();
-    let behaviour = DecommitBehavior::RestoreOriginalMapping;
-    Ok(maker.make(alloc, RegionName::Table(0), behaviour, accessible, len)?)
-}
-
-// A lazy table of this type.
-fn table(alloc: Global, element: TableElementType) -> Result<Table<MadeRegion>, Fail>
-    ensures element_type { IfOk result (λ table. element_type_of table ≡ element) }
-    ensures static_ { IfOk result IsStatic }
-{
-    let ty = table_type(element);
-    let region = room(alloc)?;
-    match Table::new_static::<StoreLimits>(&ty, &Tunables::default(), region, DATA, None) {
+    let ty = TableType {
+        idx_type: IndexType::I64,
+        limits: Limits { min: 10, max: None },
+        element,
+    };
+    match Table::new_dynamic(alloc, &ty, &Tunables::default(), Some(even)) {
         Ok(table) => Ok(table),
-        Err((_region, _refusal)) => Err(Fail::new("the table was refused")),
+        Err(_) => Err(Fail::new("the table was refused")),
     }
 }
 
 #[test]
-fn functions_are_set_and_read(rt: HostRuntime) -> Result<(), Fail> {
-    let mut table = table(rt.alloc(), TableElementType::Func)?;
-    assert_eq!(rt;
-        (table.size(), table.maximum(), table.is_static()),
-        (2, 5, true)
-    );
-    assert_eq!(rt; table.element_type().element_size(), 8);
-    assert!(rt; table.is_all_zero());
-    assert_eq!(rt; table.get_func(0), Ok(None));
-    assert_eq!(rt; table.set_func(1, Some(6)), Ok(()));
-    assert_eq!(rt; table.get_func_maybe_init(1), Ok(Some(Some(6))));
-    assert_eq!(rt; table.fill_func(0, None, 2), Ok(()));
-    assert_eq!(rt; table.get_func(1), Ok(Some(None)));
-    assert_eq!(rt; table.fill_func(1, None, 2), Err(Trap::TableOutOfBounds));
-    assert_eq!(rt; table.get_func(2), Err(Trap::TableOutOfBounds));
+fn functions_are_set_and_grow_evenly(rt: HostRuntime) -> Result<(), Fail> {
+    let mut even = EvenSizes { noes: 0, errors: 0 };
+    let mut table = table(rt.alloc(), TableElementType::Func, &mut even)?;
+    assert_eq!(rt; table.set_func(9, Some(16)), Ok(()));
+    assert_eq!(rt; table.get_func_maybe_init(9), Ok(Some(Some(16))));
+    assert_eq!(rt; table.get_func(8), Ok(None));
+    assert_eq!(rt; table.grow(Some(&mut even), 2), Ok(Some(10)));
+    let odd = Err(GrowFault::LimiterFault(LimiterError::Other(7)));
+    assert_eq!(rt; table.grow(Some(&mut even), 1), odd);
     assert!(rt; !table.is_all_zero());
     table.manually_memset_zeros();
     assert!(rt; table.is_all_zero());
-    let region = table.region();
-    assert_eq!(rt; region.name(), RegionName::Table(0));
-    let region = table.into_region();
-    assert_eq!(rt; region.calls().decommit, 0);
+    assert_eq!(rt; even.memory_growing(0, 3, None), Ok(false));
+    assert_eq!(rt;
+        (even.noes(), even.errors(), even.instances()),
+        (1, 1, 10_000)
+    );
     Ok(())
 }
 
 #[test]
-fn a_table_grows_within_its_limits(rt: HostRuntime) -> Result<(), Fail> {
-    let mut table = table(rt.alloc(), TableElementType::Cont)?;
+fn continuations_are_set(rt: HostRuntime) -> Result<(), Fail> {
+    let mut even = EvenSizes { noes: 0, errors: 0 };
     let object = VMContObj {
         contref: 9,
         revision: 3,
     };
-    assert_eq!(rt; table.fill_cont(0, Some(object), 2), Ok(()));
-    let mut limiter = StoreLimitsBuilder::new()
-        .table_elements(4)
-        .trap_on_grow_failure(true)
-        .build();
-    assert_eq!(rt; table.grow(Some(&mut limiter), 2), Ok(Some(2)));
-    let refused = LimiterError::TableGrow { desired: 5 };
-    assert_eq!(rt;
-        table.grow(Some(&mut limiter), 1),
-        Err(GrowFault::LimiterFault(refused))
-    );
-    assert_eq!(rt; table.grow::<StoreLimits>(None, 2), Ok(None));
-    assert_eq!(rt; table.grow::<StoreLimits>(None, u64::MAX), Ok(None));
-    assert_eq!(rt; table.size(), 4);
-    assert_eq!(rt; table.get_cont(1), Ok(Some(object)));
-    assert_eq!(rt; table.get_cont(3), Ok(None));
-    assert_eq!(rt; table.set_cont(4, None), Err(Trap::TableOutOfBounds));
+    let mut table = table(rt.alloc(), TableElementType::Cont, &mut even)?;
+    assert_eq!(rt; table.set_cont(9, Some(object)), Ok(()));
+    assert_eq!(rt; table.get_cont(9), Ok(Some(object)));
     Ok(())
 }
 
 #[test]
-fn a_store_that_fails_keeps_what_was_written(rt: HostRuntime) -> Result<(), Fail> {
+fn references_are_set_while_the_store_lets_them(rt: HostRuntime) -> Result<(), Fail> {
     let alloc = rt.alloc();
-    let mut table = table(alloc, TableElementType::GcRef)?;
+    let mut even = EvenSizes { noes: 0, errors: 0 };
     let mut store = ListedStore::new(PlainList::from_vec(vec![in alloc; 2u64]?));
+    let mut table = table(alloc, TableElementType::GcRef, &mut even)?;
+    assert_eq!(rt; table.put_gc_ref(9, Some(5)), Ok(()));
+    assert_eq!(rt; table.set_gc_ref(&mut store, 9, Some(7)), Ok(()));
     assert_eq!(rt;
-        table.fill_gc_ref(&mut store, 0, Some(7), 2),
+        table.set_gc_ref(&mut store, 9, None),
         Err(GcTableError::GcStoreFault)
     );
+    assert_eq!(rt; table.get_gc_ref(9), Ok(Some(7)));
+    Ok(())
+}
+
+#[test]
+fn the_empty_table_has_no_elements(rt: HostRuntime) -> Result<(), Fail> {
+    let table = Table::<MadeRegion>::empty(rt.alloc());
     assert_eq!(rt;
-        (table.get_gc_ref(0), table.get_gc_ref(1)),
-        (Ok(Some(7)), Ok(None))
-    );
-    assert_eq!(rt; store.faults(), 1);
-    assert_eq!(rt; table.set_gc_ref(&mut store, 1, Some(8)), Ok(()));
-    assert_eq!(rt; table.put_gc_ref(0, None), Ok(()));
-    assert_eq!(rt;
-        (table.get_gc_ref(0), table.get_gc_ref(1)),
-        (Ok(None), Ok(Some(8)))
-    );
-    assert_eq!(rt;
-        table.set_gc_ref(&mut store, 2, None),
-        Err(GcTableError::Trap(Trap::TableOutOfBounds))
+        (table.size(), table.maximum(), table.is_static()),
+        (0, 0, false)
     );
     Ok(())
 }

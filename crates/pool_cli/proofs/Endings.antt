@@ -1,16 +1,15 @@
 -- How the program ends, and what of that the bytes decide.
-use Rattle.std.proofs.Common.{◌≡◌, ℕ, ◌<◌, ◌≤◌, Bool, true, false, List, length, Option, Some, None, Result, Err, cond, refl, sym, ap, ◌∙◌, subst, inl, inr, arith}
-use Rattle.std.specs.Prelude.{◌⊎◌, ◌↔◌, IfSome}
+use Rattle.std.proofs.Common.{◌≡◌, ℕ, ◌<◌, ◌≤◌, Bool, true, false, List, length, Option, Some, None, Result, Err, cond, refl, sym, ap, ◌∙◌, subst, inl, inr, arith, ◌⊎◌, ◌↔◌, IfSome}
 use Rattle.pool_pages.specs.MakerTold.{MakerTold}
 use Rattle.pool_pages.specs.Told.{Told}
-use Rattle.pool_pages.specs.declared.bad_config.BadConfig.{BadConfig}
+use Rattle.pool_types.specs.declared.bad_config.BadConfig.{BadConfig}
 use Rattle.pool_run.specs.declared.output.RunFault.{RunFault}
 use Rattle.pool_run.specs.declared.output.RunFault.TheVariants as fault
-use Rattle.pool_cli.specs.Reading.{Reading, not_built, invalid, accepted}
+use Rattle.pool_forms.specs.Reading.{Reading, not_built, invalid, accepted}
 use Rattle.pool_cli.specs.Lines.{line_of, status_of_failure}
 use Rattle.pool_cli.specs.Stages.{Ends, IsRunFailure, Refuses, WritesText}
 use Rattle.pool_cli.specs.Statuses.{Format, run_format, shared_format, HasRead, HasDone, HasReadInvalid, HasBadConfig, HasFaulted, BreaksRule, AsksForMore, Fails, FollowsBytes, IsHindrance, reads_input, status_of, status_of_limits}
-use Rattle.pool_cli.specs.Streams.{SourceTold, SinkTold, Wrote, most_input}
+use Rattle.pool_forms.specs.Streams.{SourceTold, SinkTold, Wrote, most_input}
 use Rattle.pool_cli.specs.declared.failure.Failure.{Failure}
 use Rattle.pool_cli.specs.declared.failure.Failure.TheVariants as failure
 use Rattle.pool_cli.specs.declared.status.Status.{Status}

@@ -1,9 +1,2 @@
-mod Endings
-mod Items
-mod LineFeeds
-mod Lists
-mod Members
-mod Numerals
-mod Pairs
-mod Pieces
-mod Texts
+pub mod Endings
+pub mod Numerals

@@ -1,15 +1,4 @@
-pub mod Fields
-pub mod Forms
 pub mod Lines
-pub mod ModuleForms
-pub mod Output
-pub mod Ranges
-pub mod Reading
-pub mod SettingsForms
-pub mod SharedForms
-pub mod SharedOutput
 pub mod Stages
 pub mod Statuses
-pub mod Streams
-pub mod Transfers
 pub mod Words

@@ -1,8 +1,8 @@
 -- What the program writes where it has no output.
 use Rattle.std.specs.Prelude.{ℕ, List, [], ◌++◌, codes, string_bytes}
-use Rattle.pool_pages.specs.ConfigTexts.{bad_config_text}
-use Rattle.pool_pages.specs.declared.bad_config.BadConfig.{BadConfig}
-use Rattle.pool_cli.specs.Output.{line_feed}
+use Rattle.pool_types.specs.ConfigTexts.{bad_config_text}
+use Rattle.pool_types.specs.declared.bad_config.BadConfig.{BadConfig}
+use Rattle.pool_forms.specs.Output.{line_feed}
 use Rattle.pool_cli.specs.declared.failure.Failure.{Failure}
 use Rattle.pool_cli.specs.declared.failure.Failure.TheVariants as failure
 use Rattle.pool_cli.specs.declared.status.Status.{Status}

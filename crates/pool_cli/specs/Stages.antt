@@ -4,15 +4,15 @@ use Rattle.std.specs.Prelude.{◌≡◌, ℕ, List, ◌⊎◌, Result, Ok, Err, 
 use Rattle.std.specs.declared.alloc.Global.{Global}
 use Rattle.pool_pages.specs.MakerTold.{MakerTold}
 use Rattle.pool_pages.specs.Told.{Told}
-use Rattle.pool_pages.specs.declared.bad_config.BadConfig.{BadConfig}
+use Rattle.pool_types.specs.declared.bad_config.BadConfig.{BadConfig}
 use Rattle.pool_cli.specs.Lines.{config_line, line_of}
-use Rattle.pool_cli.specs.Reading.{Reading}
+use Rattle.pool_forms.specs.Reading.{Reading}
 use Rattle.pool_cli.specs.Statuses.{Format, HasRead, HasDone, HasFaulted, Fails, WroteBadConfig, WroteLess, WroteOutput, reads_input}
-use Rattle.pool_cli.specs.Streams.{SourceTold, SinkTold, ReadWhole, Wrote, WrotePart}
+use Rattle.pool_forms.specs.Streams.{SourceTold, SinkTold, ReadWhole, Wrote, WrotePart}
 use Rattle.pool_run.specs.declared.output.RunFault.{RunFault}
 use Rattle.pool_run.specs.declared.output.RunFault.TheVariants as run
-use Rattle.pool_cli.specs.declared.json_input.InputFault.{InputFault}
-use Rattle.pool_cli.specs.declared.json_input.InputFault.TheVariants as fault
+use Rattle.pool_forms.specs.declared.json_input.InputFault.{InputFault}
+use Rattle.pool_forms.specs.declared.json_input.InputFault.TheVariants as fault
 use Rattle.pool_cli.specs.declared.failure.Failure.{Failure}
 use Rattle.pool_cli.specs.declared.failure.Failure.TheVariants as failure
 use Rattle.pool_cli.specs.declared.status.Status.{Status}

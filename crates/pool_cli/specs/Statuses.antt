@@ -1,24 +1,25 @@
 -- Why the program ends with a status, and what it wrote.
 use Rattle.std.specs.Prelude.{◌≡◌, ℕ, ◌≤◌, ◌<◌, List, length, ◌⊎◌, Bool, true, false, Option, Some, None, string_bytes}
-use Rattle.pool_pages.specs.declared.bad_config.BadConfig.{BadConfig}
+use Rattle.pool_types.specs.declared.bad_config.BadConfig.{BadConfig}
 use Rattle.pool_pages.specs.declared.failing.Failing.{Failing}
 use Rattle.pool_pages.specs.FailingTold.{failing_told}
 use Rattle.pool_pages.specs.MakerTold.{MakerTold}
-use Rattle.pool_pages.specs.Told.{Told, Rose}
+use Rattle.pool_pages.specs.Told.{Told}
+use Rattle.pool_types.specs.Rising.{Rose}
 use Rattle.pool_run.specs.Agreeing.{IsOnlyRun}
 use Rattle.pool_run.specs.Built.{broken_rule}
-use Rattle.pool_run.specs.OnDemandRuns.{IsOnDemand, HasFaultedImages}
+use Rattle.pool_run_on_demand.specs.Runs.{IsOnDemand, HasFaultedImages}
 use Rattle.pool_run.specs.Runs.{IsRun, HoldsFromStart, HasFaultedMaking, with_faults}
-use Rattle.pool_run.specs.SharedRuns.{IsSharedRun, HasNoShared, with_page, broken_page}
+use Rattle.pool_run_shared.specs.Runs.{IsSharedRun, HasNoShared, with_page, broken_page}
 use Rattle.pool_run.specs.declared.input.Input.{Input}
 use Rattle.pool_run.specs.declared.output.RunOutput.{RunOutput}
-use Rattle.pool_run.specs.declared.shared_input.SharedInput.{SharedInput}
-use Rattle.pool_run.specs.declared.shared_reply.SharedReply.{SharedReply}
+use Rattle.pool_run_shared.specs.declared.input.SharedInput.{SharedInput}
+use Rattle.pool_run_shared.specs.declared.reply.SharedReply.{SharedReply}
 use Rattle.pool_cli.specs.Lines.{config_line, line_of}
-use Rattle.pool_cli.specs.Output.{output_text, replies_text}
-use Rattle.pool_cli.specs.Reading.{Reading, not_built, invalid, accepted, reading, shared_reading}
-use Rattle.pool_cli.specs.SharedOutput.{shared_text}
-use Rattle.pool_cli.specs.Streams.{SourceTold, SinkTold, ReadWhole, ReadTooMuch, Wrote, WrotePart, most_input}
+use Rattle.pool_forms.specs.Output.{output_text, replies_text}
+use Rattle.pool_forms.specs.Reading.{Reading, not_built, invalid, accepted, reading, shared_reading}
+use Rattle.pool_forms.specs.SharedOutput.{shared_text}
+use Rattle.pool_forms.specs.Streams.{SourceTold, SinkTold, ReadWhole, ReadTooMuch, Wrote, WrotePart, most_input}
 use Rattle.pool_cli.specs.declared.failure.Failure.{Failure}
 use Rattle.pool_cli.specs.declared.failure.Failure.TheVariants as failure
 use Rattle.pool_cli.specs.declared.status.Status.{Status}
@@ -31,9 +32,11 @@ pub record Format (X : Type 0) : Type 0 where
   pub reading : List ℕ → Reading X
   pub broken : X → Option BadConfig
 
+-- How the bytes of a run are read, and which rule of the settings an input breaks first.
 abbrev pub run_format : Format Input
 run_format = record { reading = reading; broken = broken_rule }
 
+-- How the bytes of events are read; of settings they have the page size alone.
 abbrev pub shared_format : Format SharedInput
 shared_format = record { reading = shared_reading; broken = broken_page }
 
@@ -104,6 +107,7 @@ pub record BreaksRule {X : Type 0} (f : Format X) (error : BadConfig) (source_ol
   pub read : HasRead f (accepted input) source_old source_new
   pub broken : f.broken input ≡ Some error
 
+-- The input that was read breaks a rule of its settings, by the task's format.
 abbrev pub HasBadConfig : Task → BadConfig → SourceTold → SourceTold → Type 0
 HasBadConfig Run error source_old source_new = BreaksRule run_format error source_old source_new
 HasBadConfig RunOnDemand error source_old source_new = BreaksRule run_format error source_old source_new
@@ -130,7 +134,7 @@ pub record HasNoImages (source_old source_new : SourceTold) (maker_old maker_new
   pub limits : broken_rule input ≡ None
   pub making : HasFaultedImages input maker_old maker_new
 
--- the same of the region of a shared memory
+-- The region of a shared memory could not be made.
 pub record HasNoRegion (source_old source_new : SourceTold) (maker_old maker_new : MakerTold) : Type 0 where
   pub input : SharedInput
   pub read : HasRead shared_format (accepted input) source_old source_new
@@ -157,7 +161,7 @@ AsksForMore Shared source_old source_new = HasRead shared_format not_built sourc
 AsksForMore Later source_old source_new = Unread source_old source_new
 AsksForMore Unknown source_old source_new = ⊥
 
--- why there is no output, where this says that a making failed before anything was run
+-- Why there is no output, by the failure. What has to hold of a failed making is for whoever names this to say.
 abbrev pub Fails : Type 0 → Task → Failure → SourceTold → SourceTold → Type 0
 Fails faulted task failure.BadUsage source_old source_new = (task ≡ Unknown) × Unread source_old source_new
 Fails faulted task failure.BadInput source_old source_new = HasReadInvalid task source_old source_new

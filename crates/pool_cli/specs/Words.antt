@@ -16,6 +16,7 @@ number_after n (digit ∷ digits) = number_after (10 * n + (digit - 48)) digits
 abbrev pub is_number : List ℕ → Bool
 is_number text = nat_lt 0 (length text) && list_all is_ascii_digit text && nat_lt (number_after 0 text) (2 ^ 64)
 
+-- What one word asks for: `run`, `shared`, or `threads`, which isn't built; any other is unknown.
 abbrev pub one_word : List ℕ → Task
 one_word word =
     if bytes_eq word (codes "run") then Run
@@ -23,6 +24,7 @@ one_word word =
     else if bytes_eq word (codes "threads") then Later
     else Unknown
 
+-- What two words ask for: `run on-demand`, or `load` with a number, which isn't built; any others are unknown.
 abbrev pub two_words : List ℕ → List ℕ → Task
 two_words first second =
     if bytes_eq first (codes "run") && bytes_eq second (codes "on-demand") then RunOnDemand

@@ -1,8 +1,7 @@
 use pool_alloc::PoolCore;
-use pool_pages::{
-    MemoryPages, Offered, PageCalls, PageMaker, PageSize, PoolingAllocationConfig, Tunables,
-};
+use pool_pages::{MemoryPages, PageCalls, PageMaker};
 use pool_slots::PlainHeap;
+use pool_types::{Offered, PageSize, PoolingAllocationConfig, Tunables};
 use std::test::Fail;
 
 // A pool as it is made has nothing to flush: its regions had their guard pages hidden, and no other call.

@@ -2,7 +2,7 @@ ghost use Rattle.std.specs.Prelude.{◌≡◌, string_bytes, IfOk};
 ghost use Rattle.pool_cli.specs.Lines.{config_line, line_of, status_of_failure};
 
 use crate::status::Status;
-use pool_pages::BadConfig;
+use pool_types::BadConfig;
 use std::alloc::{AllocError, Global};
 use std::fmt::Write;
 

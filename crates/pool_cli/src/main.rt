@@ -1,59 +1,42 @@
-//! The program.
+//! The program: it reads an input, runs it, and prints what came of it.
+//!
+//! Read `pool_main` first: all that the program does, over any streams and any maker of regions, and how it ended, as a
+//! `Status`. The program's words are read as a `Task` (`words.rt`), the work of each is a stage (`stages.rt`), and what
+//! ends it early is a `Failure` with a line to print. `main` only gives it standard input, standard output and regions
+//! in memory.
+//!
+//! It is ours and no port. It stands on `pool_forms` for what is read and written, and on `pool_run`,
+//! `pool_run_on_demand` and `pool_run_shared` for the runs.
+//!
+//! ```text
+//! rt try -- run < ../../examples/tour/first.json
+//! ```
 #![tactic(auto)]
 
-#[cfg(test)]
-mod closing_tests;
-mod commands;
-#[cfg(test)]
-mod component_tests;
-mod events;
-mod failure;
-mod fields;
-mod form_fault;
-mod from_json;
-#[cfg(test)]
-mod heap_tests;
-mod input;
-mod json_input;
-mod memory_streams;
-mod modules;
-#[cfg(test)]
-mod on_demand_tests;
-mod other_commands;
+// What the program does
 mod pool_main;
-mod print;
-mod print_shared;
-mod ranges;
-#[cfg(test)]
-mod run_tests;
-mod settings;
-#[cfg(test)]
-mod settings_tests;
-mod shared_input;
-#[cfg(test)]
-mod shared_tests;
-#[cfg(test)]
-mod size_tests;
-#[cfg(test)]
-mod stack_tests;
 mod stages;
-mod standard_streams;
-mod status;
-mod streams;
-#[cfg(test)]
-mod stripe_tests;
-mod table_commands;
-#[cfg(test)]
-mod table_tests;
-#[cfg(test)]
-mod tests;
-mod transfers;
-#[cfg(test)]
-mod untold_pages;
 mod words;
 
-use pool_pages::{MemoryPages, PageSize};
-use standard_streams::{ReaderSource, WriterSink};
+// How it ends
+mod failure;
+mod status;
+
+// Tests
+#[cfg(test)]
+mod closing_tests;
+#[cfg(test)]
+mod kind_tests;
+#[cfg(test)]
+mod run_tests;
+#[cfg(test)]
+mod tests;
+#[cfg(test)]
+mod untold_pages;
+
+use pool_forms::{ReaderSource, WriterSink};
+use pool_pages::MemoryPages;
+use pool_types::PageSize;
 use status::Status;
 use std::alloc::{AllocError, Global};
 use std::env;

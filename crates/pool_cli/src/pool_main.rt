@@ -1,16 +1,16 @@
 ghost use Rattle.std.specs.Prelude.{◌≡◌, ◌⊎◌, true, IfSome};
-ghost use Rattle.pool_pages.specs.Told.{Rose};
+ghost use Rattle.pool_types.specs.Rising.{Rose};
 ghost use Rattle.pool_cli.specs.Lines.{line_of};
 ghost use Rattle.pool_cli.specs.Statuses.{AsksForMore, FollowsBytes, HasFaulted, HasReadInvalid, Unread, WroteBadConfig, WroteLess, WroteOutput, reads_input, run_format, shared_format};
 ghost use Rattle.pool_cli.specs.Stages.{Ends};
 ghost use Rattle.pool_cli.specs.declared.failure.Failure.TheVariants as failure;
-ghost use Rattle.pool_cli.specs.Streams.{ReadTooMuch, Wrote};
+ghost use Rattle.pool_forms.specs.Streams.{ReadTooMuch, Wrote};
 ghost use Rattle.pool_cli.specs.Words.{task_of};
 ghost use Rattle.pool_cli.specs.declared.words.Task.TheVariants.{Run, RunOnDemand, Shared, Later, Unknown};
 
 use crate::stages::{finish, prepare};
 use crate::status::Status;
-use crate::streams::{Sink, Source};
+use pool_forms::{Sink, Source};
 use pool_pages::PageMaker;
 use std::alloc::Global;
 

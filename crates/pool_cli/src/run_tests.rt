@@ -1,363 +1,363 @@
 use crate::status::Status;
-use crate::tests::{assert_ended, ended, ended_over, page};
+use crate::tests::assert_ended;
 use crate::untold_pages::UntoldPages;
+use pool_pages::MemoryPages;
+use pool_types::PageSize;
 use std::test::Fail;
 
-const FIRST: &str =
-    "{\"config\":{\"total_memories\":1},\"modules\":[{\"memories\":[{\"min\":1,\"image\":{\"offset\":0,\"hex\":\"696e6974\"}}]}],\"parties\":[{\"commands\":[{\"do\":\"instantiate\",\"module\":0},{\"do\":\"write\",\"of\":0,\"at\":4,\"hex\":\"64697274\"},{\"do\":\"drop\",\"of\":0},{\"do\":\"instantiate\",\"module\":0},{\"do\":\"read\",\"of\":3,\"at\":0,\"len\":8}]}]}";
+pub(crate) const FIRST: &str = r#"{"config":{"total_memories":1},
+"modules":[{"memories":[{"min":1,"image":{"offset":0,"hex":"696e6974"}}]}],
+"parties":[{"commands":[{"do":"instantiate","module":0},{"do":"write","of":0,"at":4,"hex":"64697274"},
+{"do":"drop","of":0},{"do":"instantiate","module":0},{"do":"read","of":3,"at":0,"len":8}]}]}"#;
 
-const FIRST_OUTPUT: &str = "0.0: granted memories 0 tables -\n\
-0.1: done\n\
-0.2: returned\n\
-0.3: granted memories 0 tables -\n\
-0.4: bytes 696e697400000000\n\
-metrics core=1 component=0 memories=1 tables=0 stacks=0 heaps=0 warm_memories=0 memory_resident=0 warm_tables=0 table_resident=0 warm_stacks=0 stack_resident=none\n\
-pages expose=1 hide=0 map_image=1 remap_zeros=0 erase=0 recolour=0 decommit=1\n";
+const FIRST_OUTPUT: &str = "\
+0.0: granted memories 0 tables -
+0.1: done
+0.2: returned
+0.3: granted memories 0 tables -
+0.4: bytes 696e697400000000
+metrics core=1 component=0 memories=1 tables=0 stacks=0 heaps=0 warm_memories=0 memory_resident=0 warm_tables=0 table_resident=0 warm_stacks=0 stack_resident=none
+pages expose=1 hide=0 map_image=1 remap_zeros=0 erase=0 recolour=0 decommit=1
+";
 
-const BATCH: &str =
-    "{\"config\":{\"total_memories\":2,\"decommit_batch_size\":3},\"modules\":[{\"memories\":[{\"min\":1}]}],\"parties\":[{\"commands\":[{\"do\":\"instantiate\",\"module\":0},{\"do\":\"instantiate\",\"module\":0},{\"do\":\"drop\",\"of\":0},{\"do\":\"drop\",\"of\":1},{\"do\":\"instantiate\",\"module\":0},{\"do\":\"instantiate\",\"module\":0}]}]}";
+const NOTHING_OUTPUT: &str = "\
+metrics core=0 component=0 memories=0 tables=0 stacks=0 heaps=0 warm_memories=0 memory_resident=0 warm_tables=0 table_resident=0 warm_stacks=0 stack_resident=none
+pages expose=0 hide=0 map_image=0 remap_zeros=0 erase=0 recolour=0 decommit=0
+";
 
-const BATCH_OUTPUT: &str = "0.0: granted memories 0 tables -\n\
-0.1: granted memories 1 tables -\n\
-0.2: returned\n\
-0.3: returned\n\
-0.4: granted memories 1 tables -\n\
-0.5: granted memories 0 tables -\n\
-metrics core=2 component=0 memories=2 tables=0 stacks=0 heaps=0 warm_memories=0 memory_resident=0 warm_tables=0 table_resident=0 warm_stacks=0 stack_resident=none\n\
-pages expose=2 hide=0 map_image=0 remap_zeros=0 erase=0 recolour=0 decommit=2\n";
+const NO_SLOT: &str = r#"{"config":{"total_memories":1},"modules":[{"memories":[{"min":1}]}],
+"parties":[{"commands":[{"do":"instantiate","module":0},{"do":"instantiate","module":0},
+{"do":"read","of":1,"at":0,"len":1}]}]}"#;
 
-const OTHER_MODULE: &str =
-    "{\"config\":{\"total_memories\":1},\"modules\":[{\"memories\":[{\"min\":1,\"image\":{\"offset\":0,\"hex\":\"696e6974\"}}]},{\"memories\":[{\"min\":1}]}],\"parties\":[{\"commands\":[{\"do\":\"instantiate\",\"module\":0},{\"do\":\"drop\",\"of\":0},{\"do\":\"instantiate\",\"module\":1},{\"do\":\"read\",\"of\":2,\"at\":0,\"len\":8}]}]}";
+const NO_SLOT_OUTPUT: &str = "\
+0.0: granted memories 0 tables -
+0.1: refused PoolConcurrencyLimitError: maximum concurrent limit of 1 for memory stripe 0 reached
+0.2: refused NoSuchGrant
+metrics core=1 component=0 memories=1 tables=0 stacks=0 heaps=0 warm_memories=0 memory_resident=0 warm_tables=0 table_resident=0 warm_stacks=0 stack_resident=none
+pages expose=1 hide=0 map_image=0 remap_zeros=0 erase=0 recolour=0 decommit=0
+";
 
-const OTHER_MODULE_OUTPUT: &str = "0.0: granted memories 0 tables -\n\
-0.1: returned\n\
-0.2: granted memories 0 tables -\n\
-0.3: bytes 0000000000000000\n\
-metrics core=1 component=0 memories=1 tables=0 stacks=0 heaps=0 warm_memories=0 memory_resident=0 warm_tables=0 table_resident=0 warm_stacks=0 stack_resident=none\n\
-pages expose=1 hide=0 map_image=1 remap_zeros=1 erase=0 recolour=0 decommit=1\n";
+const BATCH: &str = r#"{"config":{"total_memories":2,"decommit_batch_size":3},
+"modules":[{"memories":[{"min":1}]}],
+"parties":[{"commands":[{"do":"instantiate","module":0},{"do":"instantiate","module":0},
+{"do":"drop","of":0},{"do":"drop","of":1},{"do":"instantiate","module":0},{"do":"instantiate","module":0}]}]}"#;
+
+const BATCH_OUTPUT: &str = "\
+0.0: granted memories 0 tables -
+0.1: granted memories 1 tables -
+0.2: returned
+0.3: returned
+0.4: granted memories 1 tables -
+0.5: granted memories 0 tables -
+metrics core=2 component=0 memories=2 tables=0 stacks=0 heaps=0 warm_memories=0 memory_resident=0 warm_tables=0 table_resident=0 warm_stacks=0 stack_resident=none
+pages expose=2 hide=0 map_image=0 remap_zeros=0 erase=0 recolour=0 decommit=2
+";
+
+// The first party is stopped while it has the queue.
+const STOPPED: &str = r#"{"config":{"total_memories":2,"decommit_batch_size":3},
+"modules":[{"memories":[{"min":1}]}],
+"parties":[{"commands":[{"do":"instantiate","module":0},{"do":"instantiate","module":0},
+{"do":"drop","of":0},{"do":"drop","of":1},{"do":"instantiate","module":0}]},
+{"commands":[{"do":"instantiate","module":0},{"do":"instantiate","module":0}]}],
+"schedule":[[0,27],[1,6]]}"#;
+
+const STOPPED_OUTPUT: &str = "\
+0.0: granted memories 0 tables -
+0.1: granted memories 1 tables -
+0.2: returned
+0.3: returned
+0.4: granted memories 1 tables -
+1.0: refused PoolConcurrencyLimitError: maximum concurrent limit of 2 for memory stripe 0 reached
+1.1: granted memories 0 tables -
+metrics core=2 component=0 memories=2 tables=0 stacks=0 heaps=0 warm_memories=0 memory_resident=0 warm_tables=0 table_resident=0 warm_stacks=0 stack_resident=none
+pages expose=2 hide=0 map_image=0 remap_zeros=0 erase=0 recolour=0 decommit=2
+";
+
+// Of ten slots two stay warm: a module gets the slot that it had last, and another one a cold slot while fewer than two are
+// warm.
+const AFFINE: &str = r#"{"config":{"max_unused_warm_slots":2},
+"modules":[{"memories":[{"min":1}]},{"memories":[{"min":1}]},{"memories":[{"min":1}]},
+{"memories":[{"min":1}]},{"memories":[{"min":1}]},{"memories":[{"min":1}]}],
+"parties":[{"commands":[{"do":"instantiate","module":0},{"do":"drop","of":0},
+{"do":"instantiate","module":1},{"do":"drop","of":2},{"do":"instantiate","module":2},{"do":"drop","of":4},
+{"do":"instantiate","module":1},{"do":"instantiate","module":0},{"do":"drop","of":6},{"do":"drop","of":7},
+{"do":"instantiate","module":0},{"do":"instantiate","module":1},{"do":"instantiate","module":2},
+{"do":"drop","of":11},{"do":"drop","of":10},{"do":"drop","of":12},
+{"do":"instantiate","module":3},{"do":"instantiate","module":4},{"do":"instantiate","module":5},
+{"do":"drop","of":16},{"do":"drop","of":17},{"do":"drop","of":18},{"do":"instantiate","module":2}]}]}"#;
+
+const AFFINE_OUTPUT: &str = "\
+0.0: granted memories 0 tables -
+0.1: returned
+0.2: granted memories 1 tables -
+0.3: returned
+0.4: granted memories 0 tables -
+0.5: returned
+0.6: granted memories 1 tables -
+0.7: granted memories 2 tables -
+0.8: returned
+0.9: returned
+0.10: granted memories 2 tables -
+0.11: granted memories 1 tables -
+0.12: granted memories 0 tables -
+0.13: returned
+0.14: returned
+0.15: returned
+0.16: granted memories 1 tables -
+0.17: granted memories 2 tables -
+0.18: granted memories 3 tables -
+0.19: returned
+0.20: returned
+0.21: returned
+0.22: granted memories 0 tables -
+metrics core=1 component=0 memories=1 tables=0 stacks=0 heaps=0 warm_memories=3 memory_resident=0 warm_tables=0 table_resident=0 warm_stacks=0 stack_resident=none
+pages expose=4 hide=0 map_image=0 remap_zeros=0 erase=0 recolour=0 decommit=11
+";
+
+const TWO_SHARDS: &str = r#"{"shards":2,"config":{"total_memories":128,"max_memories_per_module":2},
+"modules":[{"memories":[{"min":1},{"min":1}]}],
+"parties":[{"commands":[{"do":"instantiate","module":0}]},
+{"home":1,"commands":[{"do":"instantiate","module":0}]}]}"#;
+
+const TWO_SHARDS_OUTPUT: &str = "\
+0.0: granted memories 0,1 tables -
+1.0: granted memories 64,65 tables -
+metrics core=2 component=0 memories=4 tables=0 stacks=0 heaps=0 warm_memories=0 memory_resident=0 warm_tables=0 table_resident=0 warm_stacks=0 stack_resident=none
+pages expose=4 hide=0 map_image=0 remap_zeros=0 erase=0 recolour=0 decommit=0
+";
+
+const GROWS: &str = r#"{"config":{"max_memory_size":131072,"total_memories":1},
+"modules":[{"memories":[{"min":1}]}],
+"parties":[{"commands":[{"do":"instantiate","module":0},{"do":"grow","of":0,"pages":0},
+{"do":"grow","of":0,"pages":1},{"do":"size","of":0},{"do":"grow","of":0,"pages":1}]}]}"#;
+
+const GROWS_OUTPUT: &str = "\
+0.0: granted memories 0 tables -
+0.1: grown 65536
+0.2: grown 65536
+0.3: size 131072
+0.4: grown none
+metrics core=1 component=0 memories=1 tables=0 stacks=0 heaps=0 warm_memories=0 memory_resident=0 warm_tables=0 table_resident=0 warm_stacks=0 stack_resident=none
+pages expose=2 hide=0 map_image=0 remap_zeros=0 erase=0 recolour=0 decommit=0
+";
+
+const GROWS_OR_TRAPS: &str = r#"{"config":{"max_memory_size":131072,"total_memories":1},
+"modules":[{"memories":[{"min":1}]}],
+"parties":[{"limits":{"trap_on_grow_failure":true},
+"commands":[{"do":"instantiate","module":0},{"do":"grow","of":0,"pages":0},
+{"do":"grow","of":0,"pages":1},{"do":"size","of":0},{"do":"grow","of":0,"pages":1}]}]}"#;
+
+const GROWS_OR_TRAPS_OUTPUT: &str = "\
+0.0: granted memories 0 tables -
+0.1: grown 65536
+0.2: grown 65536
+0.3: size 131072
+0.4: refused LimiterFault: forcing a memory growth failure to be a trap
+metrics core=1 component=0 memories=1 tables=0 stacks=0 heaps=0 warm_memories=0 memory_resident=0 warm_tables=0 table_resident=0 warm_stacks=0 stack_resident=none
+pages expose=2 hide=0 map_image=0 remap_zeros=0 erase=0 recolour=0 decommit=0
+";
 
 const RESIDENT: &str =
-    "{\"config\":{\"total_memories\":1,\"linear_memory_keep_resident\":4096},\"modules\":[{\"memories\":[{\"min\":1}]}],\"parties\":[{\"commands\":[{\"do\":\"instantiate\",\"module\":0},{\"do\":\"drop\",\"of\":0}]}]}";
+    r#"{"config":{"linear_memory_keep_resident":65536,"table_keep_resident":65536},
+"modules":[{"memories":[{"min":1}],"tables":[{"min":1}]}],
+"parties":[{"commands":[{"do":"instantiate","module":0},{"do":"drop","of":0}]}]}"#;
 
-const RESIDENT_OUTPUT: &str = "0.0: granted memories 0 tables -\n\
-0.1: returned\n\
-metrics core=0 component=0 memories=0 tables=0 stacks=0 heaps=0 warm_memories=1 memory_resident=4096 warm_tables=0 table_resident=0 warm_stacks=0 stack_resident=none\n\
-pages expose=1 hide=0 map_image=0 remap_zeros=0 erase=0 recolour=0 decommit=1\n";
+const RESIDENT_OUTPUT: &str = "\
+0.0: granted memories 0 tables 0
+0.1: returned
+metrics core=0 component=0 memories=0 tables=0 stacks=0 heaps=0 warm_memories=1 memory_resident=65536 warm_tables=1 table_resident=4096 warm_stacks=0 stack_resident=none
+pages expose=1 hide=0 map_image=0 remap_zeros=0 erase=0 recolour=0 decommit=0
+";
 
-const MOVES: &str =
-    "{\"config\":{\"total_memories\":1},\"modules\":[{\"memories\":[{\"min\":1}]}],\"parties\":[{\"commands\":[{\"do\":\"instantiate\",\"module\":0},{\"do\":\"grow\",\"of\":0,\"pages\":0},{\"do\":\"grow\",\"of\":0,\"pages\":1},{\"do\":\"size\",\"of\":0},{\"do\":\"fill\",\"of\":0,\"at\":65534,\"len\":2,\"byte\":255},{\"do\":\"read\",\"of\":0,\"at\":65533,\"len\":3},{\"do\":\"fill\",\"of\":0,\"at\":65534,\"len\":3,\"byte\":1}]}]}";
+const RELEASED: &str =
+    r#"{"config":{"linear_memory_keep_resident":65536,"table_keep_resident":65536},
+"modules":[{"memories":[{"min":1}],"tables":[{"min":1}]}],
+"parties":[{"commands":[{"do":"instantiate","module":0},{"do":"drop","of":0},{"do":"release"},{"do":"release"}]}]}"#;
 
-const MOVES_OUTPUT: &str = "0.0: granted memories 0 tables -\n\
-0.1: grown 65536\n\
-0.2: grown none\n\
-0.3: size 65536\n\
-0.4: done\n\
-0.5: bytes 00ffff\n\
-0.6: trap MemoryOutOfBounds\n\
-metrics core=1 component=0 memories=1 tables=0 stacks=0 heaps=0 warm_memories=0 memory_resident=0 warm_tables=0 table_resident=0 warm_stacks=0 stack_resident=none\n\
-pages expose=1 hide=0 map_image=0 remap_zeros=0 erase=0 recolour=0 decommit=0\n";
+const RELEASED_OUTPUT: &str = "\
+0.0: granted memories 0 tables 0
+0.1: returned
+0.2: released 65536
+0.3: released 0
+metrics core=0 component=0 memories=0 tables=0 stacks=0 heaps=0 warm_memories=1 memory_resident=0 warm_tables=1 table_resident=4096 warm_stacks=0 stack_resident=none
+pages expose=1 hide=0 map_image=0 remap_zeros=0 erase=0 recolour=0 decommit=1
+";
 
-const MANY_MEMORIES: &str = "{\"config\":{\"total_memories\":101}}";
+const SMALL_PAGES: &str = r#"{"page":16,"config":{"total_memories":1},
+"modules":[{"memories":[{"min":32,"page_log2":0,"image":{"offset":16,"hex":"00112233445566778899aabbccddeeff"}}]}],
+"parties":[{"commands":[{"do":"instantiate","module":0},{"do":"read","of":0,"at":12,"len":8}]}]}"#;
 
-const TOO_MANY_MEMORIES: &str = "{\"config\":{\"total_memories\":100001}}";
+const SMALL_PAGES_OUTPUT: &str = "\
+0.0: granted memories 0 tables -
+0.1: bytes 0000000000112233
+metrics core=1 component=0 memories=1 tables=0 stacks=0 heaps=0 warm_memories=0 memory_resident=0 warm_tables=0 table_resident=0 warm_stacks=0 stack_resident=none
+pages expose=1 hide=0 map_image=1 remap_zeros=0 erase=0 recolour=0 decommit=0
+";
 
-const TOO_MANY_MEMORIES_LINE: &str = "error BadConfig: total_memories of 100001 exceeds 100000\n";
+const IMAGE_PAST_THE_END: &str = r#"{"page":16,"config":{"total_memories":1},
+"modules":[{"memories":[{"min":31,"page_log2":0,"image":{"offset":16,"hex":"00112233445566778899aabbccddeeff"}}]}],
+"parties":[{"commands":[{"do":"instantiate","module":0},{"do":"read","of":0,"at":12,"len":8}]}]}"#;
 
-const FAR_FROM_HOME: &str = "{\"parties\":[{\"home\":65535}],\"schedule\":[],\"finish\":true}";
+const IMAGE_PAST_THE_END_OUTPUT: &str = "\
+0.0: granted memories 0 tables -
+0.1: bytes 0000000000000000
+metrics core=1 component=0 memories=1 tables=0 stacks=0 heaps=0 warm_memories=0 memory_resident=0 warm_tables=0 table_resident=0 warm_stacks=0 stack_resident=none
+pages expose=1 hide=0 map_image=0 remap_zeros=0 erase=0 recolour=0 decommit=0
+";
 
-const NO_BATCH: &str = "{\"config\":{\"decommit_batch_size\":0}}";
+const IMAGE_INSIDE_A_PAGE: &str = r#"{"page":16,"config":{"total_memories":1},
+"modules":[{"memories":[{"min":32,"page_log2":0,"image":{"offset":8,"hex":"00112233445566778899aabbccddeeff"}}]}],
+"parties":[{"commands":[{"do":"instantiate","module":0}]}]}"#;
 
-const NO_BATCH_LINE: &str = "error BadConfig: decommit batch size 0 is not from 1 to 4096\n";
+const IMAGE_INSIDE_A_PAGE_OUTPUT: &str = "\
+0.0: refused Unsupported: image offset 8 is not a multiple of the page
+metrics core=0 component=0 memories=0 tables=0 stacks=0 heaps=0 warm_memories=0 memory_resident=0 warm_tables=0 table_resident=0 warm_stacks=0 stack_resident=none
+pages expose=0 hide=0 map_image=0 remap_zeros=0 erase=0 recolour=0 decommit=0
+";
 
-const TOO_RESIDENT: &str = "{\"config\":{\"linear_memory_keep_resident\":4294967297}}";
+const NO_BYTES: &str = r#"{"modules":[{"memories":[{"min":0}]}],
+"parties":[{"commands":[{"do":"instantiate","module":0},{"do":"read","of":0,"at":0,"len":0},
+{"do":"read","of":0,"at":0,"len":1},{"do":"drop","of":0}]}]}"#;
 
-const TOO_RESIDENT_LINE: &str =
-    "error BadConfig: linear_memory_keep_resident of 4294967297 exceeds 4294967296\n";
+const NO_BYTES_OUTPUT: &str = "\
+0.0: granted memories 0 tables -
+0.1: bytes -
+0.2: trap MemoryOutOfBounds
+0.3: returned
+metrics core=0 component=0 memories=0 tables=0 stacks=0 heaps=0 warm_memories=1 memory_resident=0 warm_tables=0 table_resident=0 warm_stacks=0 stack_resident=none
+pages expose=0 hide=0 map_image=0 remap_zeros=0 erase=0 recolour=0 decommit=0
+";
 
-const NO_PAGE: &str =
-    "{\"page\":17,\"config\":{\"decommit_batch_size\":0},\"offered\":{\"behaviour\":\"zero\"}}";
+const OTHER_MODULE: &str = r#"{"config":{"total_memories":1},
+"modules":[{"memories":[{"min":1,"image":{"offset":0,"hex":"696e6974"}}]},{"memories":[{"min":1}]}],
+"parties":[{"commands":[{"do":"instantiate","module":0},{"do":"drop","of":0},
+{"do":"instantiate","module":1},{"do":"read","of":2,"at":0,"len":8}]}]}"#;
 
-const NO_PAGE_LINE: &str = "error BadConfig: page size 17 is not a power of two from 16 to 65536\n";
+const OTHER_MODULE_OUTPUT: &str = "\
+0.0: granted memories 0 tables -
+0.1: returned
+0.2: granted memories 0 tables -
+0.3: bytes 0000000000000000
+metrics core=1 component=0 memories=1 tables=0 stacks=0 heaps=0 warm_memories=0 memory_resident=0 warm_tables=0 table_resident=0 warm_stacks=0 stack_resident=none
+pages expose=1 hide=0 map_image=1 remap_zeros=1 erase=0 recolour=0 decommit=1
+";
 
-const NOT_RESERVED: &str =
-    "{\"config\":{\"max_memory_size\":4295032832},\"tunables\":{\"memory_reservation\":65536}}";
+const PURGED: &str = r#"{"config":{"total_memories":1},
+"modules":[{"memories":[{"min":1,"image":{"offset":0,"hex":"696e6974"}}]}],
+"parties":[{"commands":[{"do":"instantiate","module":0},{"do":"drop","of":0},
+{"do":"purge","module":0},{"do":"purge","module":0}]}]}"#;
 
-const NOT_RESERVED_LINE: &str =
-    "error BadConfig: maximum memory size of 0x100010000 bytes exceeds the configured memory reservation of 0x10000 bytes\n";
+const PURGED_OUTPUT: &str = "\
+0.0: granted memories 0 tables -
+0.1: returned
+0.2: purged 1
+0.3: purged 0
+metrics core=0 component=0 memories=0 tables=0 stacks=0 heaps=0 warm_memories=1 memory_resident=0 warm_tables=0 table_resident=0 warm_stacks=0 stack_resident=none
+pages expose=1 hide=0 map_image=1 remap_zeros=1 erase=0 recolour=0 decommit=1
+";
 
-const NO_RUN_OUTPUT: &str =
-    "metrics core=0 component=0 memories=0 tables=0 stacks=0 heaps=0 warm_memories=0 memory_resident=0 warm_tables=0 table_resident=0 warm_stacks=0 stack_resident=none\n\
-pages expose=0 hide=0 map_image=0 remap_zeros=0 erase=0 recolour=0 decommit=0\n";
+const KEYS: &str =
+    r#"{"config":{"total_memories":4,"memory_protection_keys":"yes"},"offered":{"keys":2},
+"modules":[{"memories":[{"min":1}]}],
+"parties":[{"commands":[{"do":"instantiate","module":0},{"do":"instantiate","module":0},{"do":"instantiate","module":0}]},
+{"commands":[{"do":"instantiate","module":0}]}]}"#;
 
-const TWO_SHARDS: &str =
-    "{\"shards\":2,\"config\":{\"total_memories\":128},\"modules\":[{\"memories\":[{\"min\":1}]}],\"parties\":[{\"commands\":[{\"do\":\"instantiate\",\"module\":0}]},{\"home\":1,\"commands\":[{\"do\":\"instantiate\",\"module\":0}]}]}";
+const KEYS_OUTPUT: &str = "\
+0.0: granted memories 0 tables -
+0.1: granted memories 2 tables -
+0.2: refused PoolConcurrencyLimitError: maximum concurrent limit of 2 for memory stripe 0 reached
+1.0: granted memories 1 tables -
+metrics core=3 component=0 memories=3 tables=0 stacks=0 heaps=0 warm_memories=0 memory_resident=0 warm_tables=0 table_resident=0 warm_stacks=0 stack_resident=none
+pages expose=3 hide=0 map_image=0 remap_zeros=0 erase=0 recolour=4 decommit=0
+";
 
-const TWO_SHARDS_OUTPUT: &str = "0.0: granted memories 0 tables -\n\
-1.0: granted memories 64 tables -\n\
-metrics core=2 component=0 memories=2 tables=0 stacks=0 heaps=0 warm_memories=0 memory_resident=0 warm_tables=0 table_resident=0 warm_stacks=0 stack_resident=none\n\
-pages expose=2 hide=0 map_image=0 remap_zeros=0 erase=0 recolour=0 decommit=0\n";
+const PAGE_FAULT: &str = r#"{"config":{"total_memories":1},
+"faults":[{"kind":"memory","slot":0,"call":1}],
+"modules":[{"memories":[{"min":1}]}],
+"parties":[{"commands":[{"do":"instantiate","module":0},{"do":"instantiate","module":0}]}]}"#;
 
-const MANY_SHARDS: &str = "{\"shards\":17}";
+const PAGE_FAULT_OUTPUT: &str = "\
+0.0: refused PageFault
+0.1: granted memories 0 tables -
+metrics core=1 component=0 memories=1 tables=0 stacks=0 heaps=0 warm_memories=0 memory_resident=0 warm_tables=0 table_resident=0 warm_stacks=0 stack_resident=none
+pages expose=2 hide=0 map_image=0 remap_zeros=0 erase=1 recolour=0 decommit=0
+";
 
-const MANY_SHARDS_LINE: &str = "error BadConfig: shard count 17 is not from 1 to 16\n";
+const LIMITED: &str = r#"{"modules":[{"memories":[{"min":1}]}],
+"parties":[{"limits":{"memory_size":65535},"commands":[{"do":"instantiate","module":0}]}]}"#;
 
-const TOO_MANY_SHARDS: &str = "{\"shards\":4294967296}";
+const LIMITED_OUTPUT: &str = "\
+0.0: refused LimiterDenied: memory minimum size of 1 pages exceeds memory limits
+metrics core=0 component=0 memories=0 tables=0 stacks=0 heaps=0 warm_memories=1 memory_resident=0 warm_tables=0 table_resident=0 warm_stacks=0 stack_resident=none
+pages expose=1 hide=0 map_image=0 remap_zeros=0 erase=0 recolour=0 decommit=0
+";
 
 #[test]
-fn runs(rt: HostRuntime) -> Result<(), Fail> {
-    for (input, write, status, written) in [
-        (FIRST, 0, Status::Ok, FIRST_OUTPUT),
-        (FIRST, 2, Status::WriteFault, "0.0: grant"),
-        ("{}", 0, Status::Ok, NO_RUN_OUTPUT),
-        (FAR_FROM_HOME, 0, Status::Ok, NO_RUN_OUTPUT),
-        (MANY_MEMORIES, 0, Status::Ok, NO_RUN_OUTPUT),
-        (
-            TOO_MANY_MEMORIES,
-            0,
-            Status::BadConfig,
-            TOO_MANY_MEMORIES_LINE,
-        ),
-        (BATCH, 0, Status::Ok, BATCH_OUTPUT),
-        (OTHER_MODULE, 0, Status::Ok, OTHER_MODULE_OUTPUT),
-        (RESIDENT, 0, Status::Ok, RESIDENT_OUTPUT),
-        (MOVES, 0, Status::Ok, MOVES_OUTPUT),
-        (NO_BATCH, 0, Status::BadConfig, NO_BATCH_LINE),
-        (NO_BATCH, 2, Status::WriteFault, "error BadC"),
-        (TOO_RESIDENT, 0, Status::BadConfig, TOO_RESIDENT_LINE),
-        (NO_PAGE, 0, Status::BadConfig, NO_PAGE_LINE),
-        (NOT_RESERVED, 0, Status::BadConfig, NOT_RESERVED_LINE),
-        (TWO_SHARDS, 0, Status::Ok, TWO_SHARDS_OUTPUT),
-        (MANY_SHARDS, 0, Status::BadConfig, MANY_SHARDS_LINE),
-        (TOO_MANY_SHARDS, 0, Status::BadInput, "error BadInput\n"),
-    ] {
-        let (ends, sink) = ended(rt.alloc(), "run", input, 0, write)?;
-        assert_eq!(rt; ends, status, "at {input}");
-        assert_eq!(rt; sink.taken(), written.as_bytes(), "at {input}");
-    }
-    Ok(())
-}
-
-const STOPPED: &str =
-    "{\"config\":{\"total_memories\":1},\"modules\":[{\"memories\":[{\"min\":1,\"image\":{\"offset\":0,\"hex\":\"696e6974\"}}]}],\"parties\":[{\"commands\":[{\"do\":\"instantiate\",\"module\":0},{\"do\":\"write\",\"of\":0,\"at\":4,\"hex\":\"64697274\"},{\"do\":\"drop\",\"of\":0},{\"do\":\"instantiate\",\"module\":0},{\"do\":\"read\",\"of\":3,\"at\":0,\"len\":8}]}],\"schedule\":[[0,7]],\"finish\":false}";
-
-const STOPPED_OUTPUT: &str =
-    "metrics core=1 component=0 memories=0 tables=0 stacks=0 heaps=0 warm_memories=0 memory_resident=0 warm_tables=0 table_resident=0 warm_stacks=0 stack_resident=none\n\
-pages expose=1 hide=0 map_image=1 remap_zeros=0 erase=0 recolour=0 decommit=0\n";
-
-const STOPPED_LATER: &str =
-    "{\"config\":{\"total_memories\":1},\"modules\":[{\"memories\":[{\"min\":1,\"image\":{\"offset\":0,\"hex\":\"696e6974\"}}]}],\"parties\":[{\"commands\":[{\"do\":\"instantiate\",\"module\":0},{\"do\":\"write\",\"of\":0,\"at\":4,\"hex\":\"64697274\"},{\"do\":\"drop\",\"of\":0},{\"do\":\"instantiate\",\"module\":0},{\"do\":\"read\",\"of\":3,\"at\":0,\"len\":8}]}],\"schedule\":[[0,8]],\"finish\":false}";
-
-const STOPPED_LATER_OUTPUT: &str = "0.0: granted memories 0 tables -\n\
-metrics core=1 component=0 memories=1 tables=0 stacks=0 heaps=0 warm_memories=0 memory_resident=0 warm_tables=0 table_resident=0 warm_stacks=0 stack_resident=none\n\
-pages expose=1 hide=0 map_image=1 remap_zeros=0 erase=0 recolour=0 decommit=0\n";
-
-const TWO_PARTIES: &str =
-    "{\"config\":{\"total_memories\":2,\"decommit_batch_size\":3},\"modules\":[{\"memories\":[{\"min\":1}]}],\"parties\":[{\"commands\":[{\"do\":\"instantiate\",\"module\":0},{\"do\":\"instantiate\",\"module\":0},{\"do\":\"drop\",\"of\":0},{\"do\":\"drop\",\"of\":1},{\"do\":\"instantiate\",\"module\":0}]},{\"commands\":[{\"do\":\"instantiate\",\"module\":0},{\"do\":\"instantiate\",\"module\":0}]}],\"schedule\":[[0,27],[1,6]]}";
-
-const TWO_PARTIES_OUTPUT: &str = "0.0: granted memories 0 tables -\n\
-0.1: granted memories 1 tables -\n\
-0.2: returned\n\
-0.3: returned\n\
-0.4: granted memories 1 tables -\n\
-1.0: refused PoolConcurrencyLimitError: maximum concurrent limit of 2 for memory stripe 0 reached\n\
-1.1: granted memories 0 tables -\n\
-metrics core=2 component=0 memories=2 tables=0 stacks=0 heaps=0 warm_memories=0 memory_resident=0 warm_tables=0 table_resident=0 warm_stacks=0 stack_resident=none\n\
-pages expose=2 hide=0 map_image=0 remap_zeros=0 erase=0 recolour=0 decommit=2\n";
-
-#[test]
-fn runs_by_a_schedule(rt: HostRuntime) -> Result<(), Fail> {
+fn runs_of_memories(rt: HostRuntime) -> Result<(), Fail> {
+    let page = PageSize::new(4096)?;
     for (input, written) in [
+        (FIRST, FIRST_OUTPUT),
+        ("{}", NOTHING_OUTPUT),
+        (NO_SLOT, NO_SLOT_OUTPUT),
+        (BATCH, BATCH_OUTPUT),
         (STOPPED, STOPPED_OUTPUT),
-        (STOPPED_LATER, STOPPED_LATER_OUTPUT),
-        (TWO_PARTIES, TWO_PARTIES_OUTPUT),
+        (AFFINE, AFFINE_OUTPUT),
+        (TWO_SHARDS, TWO_SHARDS_OUTPUT),
+        (GROWS, GROWS_OUTPUT),
+        (GROWS_OR_TRAPS, GROWS_OR_TRAPS_OUTPUT),
+        (RESIDENT, RESIDENT_OUTPUT),
+        (RELEASED, RELEASED_OUTPUT),
+        (SMALL_PAGES, SMALL_PAGES_OUTPUT),
+        (IMAGE_PAST_THE_END, IMAGE_PAST_THE_END_OUTPUT),
+        (IMAGE_INSIDE_A_PAGE, IMAGE_INSIDE_A_PAGE_OUTPUT),
+        (NO_BYTES, NO_BYTES_OUTPUT),
+        (OTHER_MODULE, OTHER_MODULE_OUTPUT),
+        (PURGED, PURGED_OUTPUT),
+        (KEYS, KEYS_OUTPUT),
+        (PAGE_FAULT, PAGE_FAULT_OUTPUT),
+        (LIMITED, LIMITED_OUTPUT),
     ] {
-        assert_ended(&rt, rt.alloc(), "run", input, Status::Ok, written)?;
+        let pages = MemoryPages::new(page);
+        assert_ended(
+            &rt,
+            rt.alloc(),
+            pages,
+            "run",
+            input,
+            0,
+            0,
+            Status::Ok,
+            written,
+        )?;
     }
     Ok(())
 }
 
-const UNTOLD_OUTPUT: &str = "0.0: granted memories 0 tables -\n\
-0.1: done\n\
-0.2: returned\n\
-0.3: granted memories 0 tables -\n\
-0.4: bytes 5a5a5a5a5a5a5a5a\n\
-metrics core=1 component=0 memories=1 tables=0 stacks=0 heaps=0 warm_memories=0 memory_resident=0 warm_tables=0 table_resident=0 warm_stacks=0 stack_resident=none\n\
-pages expose=1 hide=0 map_image=2 remap_zeros=1 erase=0 recolour=0 decommit=1\n";
+const UNTOLD_OUTPUT: &str = "\
+0.0: granted memories 0 tables -
+0.1: done
+0.2: returned
+0.3: granted memories 0 tables -
+0.4: bytes 5a5a5a5a5a5a5a5a
+metrics core=1 component=0 memories=1 tables=0 stacks=0 heaps=0 warm_memories=0 memory_resident=0 warm_tables=0 table_resident=0 warm_stacks=0 stack_resident=none
+pages expose=1 hide=0 map_image=2 remap_zeros=1 erase=0 recolour=0 decommit=1
+";
 
-/// What is read comes from the regions: over pages that tell nothing it is what they answer. They don't read as the image
-/// that was mapped, so it is mapped again.
+// What is read comes from the regions: over pages that tell nothing it is what they answer. They don't read as the image
+// that was mapped, so it is mapped again.
 #[test]
 fn reads_what_the_pages_hold(rt: HostRuntime) -> Result<(), Fail> {
-    let (ends, sink) = ended_over(rt.alloc(), "run", FIRST, 0, 0, UntoldPages::new(page()?))?;
-    assert_eq!(rt; ends, Status::Ok);
-    assert_eq!(rt; sink.taken(), UNTOLD_OUTPUT.as_bytes());
-    Ok(())
-}
-
-const GROWS: &str =
-    "{\"config\":{\"max_memory_size\":131072,\"total_memories\":1},\"modules\":[{\"memories\":[{\"min\":1}]}],\"parties\":[{\"commands\":[{\"do\":\"instantiate\",\"module\":0},{\"do\":\"grow\",\"of\":0,\"pages\":0},{\"do\":\"grow\",\"of\":0,\"pages\":1},{\"do\":\"size\",\"of\":0},{\"do\":\"grow\",\"of\":0,\"pages\":1}]}]}";
-
-const GROWS_OUTPUT: &str = "0.0: granted memories 0 tables -\n\
-0.1: grown 65536\n\
-0.2: grown 65536\n\
-0.3: size 131072\n\
-0.4: grown none\n\
-metrics core=1 component=0 memories=1 tables=0 stacks=0 heaps=0 warm_memories=0 memory_resident=0 warm_tables=0 table_resident=0 warm_stacks=0 stack_resident=none\n\
-pages expose=2 hide=0 map_image=0 remap_zeros=0 erase=0 recolour=0 decommit=0\n";
-
-const GROWS_OR_TRAPS: &str =
-    "{\"config\":{\"max_memory_size\":131072,\"total_memories\":1},\"modules\":[{\"memories\":[{\"min\":1}]}],\"parties\":[{\"limits\":{\"trap_on_grow_failure\":true},\"commands\":[{\"do\":\"instantiate\",\"module\":0},{\"do\":\"grow\",\"of\":0,\"pages\":1},{\"do\":\"grow\",\"of\":0,\"pages\":1}]}]}";
-
-const GROWS_OR_TRAPS_OUTPUT: &str = "0.0: granted memories 0 tables -\n\
-0.1: grown 65536\n\
-0.2: refused LimiterFault: forcing a memory growth failure to be a trap\n\
-metrics core=1 component=0 memories=1 tables=0 stacks=0 heaps=0 warm_memories=0 memory_resident=0 warm_tables=0 table_resident=0 warm_stacks=0 stack_resident=none\n\
-pages expose=2 hide=0 map_image=0 remap_zeros=0 erase=0 recolour=0 decommit=0\n";
-
-const SMALL_PAGES: &str =
-    "{\"page\":16,\"config\":{\"total_memories\":1},\"modules\":[{\"memories\":[{\"min\":32,\"page_log2\":0,\"image\":{\"offset\":16,\"hex\":\"00112233445566778899aabbccddeeff\"}}]}],\"parties\":[{\"commands\":[{\"do\":\"instantiate\",\"module\":0},{\"do\":\"read\",\"of\":0,\"at\":12,\"len\":8}]}]}";
-
-const SMALL_PAGES_OUTPUT: &str = "0.0: granted memories 0 tables -\n\
-0.1: bytes 0000000000112233\n\
-metrics core=1 component=0 memories=1 tables=0 stacks=0 heaps=0 warm_memories=0 memory_resident=0 warm_tables=0 table_resident=0 warm_stacks=0 stack_resident=none\n\
-pages expose=1 hide=0 map_image=1 remap_zeros=0 erase=0 recolour=0 decommit=0\n";
-
-const IMAGE_PAST_THE_END: &str =
-    "{\"page\":16,\"config\":{\"total_memories\":1},\"modules\":[{\"memories\":[{\"min\":31,\"page_log2\":0,\"image\":{\"offset\":16,\"hex\":\"00112233445566778899aabbccddeeff\"}}]}],\"parties\":[{\"commands\":[{\"do\":\"instantiate\",\"module\":0},{\"do\":\"read\",\"of\":0,\"at\":12,\"len\":8}]}]}";
-
-const IMAGE_PAST_THE_END_OUTPUT: &str = "0.0: granted memories 0 tables -\n\
-0.1: bytes 0000000000000000\n\
-metrics core=1 component=0 memories=1 tables=0 stacks=0 heaps=0 warm_memories=0 memory_resident=0 warm_tables=0 table_resident=0 warm_stacks=0 stack_resident=none\n\
-pages expose=1 hide=0 map_image=0 remap_zeros=0 erase=0 recolour=0 decommit=0\n";
-
-const IMAGE_INSIDE_A_PAGE: &str =
-    "{\"page\":16,\"config\":{\"total_memories\":1},\"modules\":[{\"memories\":[{\"min\":32,\"page_log2\":0,\"image\":{\"offset\":8,\"hex\":\"00112233445566778899aabbccddeeff\"}}]}],\"parties\":[{\"commands\":[{\"do\":\"instantiate\",\"module\":0}]}]}";
-
-const IMAGE_INSIDE_A_PAGE_OUTPUT: &str =
-    "0.0: refused Unsupported: image offset 8 is not a multiple of the page\n\
-metrics core=0 component=0 memories=0 tables=0 stacks=0 heaps=0 warm_memories=0 memory_resident=0 warm_tables=0 table_resident=0 warm_stacks=0 stack_resident=none\n\
-pages expose=0 hide=0 map_image=0 remap_zeros=0 erase=0 recolour=0 decommit=0\n";
-
-const LIMITED: &str =
-    "{\"modules\":[{\"memories\":[{\"min\":1}]}],\"parties\":[{\"limits\":{\"memory_size\":65535},\"commands\":[{\"do\":\"instantiate\",\"module\":0}]}]}";
-
-const LIMITED_OUTPUT: &str =
-    "0.0: refused LimiterDenied: memory minimum size of 1 pages exceeds memory limits\n\
-metrics core=0 component=0 memories=0 tables=0 stacks=0 heaps=0 warm_memories=1 memory_resident=0 warm_tables=0 table_resident=0 warm_stacks=0 stack_resident=none\n\
-pages expose=1 hide=0 map_image=0 remap_zeros=0 erase=0 recolour=0 decommit=0\n";
-
-const FAULTY: &str =
-    "{\"config\":{\"total_memories\":1},\"faults\":[{\"kind\":\"memory\",\"slot\":0,\"call\":1}],\"modules\":[{\"memories\":[{\"min\":1}]}],\"parties\":[{\"commands\":[{\"do\":\"instantiate\",\"module\":0},{\"do\":\"instantiate\",\"module\":0}]}]}";
-
-const FAULTY_OUTPUT: &str = "0.0: refused PageFault\n\
-0.1: granted memories 0 tables -\n\
-metrics core=1 component=0 memories=1 tables=0 stacks=0 heaps=0 warm_memories=0 memory_resident=0 warm_tables=0 table_resident=0 warm_stacks=0 stack_resident=none\n\
-pages expose=2 hide=0 map_image=0 remap_zeros=0 erase=1 recolour=0 decommit=0\n";
-
-#[test]
-fn runs_of_sizes_limits_and_faults(rt: HostRuntime) -> Result<(), Fail> {
-    for (input, status, written) in [
-        (GROWS, Status::Ok, GROWS_OUTPUT),
-        (GROWS_OR_TRAPS, Status::Ok, GROWS_OR_TRAPS_OUTPUT),
-        (SMALL_PAGES, Status::Ok, SMALL_PAGES_OUTPUT),
-        (IMAGE_PAST_THE_END, Status::Ok, IMAGE_PAST_THE_END_OUTPUT),
-        (IMAGE_INSIDE_A_PAGE, Status::Ok, IMAGE_INSIDE_A_PAGE_OUTPUT),
-        (LIMITED, Status::Ok, LIMITED_OUTPUT),
-        (FAULTY, Status::Ok, FAULTY_OUTPUT),
-    ] {
-        assert_ended(&rt, rt.alloc(), "run", input, status, written)?;
-    }
-    Ok(())
-}
-
-const NO_IMAGES: &str =
-    "{\"config\":{\"total_memories\":1},\"tunables\":{\"memory_init_cow\":false},\"modules\":[{\"memories\":[{\"min\":1,\"image\":{\"offset\":0,\"hex\":\"696e6974\"}}]}],\"parties\":[{\"commands\":[{\"do\":\"instantiate\",\"module\":0},{\"do\":\"write\",\"of\":0,\"at\":4,\"hex\":\"64697274\"},{\"do\":\"drop\",\"of\":0},{\"do\":\"instantiate\",\"module\":0},{\"do\":\"read\",\"of\":3,\"at\":0,\"len\":8}]}]}";
-
-const NO_IMAGES_WITH_A_FAULT: &str =
-    "{\"config\":{\"total_memories\":1},\"tunables\":{\"memory_init_cow\":false},\"faults\":[{\"kind\":\"image\",\"slot\":0,\"call\":0}],\"modules\":[{\"memories\":[{\"min\":1,\"image\":{\"offset\":0,\"hex\":\"696e6974\"}}]}],\"parties\":[{\"commands\":[{\"do\":\"instantiate\",\"module\":0},{\"do\":\"write\",\"of\":0,\"at\":4,\"hex\":\"64697274\"},{\"do\":\"drop\",\"of\":0},{\"do\":\"instantiate\",\"module\":0},{\"do\":\"read\",\"of\":3,\"at\":0,\"len\":8}]}]}";
-
-const NO_IMAGES_OUTPUT: &str = "0.0: granted memories 0 tables -\n\
-0.1: done\n\
-0.2: returned\n\
-0.3: granted memories 0 tables -\n\
-0.4: bytes 0000000000000000\n\
-metrics core=1 component=0 memories=1 tables=0 stacks=0 heaps=0 warm_memories=0 memory_resident=0 warm_tables=0 table_resident=0 warm_stacks=0 stack_resident=none\n\
-pages expose=1 hide=0 map_image=0 remap_zeros=0 erase=0 recolour=0 decommit=1\n";
-
-const IMAGE_FAULT: &str =
-    "{\"config\":{\"total_memories\":1},\"faults\":[{\"kind\":\"image\",\"slot\":0,\"call\":0}],\"modules\":[{\"memories\":[{\"min\":1,\"image\":{\"offset\":0,\"hex\":\"696e6974\"}}]}],\"parties\":[{\"commands\":[{\"do\":\"instantiate\",\"module\":0},{\"do\":\"write\",\"of\":0,\"at\":4,\"hex\":\"64697274\"},{\"do\":\"drop\",\"of\":0},{\"do\":\"instantiate\",\"module\":0},{\"do\":\"read\",\"of\":3,\"at\":0,\"len\":8}]}]}";
-
-const MEMORY_FAULT: &str =
-    "{\"config\":{\"total_memories\":1},\"faults\":[{\"kind\":\"memory\",\"slot\":0,\"call\":0}]}";
-
-const FAULT_OF_NO_SLOT: &str =
-    "{\"config\":{\"total_memories\":1},\"faults\":[{\"kind\":\"memory\",\"slot\":1,\"call\":0}]}";
-
-const PAGE_FAULT: &str = "error PageFault\n";
-
-const INSIDE_A_PAGE_WITH_A_FAULT: &str =
-    "{\"page\":16,\"faults\":[{\"kind\":\"image\",\"slot\":0,\"call\":0}],\"config\":{\"total_memories\":1},\"modules\":[{\"memories\":[{\"min\":32,\"page_log2\":0,\"image\":{\"offset\":8,\"hex\":\"00112233445566778899aabbccddeeff\"}}]}],\"parties\":[{\"commands\":[{\"do\":\"instantiate\",\"module\":0}]}]}";
-
-const PAST_THE_END_WITH_A_FAULT: &str =
-    "{\"page\":16,\"faults\":[{\"kind\":\"image\",\"slot\":0,\"call\":0}],\"config\":{\"total_memories\":1},\"modules\":[{\"memories\":[{\"min\":31,\"page_log2\":0,\"image\":{\"offset\":16,\"hex\":\"00112233445566778899aabbccddeeff\"}}]}],\"parties\":[{\"commands\":[{\"do\":\"instantiate\",\"module\":0},{\"do\":\"read\",\"of\":0,\"at\":12,\"len\":8}]}]}";
-
-// A making fails where it is listed and made, and nothing else is hindered by a listed making.
-#[test]
-fn makings_that_are_listed(rt: HostRuntime) -> Result<(), Fail> {
-    for (input, status, written) in [
-        (NO_IMAGES, Status::Ok, NO_IMAGES_OUTPUT),
-        (NO_IMAGES_WITH_A_FAULT, Status::Ok, NO_IMAGES_OUTPUT),
-        (IMAGE_FAULT, Status::PageFault, PAGE_FAULT),
-        (MEMORY_FAULT, Status::PageFault, PAGE_FAULT),
-        (FAULT_OF_NO_SLOT, Status::Ok, NO_RUN_OUTPUT),
-        (
-            INSIDE_A_PAGE_WITH_A_FAULT,
-            Status::Ok,
-            IMAGE_INSIDE_A_PAGE_OUTPUT,
-        ),
-        (
-            PAST_THE_END_WITH_A_FAULT,
-            Status::Ok,
-            IMAGE_PAST_THE_END_OUTPUT,
-        ),
-    ] {
-        assert_ended(&rt, rt.alloc(), "run", input, status, written)?;
-    }
-    Ok(())
-}
-
-// A listed making fails over a maker that tells no plan too.
-#[test]
-fn listed_makings_of_any_maker(rt: HostRuntime) -> Result<(), Fail> {
-    for input in [IMAGE_FAULT, MEMORY_FAULT] {
-        let pages = UntoldPages::new(page()?);
-        let (ends, sink) = ended_over(rt.alloc(), "run", input, 0, 0, pages)?;
-        assert_eq!(rt; ends, Status::PageFault, "at {input}");
-        assert_eq!(rt; sink.taken(), PAGE_FAULT.as_bytes(), "at {input}");
-    }
-    Ok(())
-}
-
-const TWO_MODULES: &str =
-    "{\"config\":{\"total_memories\":2},\"modules\":[{\"memories\":[{\"min\":1}]},{\"memories\":[{\"min\":1}]}],\"parties\":[{\"commands\":[{\"do\":\"instantiate\",\"module\":0},{\"do\":\"drop\",\"of\":0},{\"do\":\"instantiate\",\"module\":1},{\"do\":\"drop\",\"of\":2},{\"do\":\"instantiate\",\"module\":0}]}]}";
-
-const TWO_MODULES_OUTPUT: &str = "0.0: granted memories 0 tables -\n\
-0.1: returned\n\
-0.2: granted memories 1 tables -\n\
-0.3: returned\n\
-0.4: granted memories 0 tables -\n\
-metrics core=1 component=0 memories=1 tables=0 stacks=0 heaps=0 warm_memories=1 memory_resident=0 warm_tables=0 table_resident=0 warm_stacks=0 stack_resident=none\n\
-pages expose=2 hide=0 map_image=0 remap_zeros=0 erase=0 recolour=0 decommit=2\n";
-
-// Of two free slots each module gets the one that it had.
-#[test]
-fn a_module_gets_its_slot_again(rt: HostRuntime) -> Result<(), Fail> {
+    let page = PageSize::new(4096)?;
+    let pages = UntoldPages { page, next: 0 };
     assert_ended(
         &rt,
         rt.alloc(),
+        pages,
         "run",
-        TWO_MODULES,
+        FIRST,
+        0,
+        0,
         Status::Ok,
-        TWO_MODULES_OUTPUT,
+        UNTOLD_OUTPUT,
     )
 }

@@ -1,23 +1,25 @@
 ghost use Rattle.std.specs.Prelude.{◌≡◌, true, IfOk};
-ghost use Rattle.pool_pages.specs.declared.bad_config.BadConfig.{BadConfig};
+ghost use Rattle.pool_types.specs.declared.bad_config.BadConfig.{BadConfig};
 ghost use Rattle.pool_run.specs.Built.{is_built};
 ghost use Rattle.pool_cli.specs.Lines.{config_line};
-ghost use Rattle.pool_cli.specs.Reading.{reading_of_fit, shared_reading_of_fit};
+ghost use Rattle.pool_forms.specs.Reading.{reading_of_fit, shared_reading_of_fit};
 ghost use Rattle.pool_cli.specs.Stages.{ReadsBytes, ReadsInput, Prepares, WritesText, Refuses, IsRunFailure, input_failure};
 ghost use Rattle.pool_cli.specs.Statuses.{run_format, shared_format};
 ghost use Rattle.pool_cli.specs.Words.{task_of};
 ghost use Rattle.pool_cli.specs.declared.words.Task.TheVariants.{Run, RunOnDemand, Shared};
 
 use crate::failure::{Failure, config_line};
-use crate::json_input::{InputFault, read_input, read_shared};
-use crate::print::{output_text, replies_text};
-use crate::print_shared::shared_text;
 use crate::status::Status;
-use crate::streams::{Sink, Source};
-use crate::transfers::{ReadFault, read_all, write_all};
 use crate::words::{Task, task_of};
-use pool_pages::{BadConfig, ByteList, PageMaker};
-use pool_run::{Input, RunFault, SharedInput, run_on_demand, run_schedule, run_shared};
+use pool_forms::{
+    InputFault, ReadFault, Sink, Source, output_text, read_all, read_input, read_shared,
+    replies_text, shared_text, write_all,
+};
+use pool_pages::PageMaker;
+use pool_run::{Input, RunFault, run_schedule};
+use pool_run_on_demand::run_on_demand;
+use pool_run_shared::{SharedInput, run_shared};
+use pool_types::{BadConfig, ByteList};
 use std::alloc::Global;
 
 /// Reads all that the source has.

@@ -1,10 +1,8 @@
 ghost use Rattle.std.specs.Prelude.{◌≡◌, ◌==◌, if◌then◌else◌, Ok};
-ghost use Rattle.pool_pages.specs.Told.{risen};
+ghost use Rattle.pool_types.specs.Rising.{risen};
 
-use pool_pages::{
-    DecommitBehavior, HostAlignedByteCount, ImageData, MakeFault, PageCalls, PageFault, PageMaker,
-    PageSize, Pages, RegionName,
-};
+use pool_pages::{ImageData, MakeFault, PageCalls, PageFault, PageMaker, Pages, RegionName};
+use pool_types::{DecommitBehavior, HostAlignedByteCount, PageSize};
 use std::alloc::Global;
 use std::marker::Model;
 
@@ -209,14 +207,8 @@ impl Pages for UntoldRegion {
 /// Makes regions that tell nothing. No making fails.
 #[derive(Drop)]
 pub(crate) struct UntoldPages {
-    page: PageSize,
-    next: u32,
-}
-
-impl UntoldPages {
-    pub(crate) fn new(page: PageSize) -> UntoldPages {
-        UntoldPages { page, next: 0 }
-    }
+    pub(crate) page: PageSize,
+    pub(crate) next: u32,
 }
 
 impl PageMaker for UntoldPages {
@@ -255,15 +247,7 @@ impl PageMaker for UntoldPages {
             len,
             behaviour,
             made: 0,
-            calls: PageCalls {
-                expose: 0,
-                hide: 0,
-                map_image: 0,
-                remap_zeros: 0,
-                erase: 0,
-                recolour: 0,
-                decommit: 0,
-            },
+            calls: PageCalls::none(),
         })
     }
 

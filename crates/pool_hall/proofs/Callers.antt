@@ -1,7 +1,6 @@
 -- For proofs of those who call a hall: what a seat holds before and after its part is lent, and the puts that move one unit.
-use Rattle.std.proofs.Common.{◌≡◌, ℕ, ◌+◌, ◌<◌, ◌≤◌, true, false, List, [], ◌∷◌, get_or, ⊎_elim, sym, refl, ap, subst, ◌∙◌, arith}
+use Rattle.std.proofs.Common.{◌≡◌, ℕ, ◌+◌, ◌<◌, ◌≤◌, true, false, List, [], ◌∷◌, get_or, ⊎_elim, sym, refl, ap, subst, ◌∙◌, arith, slice_index}
 use Rattle.std.proofs.lemmas.Bool.{cases_Bool}
-use Rattle.std.specs.Prelude.{slice_index}
 use Rattle.atomic_table.specs.Table.{rest}
 use Rattle.pool_hall.specs.declared.unit_name.UnitName.{UnitName}
 use Rattle.pool_hall.specs.declared.hall.Hall.{Hall}

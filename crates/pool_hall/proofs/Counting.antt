@@ -1,7 +1,6 @@
 -- The steps on a counter keep the rule.
-use Rattle.std.proofs.Common.{◌≡◌, ◌≢◌, ℕ, ◌+◌, ◌-◌, ◌/◌, ◌%◌, ◌^◌, ◌<◌, ◌≤◌, ◌==◌, if◌then◌else◌, nat_lt, Bool, true, false, List, ◌∷◌, length, set, ⊎_elim, sym, refl, ap, ◌∙◌, subst, arith, length-set, get_or-set_same, get_or-set_other}
+use Rattle.std.proofs.Common.{◌≡◌, ◌≢◌, ℕ, ◌+◌, ◌-◌, ◌/◌, ◌%◌, ◌^◌, ◌<◌, ◌≤◌, ◌==◌, if◌then◌else◌, nat_lt, Bool, true, false, List, ◌∷◌, length, set, ⊎_elim, sym, refl, ap, ◌∙◌, subst, arith, length-set, get_or-set_same, get_or-set_other, slice_index}
 use Rattle.std.proofs.lemmas.Bool.{cases_eq, cases_lt, eq-eqb, ne_eqb, lt-ltb, le-ltb}
-use Rattle.std.specs.Prelude.{slice_index}
 use mathlib.Core.Option.{some, none}
 use lib.ListN.{get_elem?}
 use Rattle.atomic_table.specs.Table.{State, Me, step, keeps, Allows}
@@ -77,9 +76,6 @@ module _ {T : Type 0} (m : Meaning T) (parts : List T) (limits : List ℕ) where
 
     abbrev found : ℕ
     found = slice_index s.words word
-
-    after : ℕ → View T → St
-    after n w = record { words = set s.words word n; homes = s.homes; views = set s.views id w }
 
     wide : word < length s.words
     wide = let w : length s.words ≡ word_of (length parts + length limits) = l.places.wide in omega arith

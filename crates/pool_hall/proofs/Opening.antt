@@ -1,6 +1,5 @@
 -- The rule at the start, and what it says at the end.
-use Rattle.std.proofs.Common.{◌≡◌, ℕ, zero, suc, ◌+◌, ◌*◌, ◌%◌, ◌^◌, ◌<◌, List, [], ◌∷◌, length, replicate, get_or, None, sym, refl, ap, ◌∙◌, subst, arith}
-use Rattle.std.specs.Prelude.{slice_index}
+use Rattle.std.proofs.Common.{◌≡◌, ℕ, zero, suc, ◌+◌, ◌*◌, ◌%◌, ◌^◌, ◌<◌, List, [], ◌∷◌, length, replicate, get_or, None, sym, refl, ap, ◌∙◌, subst, arith, slice_index}
 use mathlib.Core.Option.{some, none, some-injective, some-ne-none}
 use mathlib.Core.Option as maybe
 use lib.ListN.{get_elem?, length-map, length-replicate, get_or-replicate}
@@ -35,9 +34,6 @@ module _ {T : Type 0} (m : Meaning T) (parts : List T) (limits : List ℕ) where
 
     zero_word : (p : ℕ) → p < length parts + length limits → slice_index words (word_of p) ≡ 0
     zero_word p near = ap (λ l. get_or l (word_of p) 0) blank ∙ get_or-replicate ((length parts + length limits) * 16) (word_of p) 0 0 (omega arith)
-
-    first : View T
-    first = first_view parts limits
 
     opens_view : IsView m parts limits parts (first_view parts limits)
     opens_view = record {

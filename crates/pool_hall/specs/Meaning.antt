@@ -38,5 +38,6 @@ module _ {T : Type 0} (m : Meaning T) (parts : List T) (limits : List ℕ) where
 abbrev pub AllStand : {T : Type 0} → Meaning T → List T → List ℕ → List T → Type 0
 AllStand {T} m parts limits xs = (p : ℕ) (x : T) → slice_get xs p ≡ Some x → StandsAt m parts limits p x
 
+-- A hall may be made with all these parts, each at its place.
 abbrev pub AllFresh : {T : Type 0} → Meaning T → List T → List ℕ → Type 0
 AllFresh {T} m parts limits = (p : ℕ) (x : T) → slice_get parts p ≡ Some x → IsFreshAt m parts limits p x

@@ -18,16 +18,17 @@ word_of n = n * 16
 abbrev pub nobody : {T : Type 0} → View T
 nobody = record { parts = []; limits = []; held = None; units = []; rises = []; topped = []; added = []; low = []; subtracted = []; portions = 0 }
 
--- the view of the first seat
+-- The view of a hall's first seat: all portions, and nothing else.
 abbrev pub first_view : {T : Type 0} → List T → List ℕ → View T
 first_view parts limits = record { parts = parts; limits = limits; held = None; units = []; rises = []; topped = []; added = []; low = []; subtracted = []; portions = all_portions }
 
 module _ {T : Type 0} (m : Meaning T) (parts : List T) (limits : List ℕ) where
+  -- How often the part at a place has this unit given out; not at all where there is no part.
   abbrev pub away_of : UnitName → Option T → ℕ
   away_of u none = 0
   away_of u (some x) = times u (m.away x)
 
-  -- how often the part at the unit's place has it away
+  -- How often the part at the unit's own place has it given out.
   abbrev pub out : UnitName → List T → ℕ
   out u xs = away_of u (get_elem? xs (m.place parts limits u))
 
@@ -39,7 +40,9 @@ module _ {T : Type 0} (m : Meaning T) (parts : List T) (limits : List ℕ) where
   abbrev pub AwayIsKept : List T → Type 0
   AwayIsKept xs = (u : UnitName) → keeping u xs ≡ out u xs
 
-  -- What is true of each view, where `now` has each part as it is at home or as its holder took it
+  -- What is true of each view. Without a portion it is empty; with one it has the hall's parts and limits. The part
+  -- that it holds is the one of that place. Its region units stand beside their pick units. A place that it saw topped
+  -- is topped. It has at most as many subtractions, and as many low additions, as additions on each counter.
   pub record IsView (now : List T) (v : View T) : Type 0 where
     pub spent : v.portions ≡ 0 → v ≡ nobody
     pub made : 0 < v.portions → (v.parts ≡ parts) × (v.limits ≡ limits)
@@ -49,7 +52,9 @@ module _ {T : Type 0} (m : Meaning T) (parts : List T) (limits : List ℕ) where
     pub fewer : (c : ℕ) → number (subtractions c) v ≤ number (additions c) v
     pub low : (c : ℕ) → number (low_additions c) v ≤ number (additions c) v
 
-  -- The rule on places, units and counts
+  -- The rule on places, units and counts. A place's word is how many views hold it, 0 or 1; at 0 its part is at home.
+  -- Each unit is with the views and kept by the parts as often as the part at its place has it away. Each count is the
+  -- sum of its rises in the views, modulo 2^64, and exactly that for a steady part. All portions add up to the whole.
   pub record Places (s : State T (View T)) : Type 0 where
     pub now : List T
     pub wide : length s.words ≡ word_of (length parts + length limits)
@@ -70,6 +75,7 @@ module _ {T : Type 0} (m : Meaning T) (parts : List T) (limits : List ℕ) where
     pub word : (c : ℕ) → c < length limits → (slice_index s.words (word_of (length parts + c)) + sum (subtractions c) s.views) % 2 ^ 64 ≡ sum (additions c) s.views % 2 ^ 64
     pub full : (c : ℕ) → sum (low_additions c) s.views < sum (additions c) s.views → slice_index limits c ≤ sum (low_additions c) s.views
 
+  -- The whole rule of a hall: of its places with their parts, and of its counters.
   pub record Lawful (s : State T (View T)) : Type 0 where
     pub places : Places s
     pub counters : Counters s

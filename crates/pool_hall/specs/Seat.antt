@@ -13,6 +13,7 @@ module _ {T : Type 0} where
   abbrev pub made_with : Hall T → List T
   made_with h = parts_of h.table.shared.key
 
+  -- The limits of the counters with which a hall was made.
   abbrev pub limits_of : Hall T → List ℕ
   limits_of h = limits_in h.table.shared.key
 

@@ -10,6 +10,7 @@ use Rattle.pool_hall.specs.Tally.{counted, additions, low_additions, subtraction
 use Rattle.pool_hall.specs.Meaning.{Meaning, StandsAt}
 
 module _ {T : Type 0} where
+  -- A part as it was taken from its place.
   abbrev pub held_at : ℕ → T → HeldPart T
   held_at p x = record { place = p; part = x }
 
@@ -21,6 +22,7 @@ module _ {T : Type 0} where
   abbrev pub add_view : ℕ → ℕ → View T → View T
   add_view c r v = record v { added = c ∷ v.added; low = if nat_lt r (slice_index v.limits c) then c ∷ v.low else v.low }
 
+  -- A seat's view once it subtracted from a counter.
   abbrev pub subtract_view : ℕ → View T → View T
   subtract_view c v = record v { subtracted = c ∷ v.subtracted }
 
@@ -111,11 +113,14 @@ module _ {T : Type 0} (m : Meaning T) where
   abbrev pub counter_of : Step T → Sits → ℕ
   counter_of st v = st.word / 16 - length v.0.parts
 
+  -- What an addition on a counter changes: the adder's view notes the counter and whether the addition was low.
   abbrev pub added : Step T → Sits → ℕ → Sits → Type 0
   added st v r w = w ≡ (add_view (counter_of st v) r v.0, v.1)
 
+  -- What a subtraction from a counter changes: the view notes it.
   abbrev pub subtracted : Step T → Sits → ℕ → Sits → Type 0
   subtracted st v r w = w ≡ (subtract_view (counter_of st v) v.0, v.1)
 
+  -- A load changes no view. One who has all portions learns the counter's exact value.
   abbrev pub loaded : Step T → Sits → ℕ → Sits → Type 0
   loaded st v r w = (w ≡ v) × (v.0.portions ≡ all_portions → Loaded (counter_of st v) r v.0)

@@ -1,18 +1,39 @@
-//! A hall: parts behind locks and counters on one table, shared by threads. Each unit that parts give out is in one hand.
+//! Locks: parts behind one lock each, and counters, which threads share. No pool uses it yet but for kinds of slots and
+//! names.
+//!
+//! What is used is `SlotKind`, and in contracts `UnitName`: the name of a right to a slot, or to its region, by which
+//! the crates above say that none is given out twice.
+//!
+//! The rest waits for a pool of threads. Read `Part` first, what lies behind a lock; then `Hall`, which has the parts
+//! and counters, and `HallSeat`, the token with which a thread calls. `View` is what a thread knows, and `PartCall` is
+//! one call on a part while its lock is held. Nothing is promised of how long a wait for a lock takes.
+//!
+//! It is ours and no port; it stands on `atomic_table` of the toolchain and on no crate of ours.
+//!
+//! ```rust
+//! let answer = hall.hold(rt, &mut seat, place, &mut call);
+//! ```
 #![tactic(auto)]
 
-mod calls;
-mod counters;
+// Kinds of slots, and the names of rights to them
+mod unit_name;
+
+// The hall: parts and counters
 mod ends;
 mod hall;
-mod holds;
 mod law;
-mod lends;
 mod part;
 mod room;
+
+// What threads call
+mod calls;
+mod counters;
+mod holds;
+mod lends;
 mod seats;
+
+// What a thread knows
 mod sums;
-mod unit_name;
 mod view;
 
 pub use hall::{Hall, HallSeat};

@@ -1,10 +1,6 @@
 -- Parts of a region that are set to what they go back to.
-use Rattle.std.proofs.Common.{◌≡◌, ℕ, ◌+◌, ◌-◌, ◌/◌, ◌≤◌, true, List, [], length, take, drop, refl, sym, ap, ◌∙◌, subst, arith, slice_range, Option, Some, None}
-use Rattle.std.specs.Prelude.{IfSome, option_map}
-use Rattle.pool_pages.specs.Count.{Count}
-use Rattle.pool_pages.specs.Contents.{Contents, IsShaped, CanReach, put, put_all, written, put_back}
-use Rattle.pool_pages.specs.Told.{Told, TellsShaped, restored}
-use Rattle.pool_pages.proofs.Puts.{length-put, length-range, range-put, range-put_both, put_empty, put_range}
+use Rattle.std.proofs.Common.{◌≡◌, ℕ, ◌+◌, ◌-◌, ◌/◌, ◌≤◌, true, List, [], length, take, drop, refl, sym, ap, ◌∙◌, subst, arith, slice_range, Option, Some, None, IfSome, option_map}
+use Rattle.pool_images.proofs.Imports.{Count, Contents, IsShaped, CanReach, put, put_all, written, put_back, Told, TellsShaped, restored, length-put, length-range, range-put, range-put_both, put_empty, put_range}
 use Rattle.pool_images.specs.Slots.{Slot, IsSlot, Keeps, IsSound, IsReady, size_of, cleared}
 use Rattle.pool_images.proofs.Making.{reach_slot}
 use Rattle.pool_images.proofs.Ready.{followed}

@@ -1,14 +1,7 @@
 -- A slot with an image mapped, and as a memory begins in it.
-use Rattle.std.proofs.Common.{◌≡◌, ℕ, ◌+◌, ◌-◌, ◌/◌, ◌%◌, ◌<◌, ◌≤◌, true, List, length, get_or, replicate, refl, sym, ap, ◌∙◌, subst, arith, slice_range, Option, Some, None}
-use Rattle.std.specs.Prelude.{IfSome, option_map}
-use Rattle.std.proofs.Math.Nat.{mod-add-div', mod-lt}
-use Rattle.pool_pages.specs.Count.{Count, rounded_up}
-use Rattle.pool_pages.specs.Contents.{Contents, CanReach, IsIn, put, put_all, image_mapped}
-use Rattle.pool_pages.specs.Told.{mapped, mapping}
-use Rattle.pool_pages.specs.declared.pages.DecommitBehavior.{DecommitBehavior}
-use Rattle.pool_pages.specs.declared.pages.DecommitBehavior.TheVariants.{Zero, RestoreOriginalMapping}
+use Rattle.std.proofs.Common.{◌≡◌, ℕ, ◌+◌, ◌-◌, ◌/◌, ◌%◌, ◌<◌, ◌≤◌, true, List, length, get_or, replicate, refl, sym, ap, ◌∙◌, subst, arith, slice_range, Option, Some, None, IfSome, option_map}
+use Rattle.pool_images.proofs.Imports.{mod-add-div', mod-lt, Count, rounded_up, Contents, CanReach, IsIn, put, put_all, image_mapped, mapped, mapping, DecommitBehavior, Zero, RestoreOriginalMapping, length-put, range-put, range-put_above, range-put_both}
 use Rattle.pool_images.specs.Images.{Image, start}
-use Rattle.pool_pages.proofs.Puts.{length-put, range-put, range-put_above, range-put_both}
 use Rattle.pool_images.specs.declared.image_slot.ImageName.{ImageName}
 use Rattle.pool_images.specs.Slots.{Slot, IsSlot, IsSound, IsReady, IsClean, IsBegun, Holds, HasImage, size_of, name_of, image_bytes, restored_image, origin_image, placed, colour_number, called, coloured, with_image}
 use Rattle.pool_images.proofs.Colours.{IsUncoloured, again, all_coloured, colours_fit, coloured_bytes, coloured_ready, coloured_slot, lifted_coloured, renewed_after}

@@ -1,26 +1,10 @@
 -- Pages that lose their colour by a call, and get it again by the one behind it.
-use Rattle.std.proofs.Common.{◌≡◌, ℕ, ◌+◌, ◌/◌, ◌%◌, ◌<◌, ◌≤◌, false, List, length, get_or, replicate, refl, ap, ◌∙◌, subst, inl, inr, arith, Option, Some, None}
-use Rattle.std.specs.Prelude.{IfSome}
-use Rattle.std.proofs.lemmas.Bool.{cases_lt}
-use Rattle.std.proofs.lemmas.List.{length-replicate, get_or-replicate, get_or_past}
-use Rattle.pool_pages.specs.Contents.{Contents, CanReach, IsIn, put_all, recoloured}
-use Rattle.pool_pages.specs.Told.{Told, PageCall, succeeded, recolouring}
-use Rattle.pool_pages.proofs.Multiples.{add_whole}
-use Rattle.pool_pages.proofs.PageNumbers.{marks_fit}
-use Rattle.pool_pages.proofs.Puts.{length-put}
+use Rattle.std.proofs.Common.{◌≡◌, ℕ, ◌+◌, ◌/◌, ◌%◌, ◌<◌, ◌≤◌, false, List, length, get_or, replicate, refl, ap, ◌∙◌, subst, inl, inr, arith, Option, Some, None, IfSome}
+use Rattle.pool_images.proofs.Imports.{cases_lt, length-replicate, Contents, CanReach, IsIn, put_all, recoloured, Told, PageCall, succeeded, recolouring, add_whole, marks_fit, length-put}
 use Rattle.pool_images.specs.Slots.{Slot, IsSlot, IsSound, IsReady, IsClean, Holds, size_of, origin_image, placed, colour_number, called, coloured, renewed}
 use Rattle.pool_images.proofs.Identity.{IsLike, same_called}
 use Rattle.pool_images.proofs.Marks.{marked_in, marked_below, marked_above}
 use Rattle.pool_images.proofs.Ready.{lifted, followed}
-
--- pages of a region as it is made have no colour
-pub no_colour : (n k : ℕ) → get_or (replicate {A = ℕ} n 0) k 0 ≡ 0
-no_colour n k =
-    let long : length (replicate {A = ℕ} n 0) ≡ n = length-replicate n 0 in
-    elim (cases_lt k n) [
-      | inl below ↦ get_or-replicate n k 0 0 below
-      | inr past ↦ get_or_past (replicate {A = ℕ} n 0) k 0 (omega arith)
-    ]
 
 -- colours of pages, once n of them from page i on have this one, if there is one
 abbrev pub again : Option ℕ → ℕ → ℕ → List ℕ → List ℕ

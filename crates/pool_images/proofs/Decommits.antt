@@ -1,11 +1,6 @@
 -- A clean slot stays clean where a range of it is decommitted, also where that fails half-way.
-use Rattle.std.proofs.Common.{◌≡◌, ℕ, ◌+◌, ◌-◌, ◌*◌, ◌/◌, ◌<◌, ◌≤◌, false, List, length, get_or, refl, sym, ap, ◌∙◌, subst, inl, inr, arith, slice_range, Option, Some, None, Result, Ok, Err}
-use Rattle.std.specs.Prelude.{IfSome, OnOk, OnErr, ◌⊎◌, slice_index_or}
-use Rattle.std.proofs.lemmas.Bool.{cases_lt}
-use Rattle.pool_pages.specs.Contents.{Contents, IsShaped, IsIn, Page, page_at, page_origin, decommitted}
-use Rattle.pool_pages.specs.Told.{Told, PageCall, IsPartly, MayChangePartly, Faulted, TellsShaped, counted, succeeded, decommitting}
-use Rattle.pool_pages.proofs.Multiples.{page_of}
-use Rattle.pool_pages.proofs.Puts.{get_or-range, same_at, same_range, range_within, same_by_pages}
+use Rattle.std.proofs.Common.{◌≡◌, ℕ, ◌+◌, ◌-◌, ◌*◌, ◌/◌, ◌<◌, ◌≤◌, false, List, length, get_or, refl, sym, ap, ◌∙◌, subst, inl, inr, arith, slice_range, Option, Some, None, Result, Ok, Err, IfSome, OnOk, OnErr, ◌⊎◌, slice_index_or}
+use Rattle.pool_images.proofs.Imports.{cases_lt, Contents, IsShaped, IsIn, Page, page_at, page_origin, decommitted, Told, PageCall, IsPartly, MayChangePartly, Faulted, TellsShaped, counted, succeeded, decommitting, page_of, get_or-range, same_at, same_range, range_within, same_by_pages}
 use Rattle.pool_images.specs.Slots.{Slot, IsSlot, IsSound, IsReady, IsClean, Holds, origin_image, placed, size_of, called}
 use Rattle.pool_images.proofs.Backs.{back_there}
 use Rattle.pool_images.proofs.Ready.{IsGood, IsStarted, good, lifted, followed}
@@ -60,14 +55,14 @@ by_page Q call c d k partly before after = elim (either call c d k partly) [
 abbrev HoldsAt : ℕ → ℕ → Page → Type 0
 HoldsAt i x p = get_or p.bytes i x ≡ get_or p.origin i x
 
-to_page : (c : Contents) (a b k i x : ℕ) → slice_range c.bytes a b ≡ slice_range c.origin a b → i < c.page → a ≤ k * c.page + i → k * c.page + i < b → HoldsAt i x (page_at k c)
+pub to_page : (c : Contents) (a b k i x : ℕ) → slice_range c.bytes a b ≡ slice_range c.origin a b → i < c.page → a ≤ k * c.page + i → k * c.page + i < b → HoldsAt i x (page_at k c)
 to_page c a b k i x same inside from below =
     let under : i < k * c.page + c.page - k * c.page = omega arith in
     get_or-range c.bytes (k * c.page) (k * c.page + c.page) i x under
     ∙ same_at c.bytes c.origin a b (k * c.page + i) x same from below
     ∙ sym (get_or-range c.origin (k * c.page) (k * c.page + c.page) i x under)
 
-from_page : (d : Contents) (k i x : ℕ) → i < d.page → HoldsAt i x (page_at k d) → get_or d.bytes (k * d.page + i) x ≡ get_or d.origin (k * d.page + i) x
+pub from_page : (d : Contents) (k i x : ℕ) → i < d.page → HoldsAt i x (page_at k d) → get_or d.bytes (k * d.page + i) x ≡ get_or d.origin (k * d.page + i) x
 from_page d k i x inside holds =
     let under : i < k * d.page + d.page - k * d.page = omega arith in
     sym (get_or-range d.bytes (k * d.page) (k * d.page + d.page) i x under)

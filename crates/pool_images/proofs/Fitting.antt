@@ -1,16 +1,6 @@
 -- A slot's sizes still fit after a call on its region, which leaves the pages outside the slot alone.
-use Rattle.std.proofs.Common.{◌≡◌, ℕ, ◌+◌, ◌*◌, ◌/◌, ◌%◌, ◌<◌, ◌≤◌, List, length, replicate, refl, sym, ap, ◌∙◌, subst, inl, inr, arith, slice_range, Option, Some, None, Result, Ok, Err}
-use Rattle.std.specs.Prelude.{IfSome, OnOk, OnErr, option_map}
-use Rattle.std.proofs.lemmas.Bool.{cases_lt}
-use Rattle.std.proofs.Math.Nat.{mul-le-mul_right}
-use Rattle.pool_pages.specs.Count.{Count, count}
-use Rattle.pool_pages.specs.Contents.{Contents, IsShaped, IsIn, Page, page_origin, put}
-use Rattle.pool_pages.specs.Told.{Told, PageCall, MayChangePartly, Faulted, TellsShaped, succeeded, exposing, hiding, mapped, mapping, remapping, erasing, recolouring, decommitting}
-use Rattle.pool_pages.specs.declared.pages.DecommitBehavior.{DecommitBehavior}
-use Rattle.pool_pages.specs.declared.pages.DecommitBehavior.TheVariants.{Zero, RestoreOriginalMapping}
-use Rattle.std.proofs.lemmas.List.{length-replicate}
-use Rattle.pool_pages.proofs.Multiples.{page_below, whole}
-use Rattle.pool_pages.proofs.Puts.{range-put_below, range-put_above}
+use Rattle.std.proofs.Common.{◌≡◌, ℕ, ◌+◌, ◌*◌, ◌/◌, ◌%◌, ◌<◌, ◌≤◌, List, length, replicate, refl, sym, ap, ◌∙◌, subst, inl, inr, arith, slice_range, Option, Some, None, Result, Ok, Err, IfSome, OnOk, OnErr, option_map}
+use Rattle.pool_images.proofs.Imports.{cases_lt, mul-le-mul_right, Count, count, Contents, IsShaped, IsIn, Page, page_origin, put, Told, PageCall, MayChangePartly, Faulted, TellsShaped, succeeded, exposing, hiding, mapped, mapping, remapping, erasing, recolouring, decommitting, DecommitBehavior, Zero, RestoreOriginalMapping, length-replicate, page_below, whole, range-put_below, range-put_above}
 use Rattle.pool_images.specs.Slots.{Slot, Keeps, IsSound, size_of, called}
 
 -- the call lies inside the slot, and leaves what the pages outside it go back to

@@ -1,8 +1,6 @@
 -- A slot stays the same one, whatever is called on its region.
-use Rattle.std.proofs.Common.{◌≡◌, Bool, refl, ap, ◌∙◌, Option, Some, None}
-use Rattle.std.specs.Prelude.{is_some, option_map}
-use Rattle.pool_pages.specs.Contents.{Contents}
-use Rattle.pool_pages.specs.Told.{Told, PageCall, MayChangePartly}
+use Rattle.std.proofs.Common.{◌≡◌, Bool, refl, ap, ◌∙◌, Option, Some, None, is_some, option_map}
+use Rattle.pool_images.proofs.Imports.{Contents, Told, PageCall, MayChangePartly}
 use Rattle.pool_images.specs.Slots.{Slot, CallFaulted, identity, called}
 
 pub told_same : (f : Contents → Contents) (o : Option Contents) → is_some (option_map f o) ≡ is_some o

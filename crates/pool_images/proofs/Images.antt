@@ -1,15 +1,7 @@
 -- The images of a module, one memory after another.
-use Rattle.std.proofs.Common.{◌≡◌, ℕ, zero, suc, ◌+◌, ◌<◌, List, [], ◌∷◌, ◌++◌, length, get_or, take, refl, sym, subst, ap, ◌∙◌, arith, Option, Some, None, Bool, true, false}
-use Rattle.std.specs.Prelude.{Result, Ok, Err, MatchResult, is_some, IfSome, option_map, ◌&&◌, ◌||◌, if◌then◌else◌}
-use Rattle.std.specs.List.{list_any}
-use Rattle.std.specs.Result.{IsErrAnd}
-use Rattle.std.proofs.lemmas.List.{take_more, length-take-le}
-use Rattle.std.proofs.lemmas.List.Folds.{list_any_at}
-use Rattle.pool_pages.specs.declared.module_types.CompiledModuleId.{CompiledModuleId}
-use Rattle.pool_pages.specs.declared.module_types.MemoryDecl.{MemoryDecl}
+use Rattle.std.proofs.Common.{◌≡◌, ℕ, zero, suc, ◌+◌, ◌<◌, List, [], ◌∷◌, ◌++◌, length, get_or, take, refl, sym, subst, ap, ◌∙◌, arith, Option, Some, None, Bool, true, false, Result, Ok, Err, MatchResult, is_some, IfSome, option_map, ◌&&◌, ◌||◌, if◌then◌else◌}
+use Rattle.pool_images.proofs.Imports.{list_any, IsErrAnd, take_more, length-take-le, list_any_at, or_false, and_false, CompiledModuleId, MemoryDecl, RaisesBehind, Planned, fails_images}
 use Rattle.pool_pages.specs.declared.maker.MakeFault.TheVariants as making
-use Rattle.pool_pages.specs.MakeFaults.{RaisesBehind}
-use Rattle.pool_pages.specs.MakerTold.{Planned, fails_images}
 use Rattle.pool_images.specs.declared.memory_image.ImageError.{ImageError}
 use Rattle.pool_images.specs.declared.memory_image.ImageError.TheVariants.{Memory, Unsupported, PageFault}
 use Rattle.pool_images.specs.ImageErrors.{RaisesImageBehind}
@@ -28,10 +20,6 @@ images_from_more id page decls i d below =
     ap (images_from id page 0) (take_more decls i d below)
     ∙ images_from_push id page 0 (take i decls) (get_or decls i d)
     ∙ ap (λ k. images_from id page 0 (take i decls) ++ option_map (image_of id page k) (get_or decls i d).image ∷ []) count
-
-or_false : (a : Bool) → (a || false) ≡ a
-or_false false = refl
-or_false true = refl
 
 or_assoc : (a b c : Bool) → (a || (b || c)) ≡ ((a || b) || c)
 or_assoc false b c = refl
@@ -62,10 +50,6 @@ planned_more (Some p) id decls i d below before next =
     ∙ makes_listed_push id p (take i decls) (get_or decls i d)
     ∙ ap (λ b. b || (is_some (get_or decls i d).image && fails_images id.0 p)) before
     ∙ next
-
-and_false : (b : Bool) → (b && false) ≡ false
-and_false true = refl
-and_false false = refl
 
 lists_none : (decls : List MemoryDecl) → list_any (λ d. is_some d.image && false) decls ≡ false
 lists_none [] = refl

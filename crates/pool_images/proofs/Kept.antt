@@ -1,11 +1,6 @@
 -- What stays of a slot where pages of it are exposed, or where that fails half-way.
-use Rattle.std.proofs.Common.{◌≡◌, ℕ, ◌+◌, ◌-◌, ◌*◌, ◌/◌, ◌%◌, ◌<◌, ◌≤◌, true, false, List, length, refl, sym, ap, ◌∙◌, subst, arith, slice_range, Option, Some, None}
-use Rattle.std.specs.Prelude.{IfSome, option_map, slice_index_or}
-use Rattle.pool_pages.specs.Count.{Count, count}
-use Rattle.pool_pages.specs.Contents.{Contents, IsShaped, IsIn, CanReach, page_bytes, page_origin, exposed}
-use Rattle.pool_pages.specs.Told.{Told, IsPartly, MayChangePartly, counted, exposing}
-use Rattle.pool_pages.proofs.Multiples.{sub_whole}
-use Rattle.pool_pages.proofs.Puts.{range_within, same_by_pages}
+use Rattle.std.proofs.Common.{◌≡◌, ℕ, ◌+◌, ◌-◌, ◌*◌, ◌/◌, ◌%◌, ◌<◌, ◌≤◌, true, false, List, length, refl, sym, ap, ◌∙◌, subst, arith, slice_range, Option, Some, None, IfSome, option_map, slice_index_or}
+use Rattle.pool_images.proofs.Imports.{Count, count, Contents, IsShaped, IsIn, CanReach, page_bytes, page_origin, exposed, Told, IsPartly, MayChangePartly, counted, exposing, sub_whole, range_within, same_by_pages}
 use Rattle.pool_images.specs.Slots.{Slot, IsSlot, IsSound, IsReady, OnlyExposed, CallFaulted, Holds, origin_image, placed, size_of, called, raising, raised}
 use Rattle.pool_images.proofs.Decommits.{by_page}
 use Rattle.pool_images.proofs.Identity.{same_called, same_faulted}

@@ -5,6 +5,7 @@ pub mod Decommits
 pub mod Fitting
 pub mod Identity
 pub mod Images
+mod Imports
 pub mod Kept
 pub mod Making
 pub mod Marks

@@ -1,12 +1,6 @@
 -- A slot as it is made, and as it is read and written.
-use Rattle.std.proofs.Common.{◌≡◌, ℕ, ◌+◌, ◌-◌, ◌*◌, ◌/◌, ◌%◌, ◌^◌, ◌<◌, ◌≤◌, false, List, length, replicate, refl, sym, ap, ◌∙◌, subst, inl, arith, slice_range, Option, Some, None}
-use Rattle.std.specs.Prelude.{IfSome, option_map}
-use Rattle.std.proofs.Math.Nat.{div-mul-le_self, le-div_iff_mul-le}
-use Rattle.pool_pages.specs.Count.{Count, count, IsPageSize, rounded_up}
-use Rattle.pool_pages.specs.Contents.{Contents, IsShaped, CanReach, HasNoOtherImage, page_origin, written}
-use Rattle.pool_pages.specs.Told.{Told, TellsShaped}
-use Rattle.pool_pages.proofs.Multiples.{page_below, whole}
-use Rattle.pool_pages.proofs.Puts.{range-put_above, range_within}
+use Rattle.std.proofs.Common.{◌≡◌, ℕ, ◌+◌, ◌-◌, ◌*◌, ◌/◌, ◌%◌, ◌^◌, ◌<◌, ◌≤◌, false, List, length, replicate, refl, sym, ap, ◌∙◌, subst, inl, arith, slice_range, Option, Some, None, IfSome, option_map}
+use Rattle.pool_images.proofs.Imports.{div-mul-le_self, le-div_iff_mul-le, Count, count, IsPageSize, rounded_up, Contents, IsShaped, CanReach, HasNoOtherImage, page_origin, written, Told, TellsShaped, page_below, whole, range-put_above, range_within}
 use Rattle.pool_images.specs.declared.image_slot.ImageName.{ImageName}
 use Rattle.pool_images.specs.Slots.{Slot, IsSlot, Keeps, IsSound, IsReady, IsClean, IsFresh, HasColour, Holds, size_of, restored_image, placed, written_at}
 use Rattle.pool_images.proofs.Marks.{page_lt, range-zeros}

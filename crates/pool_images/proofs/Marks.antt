@@ -1,11 +1,6 @@
 -- The marks of pages, and which pages bytes lie in.
 use Rattle.std.proofs.Common.{◌≡◌, ℕ, ◌+◌, ◌-◌, ◌*◌, ◌/◌, ◌%◌, ◌<◌, ◌≤◌, Bool, true, false, List, length, get_or, replicate, sym, ap, ◌∙◌, inl, inr, arith, slice_range}
-use Rattle.std.proofs.lemmas.Bool.{cases_lt}
-use Rattle.std.proofs.lemmas.List.{length-replicate, get_or-replicate, same_lists}
-use Rattle.std.proofs.Math.Nat.{le_of_mul-le-mul_right, mul-le-mul_right}
-use Rattle.pool_pages.specs.Contents.{Contents, CanReach, put, put_all, exposed, hidden}
-use Rattle.pool_pages.proofs.Multiples.{whole, add_whole}
-use Rattle.pool_pages.proofs.Puts.{get_or-put_below, get_or-put_in, get_or-put_above, get_or-range, length-range, length-put}
+use Rattle.pool_images.proofs.Imports.{cases_lt, length-replicate, get_or-replicate, same_lists, le_of_mul-le-mul_right, mul-le-mul_right, Contents, CanReach, put, put_all, exposed, hidden, whole, add_whole, get_or-put_below, get_or-put_in, get_or-put_above, get_or-range, length-range, length-put}
 
 pub page_le : (q k page : ℕ) → 0 < page → q * page ≤ k * page → q ≤ k
 page_le q k page some le = le_of_mul-le-mul_right le some

@@ -1,8 +1,6 @@
 -- Page calls in order: those of several calls on a slot, one after the other.
-use Rattle.std.proofs.Common.{◌≡◌, ℕ, List, [], ◌∷◌, ◌++◌, ◌+◌, length, Bool, true, false, Option, Some, None, Result, Ok, Err, refl, sym, ap, subst, ◌∙◌}
-use Rattle.std.proofs.lemmas.Bool.{true≢false}
-use Rattle.std.specs.Prelude.{if◌then◌else◌, IfSome, is_ok, IsErr}
-use Rattle.pool_pages.specs.Told.{Told, PageCall, succeeded, passes, mapping}
+use Rattle.std.proofs.Common.{◌≡◌, ℕ, List, [], ◌∷◌, ◌++◌, ◌+◌, length, Bool, true, false, Option, Some, None, Result, Ok, Err, refl, sym, ap, subst, ◌∙◌, if◌then◌else◌, IfSome, is_ok, IsErr}
+use Rattle.pool_images.proofs.Imports.{true≢false, Told, PageCall, succeeded, passes, mapping}
 use Rattle.pool_images.specs.Images.{Image}
 use Rattle.pool_images.specs.Orders.{Follows, colouring, failed, outcome, removing, resizing, image_mapping, replacing}
 use Rattle.pool_images.specs.Slots.{Slot, SlotIdentity, resized, without_mapped, without_image}

@@ -1,11 +1,7 @@
 -- Whole pages against powers of two, which a page divides: what rounding up leaves within one, and what leaves the addresses.
 use Rattle.std.proofs.Common.{◌≡◌, ℕ, zero, suc, ◌+◌, ◌-◌, ◌*◌, ◌/◌, ◌%◌, ◌^◌, ◌<◌, ◌≤◌, refl, sym, ap, ◌∙◌, inl, inr, arith}
+use Rattle.pool_images.proofs.Imports.{cases_eq, cases_lt, eqb-true, ones_cat, zero_from_ones, shr_split, pow-suc, mod-lt, div-lt_iff_lt-mul, le-div_iff_mul-le, mul-le-mul_right, mul-mod_left, whole, page_below, IsPageSize, rounded_up}
 use lib.Count.{ones}
-use Rattle.std.proofs.lemmas.Bool.{cases_eq, cases_lt, eqb-true}
-use Rattle.std.proofs.lemmas.Nat.{ones_cat, zero_from_ones, shr_split}
-use Rattle.std.proofs.Math.Nat.{pow-suc, mod-lt, div-lt_iff_lt-mul, le-div_iff_mul-le, mul-le-mul_right, mul-mod_left}
-use Rattle.pool_pages.proofs.Multiples.{whole, page_below}
-use Rattle.pool_pages.specs.Count.{IsPageSize, rounded_up}
 
 ones_none : ones 0 ≡ 0
 unfolding ones
@@ -72,8 +68,8 @@ whole_leaves page n sized is below =
     omega (arith, parts, room)
 
 -- whole pages
-pub rounded_whole : (page n : ℕ) → rounded_up page n % page ≡ 0
-rounded_whole page n = mul-mod_left ((n + page - 1) / page) page
+pub rounded_is_whole : (page n : ℕ) → rounded_up page n % page ≡ 0
+rounded_is_whole page n = mul-mod_left ((n + page - 1) / page) page
 
 -- what is whole pages isn't rounded up
 pub rounded_same : (page n : ℕ) → 0 < page → n % page ≡ 0 → rounded_up page n ≡ n

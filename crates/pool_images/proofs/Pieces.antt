@@ -1,9 +1,6 @@
 -- Parts of bytes that are known, and the image of a slot by its bytes.
-use Rattle.std.proofs.Common.{◌≡◌, ◌↔◌, ℕ, ◌+◌, ◌-◌, ◌<◌, ◌≤◌, Bool, IsTrue, List, length, get_or, sym, ap, ◌∙◌, arith, slice_range, Option, Some, None}
-use Rattle.std.specs.Prelude.{IfSome}
-use Rattle.std.proofs.lemmas.List.{same_lists}
-use Rattle.pool_pages.specs.Contents.{Contents}
-use Rattle.pool_pages.proofs.Puts.{length-range, get_or-range, range_within}
+use Rattle.std.proofs.Common.{◌≡◌, ◌↔◌, ℕ, ◌+◌, ◌-◌, ◌<◌, ◌≤◌, Bool, IsTrue, List, length, get_or, sym, ap, ◌∙◌, arith, slice_range, Option, Some, None, IfSome}
+use Rattle.pool_images.proofs.Imports.{same_lists, Contents, length-range, get_or-range, range_within}
 use Rattle.pool_images.specs.Images.{Image}
 use Rattle.pool_images.specs.Slots.{Slot, IsSlot, IsSound, Holds, HasImage, size_of, name_of, image_bytes}
 

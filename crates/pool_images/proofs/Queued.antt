@@ -1,10 +1,6 @@
 -- A range of a slot that is decommitted, as a queue of resets does it with one after another.
 use Rattle.std.proofs.Common.{◌≡◌, ℕ, ◌+◌, ◌%◌, refl, sym, subst, arith}
-use Rattle.pool_pages.specs.Count.{count}
-use Rattle.pool_pages.specs.Contents.{Contents, IsShaped, decommitted}
-use Rattle.pool_pages.specs.Told.{TellsShaped, succeeded, decommitting}
-use Rattle.pool_pages.proofs.Multiples.{add_whole}
-use Rattle.pool_pages.proofs.Shapes.{decommitted_shaped}
+use Rattle.pool_images.proofs.Imports.{count, Contents, IsShaped, decommitted, TellsShaped, succeeded, decommitting, add_whole, decommitted_shaped}
 use Rattle.pool_images.specs.declared.ranges.ByteRange.{ByteRange}
 use Rattle.pool_images.specs.Slots.{Slot, IsSlot, Keeps, IsSound, IsPart, size_of, called}
 use Rattle.pool_images.proofs.Fitting.{keeps_ok}

@@ -1,14 +1,6 @@
 -- A slot that was in use is clean once what a reset leaves is decommitted.
-use Rattle.std.proofs.Common.{◌≡◌, ℕ, ◌+◌, ◌-◌, ◌%◌, ◌<◌, ◌≤◌, Bool, true, false, List, [], ◌∷◌, length, min, refl, sym, ◌∙◌, subst, arith, slice_range, Option, Some, None}
-use Rattle.std.specs.Prelude.{IfSome, All, nat_lt, option_map, if◌then◌else◌}
-use Rattle.std.proofs.lemmas.List.Elements.{All-nil, All-cons}
-use Rattle.std.proofs.lemmas.Bool.{ltb-true, ltb-false, le-ltb}
-use Rattle.pool_pages.specs.Contents.{Contents, put_back, decommitted}
-use Rattle.pool_pages.specs.Told.{decommitting}
-use Rattle.pool_pages.specs.declared.pages.DecommitBehavior.{DecommitBehavior}
-use Rattle.pool_pages.specs.declared.pages.DecommitBehavior.TheVariants.{Zero, RestoreOriginalMapping}
-use Rattle.pool_pages.proofs.Multiples.{sub_whole}
-use Rattle.pool_pages.proofs.Puts.{range_joined, range_within}
+use Rattle.std.proofs.Common.{◌≡◌, ℕ, ◌+◌, ◌-◌, ◌%◌, ◌<◌, ◌≤◌, Bool, true, false, List, [], ◌∷◌, length, min, refl, sym, ◌∙◌, subst, arith, slice_range, Option, Some, None, IfSome, All, nat_lt, option_map, if◌then◌else◌}
+use Rattle.pool_images.proofs.Imports.{All-nil, All-cons, ltb-true, ltb-false, le-ltb, Contents, put_back, decommitted, decommitting, DecommitBehavior, Zero, RestoreOriginalMapping, sub_whole, range_joined, range_within}
 use Rattle.pool_images.specs.declared.image_slot.ImageName.{ImageName}
 use Rattle.pool_images.specs.Slots.{Slot, IsSlot, IsSound, IsReady, IsClean, IsPart, Holds, size_of, restored_image, called, cleared, reset_ranges, kept_bytes, decommitted_all}
 use Rattle.pool_images.proofs.Backs.{back_here, back_there, length-back}

@@ -1,9 +1,6 @@
 -- What an instantiation leaves of the sizes of a slot.
-use Rattle.std.proofs.Common.{◌≡◌, ℕ, ◌+◌, ◌-◌, ◌<◌, ◌≤◌, Bool, true, false, refl, sym, ap, ◌∙◌, subst, arith, Option, Some, None, Result, Ok, Err}
-use Rattle.std.specs.Prelude.{OnOk, ◌^◌, nat_lt, ◌&&◌, if◌then◌else◌}
-use Rattle.std.proofs.Math.Nat.{div-mul-le_self, le-div_iff_mul-le, mul-le-mul_right}
-use Rattle.pool_pages.specs.Count.{count, rounded_up}
-use Rattle.pool_pages.specs.Told.{exposing, hiding, mapping, remapping}
+use Rattle.std.proofs.Common.{◌≡◌, ℕ, ◌+◌, ◌-◌, ◌<◌, ◌≤◌, Bool, true, false, refl, sym, ap, ◌∙◌, subst, arith, Option, Some, None, Result, Ok, Err, OnOk, ◌^◌, nat_lt, ◌&&◌, if◌then◌else◌}
+use Rattle.pool_images.proofs.Imports.{div-mul-le_self, le-div_iff_mul-le, mul-le-mul_right, count, rounded_up, exposing, hiding, mapping, remapping}
 use Rattle.pool_images.specs.Images.{Image}
 use Rattle.pool_images.specs.declared.image_slot.ImageName.{ImageName}
 use Rattle.pool_images.specs.Slots.{Slot, IsSlot, SlotIdentity, IsSized, resized, replaced, without_mapped, with_image, called, renewed}

@@ -1,11 +1,6 @@
 -- A clean slot whose image is taken away.
-use Rattle.std.proofs.Common.{◌≡◌, ℕ, ◌+◌, ◌/◌, ◌≤◌, List, length, replicate, refl, sym, ap, ◌∙◌, subst, arith, Option, Some, None}
-use Rattle.std.specs.Prelude.{IfSome}
-use Rattle.std.proofs.lemmas.List.{length-replicate}
-use Rattle.pool_pages.specs.Count.{Count}
-use Rattle.pool_pages.specs.Contents.{Contents, put_all, remapped}
-use Rattle.pool_pages.specs.Told.{remapping}
-use Rattle.pool_pages.proofs.Puts.{length-put, length-range, range-put_both}
+use Rattle.std.proofs.Common.{◌≡◌, ℕ, ◌+◌, ◌/◌, ◌≤◌, List, length, replicate, refl, sym, ap, ◌∙◌, subst, arith, Option, Some, None, IfSome}
+use Rattle.pool_images.proofs.Imports.{length-replicate, Count, Contents, put_all, remapped, remapping, length-put, length-range, range-put_both}
 use Rattle.pool_images.specs.declared.image_slot.ImageName.{ImageName}
 use Rattle.pool_images.specs.Slots.{Slot, IsSlot, IsPlaced, IsClean, Holds, size_of, image_bytes, placed, called, coloured, without_mapped}
 use Rattle.pool_images.proofs.Colours.{IsAlmost, all_coloured, colours_fit, coloured_clean, renewed_after}

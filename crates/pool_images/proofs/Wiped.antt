@@ -1,15 +1,6 @@
 -- A slot with nothing mapped and all of it zeros.
-use Rattle.std.proofs.Common.{◌≡◌, ℕ, ◌+◌, ◌-◌, ◌*◌, ◌/◌, ◌%◌, ◌<◌, ◌≤◌, false, List, length, get_or, replicate, refl, sym, ap, ◌∙◌, subst, inl, inr, arith, slice_range, Option, Some, None}
-use Rattle.std.specs.Prelude.{IfSome}
-use Rattle.std.proofs.lemmas.Bool.{cases_lt}
-use Rattle.std.proofs.lemmas.List.{length-replicate}
-use Rattle.std.proofs.Math.Nat.{mul-mod_left, mul-le-mul_right}
-use Rattle.pool_pages.specs.Count.{Count, count}
-use Rattle.pool_pages.specs.Contents.{Contents, IsIn, put, put_all, erased}
-use Rattle.pool_pages.specs.Told.{erasing}
-use Rattle.pool_pages.proofs.Multiples.{whole, add_whole, page_below}
-use Rattle.pool_pages.proofs.PageNumbers.{marks_fit}
-use Rattle.pool_pages.proofs.Puts.{length-put, range-put, range-put_in, same_by_pages}
+use Rattle.std.proofs.Common.{◌≡◌, ℕ, ◌+◌, ◌-◌, ◌*◌, ◌/◌, ◌%◌, ◌<◌, ◌≤◌, false, List, length, get_or, replicate, refl, sym, ap, ◌∙◌, subst, inl, inr, arith, slice_range, Option, Some, None, IfSome}
+use Rattle.pool_images.proofs.Imports.{cases_lt, length-replicate, mul-mod_left, mul-le-mul_right, Count, count, Contents, IsIn, put, put_all, erased, erasing, whole, add_whole, page_below, marks_fit, length-put, range-put, range-put_in, same_by_pages}
 use Rattle.pool_images.specs.Slots.{Slot, IsSlot, IsSound, IsClean, IsShut, Holds, size_of, colour_number, called, coloured, renewed, wiped}
 use Rattle.pool_images.proofs.Colours.{IsAlmost, again, given_back, coloured_clean, coloured_pages, coloured_slot, lifted_coloured, renewed_after}
 use Rattle.pool_images.proofs.Marks.{marked_in, page_le, page_lt, range-zeros}

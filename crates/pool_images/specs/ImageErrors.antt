@@ -1,6 +1,6 @@
 -- What a refused making of an image does to the maker's count of faults.
 use Rattle.std.specs.Prelude.{◌≡◌, ℕ, Bool, true}
-use Rattle.pool_pages.specs.Told.{Rose}
+use Rattle.pool_types.specs.Rising.{Rose}
 use Rattle.pool_pages.specs.MakeFaults.{RaisesBehind}
 use Rattle.pool_pages.specs.declared.maker.MakeFault.TheVariants as making
 use Rattle.pool_images.specs.declared.memory_image.ImageError.{ImageError}

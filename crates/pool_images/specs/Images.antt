@@ -2,16 +2,16 @@
 use Rattle.std.specs.Prelude.{ℕ, ◌+◌, ◌-◌, ◌%◌, ◌==◌, ◌&&◌, List, [], ◌∷◌, ◌++◌, length, replicate, Bool, true, nat_le, if◌then◌else◌, Option, Some, None, is_some, option_map, option_and_then}
 use Rattle.std.specs.Option.{option_map_or}
 use Rattle.std.specs.List.{list_any}
-use Rattle.pool_pages.specs.Count.{rounded_up}
+use Rattle.pool_types.specs.Count.{rounded_up}
 use Rattle.pool_pages.specs.Contents.{put}
 use Rattle.pool_pages.specs.MakerTold.{Planned, fails_images}
-use Rattle.pool_pages.specs.MemoryTypes.{minimum_byte_size}
-use Rattle.pool_pages.specs.declared.module_types.CompiledModuleId.{CompiledModuleId}
-use Rattle.pool_pages.specs.declared.module_types.DefinedMemoryIndex.{DefinedMemoryIndex}
-use Rattle.pool_pages.specs.declared.module_types.ImageDecl.{ImageDecl}
-use Rattle.pool_pages.specs.declared.module_types.MemoryDecl.{MemoryDecl}
-use Rattle.pool_pages.specs.declared.unsupported.Unsupported.{Unsupported}
-use Rattle.pool_pages.specs.declared.unsupported.Unsupported.TheVariants.{ImageOffset, ImageLength}
+use Rattle.pool_types.specs.MemoryTypes.{minimum_byte_size}
+use Rattle.pool_types.specs.declared.module_types.CompiledModuleId.{CompiledModuleId}
+use Rattle.pool_types.specs.declared.module_types.DefinedMemoryIndex.{DefinedMemoryIndex}
+use Rattle.pool_types.specs.declared.module_types.ImageDecl.{ImageDecl}
+use Rattle.pool_types.specs.declared.module_types.MemoryDecl.{MemoryDecl}
+use Rattle.pool_types.specs.declared.unsupported.Unsupported.{Unsupported}
+use Rattle.pool_types.specs.declared.unsupported.Unsupported.TheVariants.{ImageOffset, ImageLength}
 
 -- the image of a module's memory: whole pages of bytes, at an offset
 pub record Image : Type 0 where

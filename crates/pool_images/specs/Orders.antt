@@ -1,8 +1,9 @@
 -- The page calls of each call on a slot, in their order, and how they end under a plan.
 use Rattle.std.specs.Prelude.{◌≡◌, ℕ, ◌+◌, ◌-◌, ◌&&◌, List, [], ◌∷◌, ◌++◌, length, min, Bool, true, false, nat_lt, if◌then◌else◌, Option, None, Some, IfSome}
-use Rattle.pool_pages.specs.Told.{Told, PageCall, counted, succeeded, passes, risen, restored, exposing, hiding, mapping, remapping, erasing, recolouring}
-use Rattle.pool_pages.specs.declared.pages.DecommitBehavior.{DecommitBehavior}
-use Rattle.pool_pages.specs.declared.pages.DecommitBehavior.TheVariants.{Zero, RestoreOriginalMapping}
+use Rattle.pool_pages.specs.Told.{Told, PageCall, counted, succeeded, passes, restored, exposing, hiding, mapping, remapping, erasing, recolouring}
+use Rattle.pool_types.specs.Rising.{risen}
+use Rattle.pool_types.specs.declared.decommit_behavior.DecommitBehavior.{DecommitBehavior}
+use Rattle.pool_types.specs.declared.decommit_behavior.DecommitBehavior.TheVariants.{Zero, RestoreOriginalMapping}
 use Rattle.pool_images.specs.Images.{Image}
 use Rattle.pool_images.specs.Slots.{Slot, size_of}
 use Rattle.pool_images.specs.declared.image_slot.ImageName.{ImageName}
@@ -31,6 +32,7 @@ abbrev pub unmapping : ℕ → Option ℕ → Option ImageName → List PageCall
 unmapping base colour None = []
 unmapping base colour (Some name) = remapping (base + name.offset) name.len ∷ colouring colour (base + name.offset) name.len
 
+-- The page calls that take the image out of a slot: what it covers is remapped to zeros; none without an image.
 abbrev pub removing : Slot → List PageCall
 removing s = unmapping s.base.bytes s.colour s.image
 
@@ -60,6 +62,7 @@ abbrev pub set_by_hand : DecommitBehavior → ℕ → Slot → Told
 set_by_hand RestoreOriginalMapping keep s = restored s.base.bytes (min keep s.accessible.bytes) s.region
 set_by_hand Zero keep s = s.region
 
+-- The page calls of a reset by itself: none where a decommit restores the image, else those that wipe the slot.
 abbrev pub resetting : DecommitBehavior → Slot → List PageCall
 resetting RestoreOriginalMapping s = []
 resetting Zero s = wiping s

@@ -4,8 +4,8 @@ use Rattle.std.specs.Prelude.{ℕ, ◌+◌, ◌-◌, ◌*◌, ◌/◌, ◌&&◌,
 use Rattle.std.specs.List.{filter, range_with_len}
 use Rattle.pool_pages.specs.Contents.{Contents}
 use Rattle.pool_pages.specs.Told.{Told, restored}
-use Rattle.pool_pages.specs.declared.pages.DecommitBehavior.{DecommitBehavior}
-use Rattle.pool_pages.specs.declared.pages.DecommitBehavior.TheVariants.{Zero, RestoreOriginalMapping}
+use Rattle.pool_types.specs.declared.decommit_behavior.DecommitBehavior.{DecommitBehavior}
+use Rattle.pool_types.specs.declared.decommit_behavior.DecommitBehavior.TheVariants.{Zero, RestoreOriginalMapping}
 use Rattle.pool_images.specs.Orders.{set_by_hand}
 use Rattle.pool_images.specs.Slots.{Slot, wiped, kept_bytes, left_ranges, reset_slot}
 use Rattle.pool_images.specs.declared.ranges.ByteRange.{ByteRange}
@@ -14,8 +14,8 @@ use Rattle.pool_images.specs.declared.ranges.ByteRange.{ByteRange}
 abbrev pub marks_of : Slot → Contents → List Bool
 marks_of s c = slice_range c.dirty (s.base.bytes / s.region.page) ((s.base.bytes + s.accessible.bytes) / s.region.page)
 
--- The marks that a reset is given: none, unless they are offered and more than one page is accessible. They are those that
--- the region tells.
+-- The marks that a reset is given: none, unless they are offered and more than one page is accessible. They are those
+-- that the region tells. So far no caller offers them.
 abbrev pub given_marks : Bool → Slot → Option (List Bool)
 given_marks offered s = if offered && nat_lt s.region.page s.accessible.bytes then option_map (marks_of s) s.region.contents else None
 
@@ -23,10 +23,11 @@ given_marks offered s = if offered && nat_lt s.region.page s.accessible.bytes th
 abbrev pub marked_pages : List Bool → List ℕ
 marked_pages marks = filter (λ k. slice_index_or marks k false) (range_with_len 0 (length marks))
 
--- of these the first that are set by hand, where so many bytes may stay resident, and those behind them
+-- The first dirty pages, which a reset sets by hand, as far as bytes may stay resident.
 abbrev pub pages_by_hand : ℕ → ℕ → List Bool → List ℕ
 pages_by_hand page keep marks = take (keep / page) (marked_pages marks)
 
+-- The dirty pages that a reset leaves to be decommitted: all behind those that it may keep resident.
 abbrev pub pages_left : ℕ → ℕ → List Bool → List ℕ
 pages_left page keep marks = drop (keep / page) (marked_pages marks)
 

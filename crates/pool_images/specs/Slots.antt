@@ -1,14 +1,15 @@
 -- A slot for a memory: a region with at most one image mapped, what it reads as, and what each call makes of it.
 use Rattle.std.specs.Prelude.{◌≡◌, ℕ, ◌+◌, ◌-◌, ◌*◌, ◌/◌, ◌%◌, ◌^◌, ◌<◌, ◌≤◌, ◌&&◌, ◌||◌, List, [], ◌∷◌, length, min, replicate, slice_range, slice_index_or, Bool, true, false, nat_lt, if◌then◌else◌, Option, Some, None, IfSome, is_some, option_map}
-use Rattle.pool_pages.specs.Count.{Count, count, IsPageSize, rounded_up}
+use Rattle.pool_types.specs.Count.{Count, count, IsPageSize, rounded_up}
 use Rattle.pool_pages.specs.Contents.{Contents, IsShaped, CanReach, IsIn, page_origin, put}
-use Rattle.pool_pages.specs.Told.{Told, PageCall, Faulted, Rose, succeeded, overwritten, restored, exposing, hiding, mapping, remapping, erasing, recolouring, decommitting}
+use Rattle.pool_pages.specs.Told.{Told, PageCall, Faulted, succeeded, overwritten, restored, exposing, hiding, mapping, remapping, erasing, recolouring, decommitting}
+use Rattle.pool_types.specs.Rising.{Rose}
 use Rattle.pool_pages.specs.declared.pages.RegionName.{RegionName}
-use Rattle.pool_pages.specs.declared.pages.DecommitBehavior.{DecommitBehavior}
-use Rattle.pool_pages.specs.declared.pages.DecommitBehavior.TheVariants.{Zero, RestoreOriginalMapping}
-use Rattle.pool_pages.specs.MemoryTypes.{guard_size, can_use_virtual_memory}
-use Rattle.pool_pages.specs.declared.module_types.MemoryType.{MemoryType}
-use Rattle.pool_pages.specs.declared.module_types.MemoryTunables.{MemoryTunables}
+use Rattle.pool_types.specs.declared.decommit_behavior.DecommitBehavior.{DecommitBehavior}
+use Rattle.pool_types.specs.declared.decommit_behavior.DecommitBehavior.TheVariants.{Zero, RestoreOriginalMapping}
+use Rattle.pool_types.specs.MemoryTypes.{guard_size, can_use_virtual_memory}
+use Rattle.pool_types.specs.declared.module_types.MemoryType.{MemoryType}
+use Rattle.pool_types.specs.declared.module_types.MemoryTunables.{MemoryTunables}
 use Rattle.pool_images.specs.Images.{Image, start}
 use Rattle.pool_images.specs.declared.image_slot.ImageName.{ImageName}
 use Rattle.pool_images.specs.declared.ranges.ByteRange.{ByteRange}
@@ -37,6 +38,7 @@ pub record SlotIdentity : Type 0 where
   pub plan : Option (List ℕ)
   pub tells : Bool
 
+-- What no call on a slot changes: where it lies, its region's name, page, length, behaviour and plan, and its colour.
 abbrev pub identity : Slot → SlotIdentity
 identity s = record {
   base = s.base;
@@ -73,6 +75,7 @@ restored_image None behaviour = None
 restored_image (Some name) RestoreOriginalMapping = Some name
 restored_image (Some name) Zero = None
 
+-- The image that a decommit of this slot brings back, if any.
 abbrev pub origin_image : Slot → Option ImageName
 origin_image s = restored_image s.image s.region.behaviour
 
@@ -164,10 +167,11 @@ resized size hides s =
     else s
     )
 
--- Exposing what is missing to so many bytes, and the slot with as many accessible after it.
+-- The call that exposes what is missing up to a size.
 abbrev pub raising : ℕ → Slot → PageCall
 raising size s = exposing (s.base.bytes + s.accessible.bytes) (size - s.accessible.bytes)
 
+-- The slot once its heap limit was raised to a size: the pages up to there can be reached.
 abbrev pub raised : ℕ → Slot → Slot
 raised size s = record (called (raising size s) s) { accessible = count s.region.page size }
 
@@ -199,6 +203,7 @@ abbrev pub without_mapped : Option ImageName → Slot → Slot
 without_mapped None s = s
 without_mapped (Some name) s = record (renewed (remapping (s.base.bytes + name.offset) name.len) s) { image = None }
 
+-- The slot without its image: what it covered is remapped to zeros.
 abbrev pub without_image : Slot → Slot
 without_image s = without_mapped s.image s
 
@@ -207,10 +212,11 @@ abbrev pub with_image : Option Image → Slot → Slot
 with_image None s = s
 with_image (Some i) s = record (renewed (mapping s.region.behaviour (s.base.bytes + i.offset) i.bytes) s) { image = Some (name_of i) }
 
--- the slot as a memory gets it that has the image already, and one that hasn't
+-- The slot as a memory gets it that has the wanted image already: only its size changes.
 abbrev pub reused : ℕ → Bool → Slot → Slot
 reused size hides s = record (resized size hides s) { dirty = true }
 
+-- The slot after it took over a new image, or none, with this size: it counts as dirty from now on.
 abbrev pub replaced : ℕ → Bool → Option Image → Slot → Slot
 replaced size hides image s = record (with_image image (resized size hides (without_image s))) { dirty = true }
 

@@ -9,9 +9,8 @@ mod mapping;
 mod reset;
 
 use crate::memory_image::MemoryImage;
-use pool_pages::{
-    CompiledModuleId, DefinedMemoryIndex, HostAlignedByteCount, PageFault, PageRegion, Pages,
-};
+use pool_pages::{PageFault, PageRegion, Pages};
+use pool_types::{CompiledModuleId, DefinedMemoryIndex, HostAlignedByteCount};
 use std::marker::Model;
 
 /// The name under which a slot keeps the image that is mapped in it.

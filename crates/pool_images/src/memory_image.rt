@@ -5,9 +5,10 @@ ghost use Rattle.pool_pages.specs.MakerTold.{fails_images};
 ghost use Rattle.pool_images.specs.Images.{image_of, padded, images_from, makes_listed_images, misaligned, misplaced, first_misplaced, ends_in_minimum};
 ghost use Rattle.pool_images.specs.ImageErrors.{RaisesImageFaults, RaisesImageBehind, IsListedImageFault};
 
-use pool_pages::{
-    ByteList, CompiledModuleId, DefinedMemoryIndex, HostAlignedByteCount, ImageData, ImageDecl,
-    MakeFault, MemoryDecl, ModuleInfo, PageMaker, PageSize, Unsupported,
+use pool_pages::{ImageData, MakeFault, PageMaker};
+use pool_types::{
+    ByteList, CompiledModuleId, DefinedMemoryIndex, HostAlignedByteCount, ImageDecl, MemoryDecl,
+    ModuleInfo, PageSize, Unsupported,
 };
 use std::alloc::{AllocError, AllocFailed, Global};
 use std::marker::Model;

@@ -1,15 +1,6 @@
 -- The shards of an allocator, and a free in one of them.
-use Rattle.std.proofs.Common.{◌≡◌, ℕ, zero, suc, ◌+◌, ◌-◌, ◌*◌, ◌/◌, ◌%◌, ◌^◌, ◌<◌, ◌≤◌, Bool, true, false, List, [], ◌∷◌, length, min, Option, Some, None, sym, refl, ap, subst, ◌∙◌, ⊎_elim, inl, inr, arith, true≢false}
-use Rattle.std.specs.Prelude.{IsSome, if◌then◌else◌, replicate, slice_index, slice_get}
-use Rattle.std.proofs.lemmas.Bool.{cases_Bool, cases_lt}
-use Rattle.pool_hall.specs.declared.unit_name.SlotKind.{SlotKind}
-use Rattle.pool_hall.specs.declared.unit_name.SlotKind.TheVariants.{Memory}
-use Rattle.pool_hall.specs.declared.unit_name.UnitName.{UnitName}
-use Rattle.pool_hall.specs.declared.view.View.{View}
-use Rattle.pool_hall.specs.Sum.{one_if}
-use Rattle.pool_hall.specs.Unit.{same, times, pick_unit, pick_of, Beside}
-use Rattle.pool_hall.specs.Step.{put_view, Taken, MayPut}
-use Rattle.pool_hall.proofs.Units.{same_is}
+use Rattle.std.proofs.Common.{◌≡◌, ℕ, zero, suc, ◌+◌, ◌-◌, ◌*◌, ◌/◌, ◌%◌, ◌^◌, ◌<◌, ◌≤◌, Bool, true, false, List, [], ◌∷◌, length, min, Option, Some, None, sym, refl, ap, subst, ◌∙◌, ⊎_elim, inl, inr, arith, true≢false, IsSome, if◌then◌else◌, replicate, slice_index, slice_get}
+use Rattle.pool_index.proofs.Imports.{cases_Bool, cases_lt, SlotKind, Memory, UnitName, View, one_if, same, times, pick_unit, pick_of, Beside, put_view, Taken, MayPut, same_is}
 use Rattle.pool_index.specs.declared.ids.SlotId.{SlotId}
 use Rattle.pool_index.specs.Shard.{ShardState, IsShard, use_of}
 use Rattle.pool_index.specs.Part.{slot_unit, shard_units, owner, shard_at, FitsAt, shard_meaning}

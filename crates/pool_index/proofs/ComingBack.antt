@@ -1,11 +1,7 @@
 -- All warm slots are taken and freed in their order: the shard is as it was.
-use Rattle.std.proofs.Common.{◌≡◌, ◌≢◌, ℕ, ◌+◌, ◌%◌, ◌^◌, ◌<◌, ◌≤◌, Bool, true, false, List, [], ◌∷◌, ◌++◌, length, refl, ap, ◌∙◌, sym, subst, arith, suc, get_or-set_same, get_or-set_other, length-set, eq-eqb, inl, inr, zero-add}
-use Rattle.std.specs.Prelude.{Some, None, Option, IsSome, is_some, ◌==◌, slice_index_or, slice_set, count_by, map, unwrap_or, All, nat_lt}
-use Rattle.std.proofs.lemmas.Bool.Decides.{nat_tests}
-use Rattle.std.proofs.lemmas.List.{append-nil, append_assoc, set-set, set_comm, set-get_or}
-use Rattle.std.proofs.lemmas.List.Elements.{All-from_get_or, All-map, All-nil}
-use Rattle.std.proofs.lemmas.List.Sums.{get_or-le-sum_by, sum_by-cons}
-use Rattle.std.proofs.lemmas.Bool.{cases_eq}
+use Rattle.std.proofs.Common.{◌≡◌, ◌≢◌, ℕ, ◌+◌, ◌%◌, ◌^◌, ◌<◌, ◌≤◌, Bool, true, false, List, [], ◌∷◌, ◌++◌, length, refl, ap, ◌∙◌, sym, subst, arith, suc, get_or-set_same, get_or-set_other, length-set, eq-eqb, inl, inr, zero-add, Some, None, Option, IsSome, is_some, ◌==◌, slice_index_or, slice_set, count_by, map, unwrap_or, All, nat_lt}
+use Rattle.pool_index.proofs.Imports.{nat_tests, append-nil, append_assoc, set-set, set_comm, set-get_or, All-from_get_or, All-map, All-nil, get_or-le-sum_by, sum_by-cons, cases_eq}
+use Rattle.pool_index.proofs.Ones.{one_true}
 use Rattle.pool_index.specs.Lists.{with_bytes, use_again}
 use Rattle.pool_index.specs.Laws.{free_all, TakenSlotsComeBack}
 use Rattle.pool_index.specs.Shard.{ShardState, IsShard, use_of, is_used, warm_count, one_if, entry_at, after_free, taken_slots, after_take_warm, KeepsUsed}
@@ -174,10 +170,6 @@ take_keeps_used s sound k used =
     let none' : warm_count k s.warm ≡ 0 = none_warm (warm_count k s.warm) (nat_lt k s.cold) (omega arith) in
     again_other s.warm s.used k none'
 
-used_if : (b : Bool) → 1 ≤ one_if b → b ≡ true
-used_if true h = refl
-used_if false h = absurd (omega arith)
-
 -- each slot that is taken is used
 pub taken_used : (s : ShardState) → IsShard s → All (λ p. IsSome (use_of (after_take_warm s) p.0.0)) (taken_slots s)
 taken_used s sound = All-map (λ (p : SlotId × ℕ). IsSome (use_of (after_take_warm s) p.0.0)) with_bytes s.warm (All-from_get_or (λ (e : WarmSlot). IsSome (use_of (after_take_warm s) e.slot.0)) s.warm (record { slot = record { 0 = 0 }; affinity = None; bytes = 0 }) (λ i inside.
@@ -185,4 +177,4 @@ taken_used s sound = All-map (λ (p : SlotId × ℕ). IsSome (use_of (after_take
     let here : one_if (k == k) ≤ warm_count k s.warm = get_or-le-sum_by (λ (e : WarmSlot). one_if (e.slot.0 == k)) s.warm i _ inside in
     let one : one_if (k == k) ≡ 1 = ap one_if (eq-eqb k k refl) in
     let now : one_if (is_some (slice_index_or (use_again s.warm s.used) k None)) ≡ warm_count k s.warm + one_if (is_used s k) = again_used s.warm s.used k (all_free s sound) in
-    used_if (is_some (slice_index_or (use_again s.warm s.used) k None)) (omega arith)))
+    one_true (is_some (slice_index_or (use_again s.warm s.used) k None)) (omega arith)))

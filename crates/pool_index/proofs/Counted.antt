@@ -1,16 +1,6 @@
 -- Shards that are held one after the other and only looked at, and slots that are freed one after the other.
-use Rattle.std.proofs.Common.{◌≡◌, ℕ, zero, suc, ◌+◌, ◌-◌, ◌*◌, ◌^◌, ◌<◌, ◌≤◌, Bool, true, false, List, [], ◌∷◌, ◌++◌, length, take, min, Option, Some, sym, refl, ap, subst, ◌∙◌, arith, length-append}
-use Rattle.std.specs.Prelude.{◌==◌, ◌&&◌, sum_by, map, All, slice_index_or}
-use Rattle.std.proofs.lemmas.List.Sums.{sum_by-append, sum_by-le}
-use Rattle.std.proofs.lemmas.List.{map_more}
-use Rattle.pool_hall.specs.declared.unit_name.UnitName.{UnitName}
-use Rattle.pool_hall.specs.declared.unit_name.SlotKind.TheVariants.{Memory}
-use Rattle.pool_hall.specs.declared.view.View.{View}
-use Rattle.pool_hall.specs.Sum.{one_if}
-use Rattle.pool_hall.specs.Unit.{same, times, pick_unit}
-use Rattle.pool_hall.specs.Held.{IsHeld}
-use Rattle.pool_hall.specs.Step.{put_view, Taken, MayPut}
-use Rattle.pool_hall.proofs.Units.{same_self, times_append}
+use Rattle.std.proofs.Common.{◌≡◌, ℕ, zero, suc, ◌+◌, ◌-◌, ◌*◌, ◌^◌, ◌<◌, ◌≤◌, Bool, true, false, List, [], ◌∷◌, ◌++◌, length, take, min, Option, Some, sym, refl, ap, subst, ◌∙◌, arith, length-append, ◌==◌, ◌&&◌, sum_by, map, All, slice_index_or}
+use Rattle.pool_index.proofs.Imports.{sum_by-append, sum_by-le, map_more, UnitName, Memory, View, one_if, same, times, pick_unit, IsHeld, put_view, Taken, MayPut, same_self, times_append}
 use Rattle.pool_index.specs.declared.counting.ShardCounts.{ShardCounts}
 use Rattle.pool_index.specs.declared.ids.SlotId.{SlotId}
 use Rattle.pool_index.specs.Shard.{ShardState, IsShard, used_count, resident_bytes}

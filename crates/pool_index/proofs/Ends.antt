@@ -1,6 +1,5 @@
 -- The ends of a list with a slot more and with a slot less.
-use Rattle.std.proofs.Common.{◌≡◌, ℕ, ◌+◌, ◌-◌, ◌<◌, List, [], ◌∷◌, ◌++◌, length, refl, ap, sym, ◌∙◌, arith}
-use Rattle.std.specs.Prelude.{Option, None, Some}
+use Rattle.std.proofs.Common.{◌≡◌, ℕ, ◌+◌, ◌-◌, ◌<◌, List, [], ◌∷◌, ◌++◌, length, refl, ap, sym, ◌∙◌, arith, Option, None, Some}
 use Rattle.pool_index.specs.Links.{first_of, last_in, last_or, ends_of, ends_last, ends_with, ends_without, ends_around}
 use Rattle.pool_index.proofs.Linking.{last_or_is}
 

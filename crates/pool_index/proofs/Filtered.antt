@@ -1,6 +1,5 @@
 -- What a list filtered by a test loses where an element is removed.
-use Rattle.std.proofs.Common.{◌≡◌, ℕ, ◌+◌, ◌<◌, Bool, true, false, List, [], ◌∷◌, ◌++◌, length, refl, ap, sym, ◌∙◌, zero, suc, arith, get_or, subst}
-use Rattle.std.specs.Prelude.{Some, None, Option, option_map, filter, remove, if◌then◌else◌}
+use Rattle.std.proofs.Common.{◌≡◌, ℕ, ◌+◌, ◌<◌, Bool, true, false, List, [], ◌∷◌, ◌++◌, length, refl, ap, sym, ◌∙◌, zero, suc, arith, get_or, subst, Some, None, Option, option_map, filter, remove, if◌then◌else◌}
 use Rattle.std.specs.Option.{option_or}
 use Rattle.pool_index.specs.Positions.{last_position}
 

@@ -1,9 +1,6 @@
 -- The linked lists of warm slots, where a slot is freed.
-use Rattle.std.proofs.Common.{◌≡◌, ◌≢◌, ℕ, ◌+◌, ◌<◌, ◌≤◌, Bool, true, false, List, [], ◌∷◌, ◌++◌, length, refl, ap, sym, ◌∙◌, subst, arith, true≢false, ⊎_elim, length-set, get_or-set_same, get_or-set_other, length-append}
-use Rattle.std.specs.Prelude.{Option, None, Some, IfSome, slice_set, filter, sum_by, if◌then◌else◌}
-use Rattle.std.proofs.lemmas.Bool.{cases_Bool}
-use Rattle.std.proofs.lemmas.List.{append-nil}
-use Rattle.std.proofs.lemmas.List.Sums.{sum_by_push}
+use Rattle.std.proofs.Common.{◌≡◌, ◌≢◌, ℕ, ◌+◌, ◌<◌, ◌≤◌, Bool, true, false, List, [], ◌∷◌, ◌++◌, length, refl, ap, sym, ◌∙◌, subst, arith, true≢false, ⊎_elim, length-set, get_or-set_same, get_or-set_other, length-append, Option, None, Some, IfSome, slice_set, filter, sum_by, if◌then◌else◌}
+use Rattle.pool_index.proofs.Imports.{cases_Bool, append-nil, sum_by_push}
 use Rattle.pool_index.specs.Links.{Each, last_or, ends_of, is_at, is_warm, entry_in, warm_entry, IsLinked, after_in, before_in, has_affinity, with_affinity, ends_last, ends_with, IsWoven}
 use Rattle.pool_index.specs.Records.{record_of, links_of, appended}
 use Rattle.pool_index.specs.Table.{same_affinity, ends_at, ends_len, table_total}

@@ -1,13 +1,6 @@
 -- The shards that an allocator is made of may be the parts of a hall.
-use Rattle.std.proofs.Common.{◌≡◌, ℕ, zero, suc, ◌+◌, ◌-◌, ◌*◌, ◌/◌, ◌<◌, ◌≤◌, List, [], ◌∷◌, length, min, Option, Some, None, sym, refl, ap, subst, ◌∙◌, inl, inr, arith}
-use Rattle.std.specs.Prelude.{slice_get, slice_index, slice_index_or, replicate, All}
-use Rattle.std.specs.List.{range_with_len}
-use Rattle.std.proofs.lemmas.Grind.{div_ceil_times}
-use Rattle.std.proofs.lemmas.List.Elements.{All-get_or}
-use Rattle.std.proofs.lemmas.Nat.{div-mul-add}
-use Rattle.pool_hall.specs.declared.unit_name.SlotKind.{SlotKind}
-use Rattle.pool_hall.specs.declared.unit_name.SlotKind.TheVariants.{Memory}
-use Rattle.pool_hall.specs.Meaning.{AllFresh, IsFreshAt}
+use Rattle.std.proofs.Common.{◌≡◌, ℕ, zero, suc, ◌+◌, ◌-◌, ◌*◌, ◌/◌, ◌<◌, ◌≤◌, List, [], ◌∷◌, length, min, Option, Some, None, sym, refl, ap, subst, ◌∙◌, inl, inr, arith, slice_get, slice_index, slice_index_or, replicate, All}
+use Rattle.pool_index.proofs.Imports.{range_with_len, div_ceil_times, All-get_or, div-mul-add, SlotKind, Memory, AllFresh, IsFreshAt}
 use Rattle.pool_index.specs.declared.ids.MemoryInModule.{MemoryInModule}
 use Rattle.pool_index.specs.Layout.{capacity_of, shard_count}
 use Rattle.pool_index.specs.Shard.{ShardState, IsShard, fresh_shard}
@@ -39,12 +32,13 @@ module _ (capacity warm slots : ℕ) (some : 0 < slots) (limits : List ℕ) wher
   abbrev fresh_default : ShardState
   fresh_default = fresh_shard Memory 0 0 0 0
 
-  zeros : (p i : ℕ) → slice_index (0 ∷ 0 ∷ 0 ∷ 0 ∷ []) i ≡ 0
+  zeros : (p i : ℕ) → slice_index (0 ∷ 0 ∷ 0 ∷ 0 ∷ 0 ∷ []) i ≡ 0
   zeros p zero = refl
   zeros p (suc zero) = refl
   zeros p (suc (suc zero)) = refl
   zeros p (suc (suc (suc zero))) = refl
-  zeros p (suc (suc (suc (suc i)))) = refl
+  zeros p (suc (suc (suc (suc zero)))) = refl
+  zeros p (suc (suc (suc (suc (suc i))))) = refl
 
   fresh_at : (p : ℕ) → p < count → IsShard (made_shard capacity warm slots p) → IsFreshAt shard_meaning made limits p (made_shard capacity warm slots p)
   fresh_at p h sound = record {

@@ -1,8 +1,6 @@
 -- A pick for a memory, and one by affinity alone, take the last of the slots that are affine to it.
-use Rattle.std.proofs.Common.{◌≡◌, ℕ, ◌+◌, Bool, true, false, List, [], ◌∷◌, ◌++◌, refl, ap, ◌∙◌, sym, subst, get_or, add-one, arith}
-use Rattle.std.specs.Prelude.{Some, None, Option, option_map, IfSome, filter, if◌then◌else◌, MatchOption, remove}
-use Rattle.std.specs.Option.{option_or}
-use Rattle.std.proofs.lemmas.Bool.Decides.{nat_tests}
+use Rattle.std.proofs.Common.{◌≡◌, ℕ, ◌+◌, Bool, true, false, List, [], ◌∷◌, ◌++◌, refl, ap, ◌∙◌, sym, subst, get_or, add-one, arith, Some, None, Option, option_map, IfSome, filter, if◌then◌else◌, MatchOption, remove}
+use Rattle.pool_index.proofs.Imports.{option_or, nat_tests}
 use Rattle.pool_index.specs.Affinity.{is_affine, same_memory}
 use Rattle.pool_index.specs.Laws.{last_of, AffineSlotFirst, TakesLastAffine, AffineSlotsAreFiltered}
 use Rattle.pool_index.specs.Positions.{last_position}

@@ -1,10 +1,6 @@
 -- The shards of a layout have all slots and all warm slots.
-use Rattle.std.proofs.Common.{◌≡◌, ℕ, ◌+◌, ◌*◌, ◌/◌, ◌%◌, ◌<◌, ◌≤◌, min, arith, ◌∙◌, zero, suc, subst, add-one}
-use Rattle.std.specs.Prelude.{sum_by, map, nat_lt, if◌then◌else◌}
-use Rattle.std.specs.List.{range_with_len}
-use Rattle.std.proofs.lemmas.Bool.Decides.{nat_tests}
-use Rattle.std.proofs.lemmas.Grind.{div_ceil_times}
-use Rattle.std.proofs.lemmas.List.FromFn.{sum_by-map-range_with_len_more}
+use Rattle.std.proofs.Common.{◌≡◌, ℕ, ◌+◌, ◌*◌, ◌/◌, ◌%◌, ◌<◌, ◌≤◌, min, arith, ◌∙◌, zero, suc, subst, add-one, sum_by, map, nat_lt, if◌then◌else◌}
+use Rattle.pool_index.proofs.Imports.{range_with_len, nat_tests, div_ceil_times, sum_by-map-range_with_len_more}
 use Rattle.pool_index.specs.Layout.{capacity_of, budget_of, shard_at, shard_count, slots_per_shard, layout}
 
 -- the slots of the first n shards

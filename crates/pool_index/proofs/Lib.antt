@@ -2,12 +2,15 @@ pub mod Allocating
 pub mod ComingBack
 pub mod Counted
 pub mod Ends
+pub mod FreedSlots
 pub mod Freeing
 pub mod Filtered
 pub mod Freshness
+mod Imports
 pub mod LastPlaces
 pub mod Layouts
 pub mod Linking
+pub mod Ones
 pub mod Owners
 pub mod Picking
 pub mod Puts
@@ -15,6 +18,7 @@ pub mod Records
 pub mod Rounds
 pub mod Shards
 pub mod Tables
+pub mod Ticks
 pub mod Views
 pub mod WarmUnits
 pub mod Weaving

@@ -1,6 +1,5 @@
 -- Linked lists: a slot is put behind the last, and a slot is taken out.
-use Rattle.std.proofs.Common.{◌≡◌, ◌≢◌, ℕ, Bool, true, false, List, [], ◌∷◌, ◌++◌, refl, ap, sym, ◌∙◌, subst, arith, eq-eqb}
-use Rattle.std.specs.Prelude.{Option, None, Some, IfSome, filter, if◌then◌else◌}
+use Rattle.std.proofs.Common.{◌≡◌, ◌≢◌, ℕ, Bool, true, false, List, [], ◌∷◌, ◌++◌, refl, ap, sym, ◌∙◌, subst, arith, eq-eqb, Option, None, Some, IfSome, filter, if◌then◌else◌}
 use Rattle.std.proofs.lemmas.Bool.Decides.{nat_tests}
 use Rattle.pool_index.specs.Links.{Each, Apart, first_of, last_in, last_or, is_at, Linked}
 
@@ -36,10 +35,6 @@ each-filter P q (k ∷ ks) h = each_if P k (filter q ks) (q k) (λ e. h.0) (each
 pub each-passes : (q : ℕ → Bool) (ks : List ℕ) → Each (λ k. q k ≡ true) (filter q ks)
 each-passes q [] = tt
 each-passes q (k ∷ ks) = each_if (λ k. q k ≡ true) k (filter q ks) (q k) (λ e. e) (each-passes q ks)
-
-pub each-last : (P : ℕ → Type 0) (k : ℕ) (ks : List ℕ) → Each P (k ∷ ks) → P (last_in k ks)
-each-last P k [] h = h.0
-each-last P k (j ∷ ks) h = each-last P j ks h.1
 
 -- Slots that are apart
 pub apart-rest : (ls bs : List ℕ) (x : ℕ) → Apart (ls ++ x ∷ bs) → Apart (ls ++ bs)

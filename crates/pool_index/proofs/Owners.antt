@@ -1,15 +1,6 @@
 -- Which place the unit of a slot belongs to in an allocator's hall.
-use Rattle.std.proofs.Common.{◌≡◌, ℕ, zero, suc, ◌+◌, ◌-◌, ◌*◌, ◌/◌, ◌%◌, ◌<◌, ◌≤◌, Bool, true, false, List, [], ◌∷◌, length, min, sym, refl, ap, subst, ◌∙◌, ⊎_elim, ◌⊎◌, inl, inr, arith, true≢false, eq-eqb}
-use Rattle.std.specs.Prelude.{◌==◌, ◌&&◌, ◌||◌, if◌then◌else◌, map, slice_index_or}
-use Rattle.std.specs.List.{range_with_len}
-use Rattle.std.proofs.lemmas.Bool.{cases_Bool, cases_lt, eqb-true, and_parts}
-use Rattle.std.proofs.lemmas.Grind.{div_ceil_times}
-use Rattle.std.proofs.lemmas.Nat.{le-div}
-use Rattle.std.proofs.Math.Nat.{le-div_iff_mul-le, div-eq_of_lt-le}
-use Rattle.std.proofs.lemmas.List.FromFn.{get_or-map-range_with_len, length-map-range_with_len}
-use Rattle.pool_hall.specs.declared.unit_name.UnitName.{UnitName}
-use Rattle.pool_hall.specs.declared.unit_name.SlotKind.TheVariants.{Memory}
-use Rattle.pool_hall.specs.Unit.{kind_number}
+use Rattle.std.proofs.Common.{◌≡◌, ℕ, zero, suc, ◌+◌, ◌-◌, ◌*◌, ◌/◌, ◌%◌, ◌<◌, ◌≤◌, Bool, true, false, List, [], ◌∷◌, length, min, sym, refl, ap, subst, ◌∙◌, ⊎_elim, ◌⊎◌, inl, inr, arith, true≢false, eq-eqb, ◌==◌, ◌&&◌, ◌||◌, if◌then◌else◌, map, slice_index_or}
+use Rattle.pool_index.proofs.Imports.{range_with_len, cases_Bool, cases_lt, eqb-true, and_parts, div_ceil_times, le-div, le-div_iff_mul-le, div-eq_of_lt-le, get_or-map-range_with_len, length-map-range_with_len, UnitName, Memory, kind_number}
 use Rattle.pool_index.specs.Layout.{capacity_of, shard_count}
 use Rattle.pool_index.specs.Shard.{ShardState, slot_number}
 use Rattle.pool_index.specs.Part.{any_below, has_slot, owner_from, owner, shard_at}

@@ -1,11 +1,6 @@
 -- The units that a probe of a shard moves: the pick unit of the slot that it finds comes out of the shard.
-use Rattle.std.proofs.Common.{◌≡◌, ℕ, ◌+◌, ◌*◌, ◌%◌, ◌^◌, ◌<◌, ◌≤◌, Bool, true, false, List, [], ◌∷◌, length, refl, sym, ap, subst, ◌∙◌, arith, Option, Some, None}
-use Rattle.std.specs.Prelude.{IfSome, option_map, nat_lt, if◌then◌else◌, slice_set}
-use Rattle.std.specs.Option.{option_or, option_map_or}
-use Rattle.std.proofs.lemmas.Bool.{ltb-true}
-use Rattle.pool_hall.specs.declared.unit_name.UnitName.{UnitName}
-use Rattle.pool_hall.specs.Sum.{one_if}
-use Rattle.pool_hall.specs.Unit.{same, times, pick_unit}
+use Rattle.std.proofs.Common.{◌≡◌, ℕ, ◌+◌, ◌*◌, ◌%◌, ◌^◌, ◌<◌, ◌≤◌, Bool, true, false, List, [], ◌∷◌, length, refl, sym, ap, subst, ◌∙◌, arith, Option, Some, None, IfSome, option_map, nat_lt, if◌then◌else◌, slice_set}
+use Rattle.pool_index.proofs.Imports.{option_or, option_map_or, ltb-true, UnitName, one_if, same, times, pick_unit}
 use Rattle.pool_index.specs.Affinity.{is_affine}
 use Rattle.pool_index.specs.Positions.{last_position}
 use Rattle.pool_index.specs.declared.ids.MemoryInModule.{MemoryInModule}
@@ -29,7 +24,7 @@ affine_taken_at : (s : ShardState) (of : MemoryInModule) (o : Option ℕ) → la
 affine_taken_at s of None e = tt
 affine_taken_at s of (Some i) e = (last_passes (is_affine of) s.warm i (entry_at s i) e).inside
 
-affine_taken : (want : Option MemoryInModule) (s : ShardState) → IfSome (affine_choice want s) (IsChoice s)
+pub affine_taken : (want : Option MemoryInModule) (s : ShardState) → IfSome (affine_choice want s) (IsChoice s)
 affine_taken None s = tt
 affine_taken (Some of) s = affine_taken_at s of (last_position (is_affine of) s.warm) refl
 

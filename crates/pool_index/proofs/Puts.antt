@@ -1,18 +1,8 @@
 -- A shard that a call left may be put, by the units that the call moved.
-use Rattle.std.proofs.Common.{◌≡◌, ℕ, zero, suc, ◌+◌, ◌*◌, ◌^◌, ◌<◌, ◌≤◌, Bool, true, false, List, [], ◌∷◌, length, Option, Some, None, ⊎_elim, sym, refl, ap, subst, ◌∙◌, arith, true≢false, eq-eqb}
-use Rattle.std.specs.Prelude.{slice_index}
-use Rattle.std.proofs.lemmas.Bool.{eqb-true, cases_Bool}
-use Rattle.pool_hall.specs.declared.unit_name.UnitName.{UnitName}
-use Rattle.pool_hall.specs.declared.view.View.{View}
-use Rattle.pool_hall.specs.declared.unit_name.SlotKind.{SlotKind}
-use Rattle.pool_hall.specs.Sum.{one_if}
-use Rattle.pool_hall.specs.Unit.{same, times, pick_unit, pick_of, Beside}
-use Rattle.pool_hall.proofs.Units.{same_is}
-use Rattle.pool_hall.specs.Meaning.{Meaning, StandsAt}
-use Rattle.pool_hall.specs.Step.{moved, put_view, Taken, MayPut}
-use Rattle.pool_hall.proofs.Callers.{may_move, times_after}
-use Rattle.pool_index.specs.Shard.{ShardState, IsShard, slot_number}
-use Rattle.pool_index.specs.Part.{slot_unit, shard_units, shard_counts, is_topped}
+use Rattle.std.proofs.Common.{◌≡◌, ℕ, zero, suc, ◌+◌, ◌*◌, ◌^◌, ◌<◌, ◌≤◌, true, false, List, [], length, Option, Some, None, ⊎_elim, sym, refl, ap, ◌∙◌, arith, true≢false, eq-eqb, slice_index}
+use Rattle.pool_index.proofs.Imports.{sum_by-le, eqb-true, cases_Bool, UnitName, View, SlotKind, one_if, same, times, pick_unit, pick_of, same_is, Meaning, StandsAt, moved, put_view, Taken, MayPut, may_move, times_after}
+use Rattle.pool_index.specs.Shard.{ShardState, IsShard, resident_bytes}
+use Rattle.pool_index.specs.Part.{shard_units, shard_counts, is_topped}
 use Rattle.pool_index.specs.ShardPart.{MeansShard}
 use Rattle.pool_index.specs.Moves.{Moves}
 use Rattle.pool_index.specs.Round.{found_units}
@@ -23,7 +13,13 @@ small_counts s sound zero = let a = sound.cold_at_most in let b = sound.small in
 small_counts s sound (suc zero) = sound.counts.0
 small_counts s sound (suc (suc zero)) = sound.counts.1
 small_counts s sound (suc (suc (suc zero))) = sound.counts.2
-small_counts s sound (suc (suc (suc (suc i)))) = omega arith
+small_counts s sound (suc (suc (suc (suc zero)))) =
+    let a : resident_bytes s ≤ length s.warm * 2 ^ 32 = sum_by-le (λ e. e.bytes) (2 ^ 32) s.warm sound.bytes in
+    let b = sound.total in
+    let c = sound.cold_at_most in
+    let d = sound.small in
+    omega arith
+small_counts s sound (suc (suc (suc (suc (suc i))))) = omega arith
 
 topped_after : (s t : ShardState) (come leave : List UnitName) → Moves s t come leave → is_topped s ≡ true → is_topped t ≡ true
 topped_after s t come leave moves e =

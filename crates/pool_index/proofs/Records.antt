@@ -1,9 +1,6 @@
 -- The records after slots were linked anew.
-use Rattle.std.proofs.Common.{◌≡◌, ℕ, ◌<◌, Bool, true, false, List, length, map, refl, ap, sym, ◌∙◌, subst, inl, inr, true≢false, length-set, get_or-set_same, get_or-set_other}
-use Rattle.std.specs.Prelude.{Option, None, Some, IfSome, slice_set, if◌then◌else◌}
-use Rattle.std.proofs.Math.Seq.{map-set_same}
-use Rattle.std.proofs.lemmas.Bool.{cases_eq, cases_lt}
-use Rattle.std.proofs.lemmas.List.{get_or_past}
+use Rattle.std.proofs.Common.{◌≡◌, ℕ, ◌<◌, Bool, true, false, List, length, map, refl, ap, sym, ◌∙◌, subst, inl, inr, true≢false, length-set, get_or-set_same, get_or-set_other, Option, None, Some, IfSome, slice_set, if◌then◌else◌}
+use Rattle.pool_index.proofs.Imports.{map-set_same, cases_eq, cases_lt, get_or_past}
 use Rattle.pool_index.specs.Links.{is_at, use_in, is_warm}
 use Rattle.pool_index.specs.Records.{record_of, links_of, with_links, with_after, with_before, unlinked, appended}
 use Rattle.pool_index.specs.declared.ids.MemoryInModule.{MemoryInModule}

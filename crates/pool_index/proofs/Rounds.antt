@@ -1,23 +1,11 @@
 -- What a round over shards tells the seat.
-use Rattle.std.proofs.Common.{◌≡◌, ◌≢◌, ℕ, zero, suc, ◌+◌, ◌-◌, ◌*◌, ◌%◌, ◌^◌, ◌<◌, ◌≤◌, Bool, true, false, List, [], ◌∷◌, length, Option, Some, None, sym, refl, ap, subst, ◌∙◌, ⊎_elim, inl, inr, arith, true≢false, eq-eqb}
-use Rattle.std.specs.Prelude.{◌==◌, nat_lt, if◌then◌else◌, slice_index}
-use Rattle.std.proofs.lemmas.Bool.{cases_Bool, cases_eq, cases_lt, ne_eqb}
-use Rattle.std.proofs.lemmas.Bool.Decides.{nat_tests}
-use Rattle.std.specs.Option.{option_or}
-use Rattle.pool_hall.specs.declared.unit_name.SlotKind.{SlotKind}
-use Rattle.pool_hall.specs.declared.unit_name.UnitName.{UnitName}
-use Rattle.pool_hall.specs.declared.view.CountRise.{CountRise}
-use Rattle.pool_hall.specs.declared.view.View.{View}
-use Rattle.pool_hall.specs.Sum.{one_if, total, often}
-use Rattle.pool_hall.specs.Unit.{times, pick_of}
-use Rattle.pool_hall.specs.Tally.{counted, number, rise, rise_at}
-use Rattle.pool_hall.specs.Meaning.{Meaning}
-use Rattle.pool_hall.specs.Step.{put_view, Taken}
-use Rattle.pool_index.specs.Shard.{ShardState, IsShard, Choice, warm_at, next_cold, cold_choice, warm_choice, choice, pick_answer, after_pick, affine_choice, affine_answer, after_affine_pick}
+use Rattle.std.proofs.Common.{◌≡◌, ◌≢◌, ℕ, zero, suc, ◌+◌, ◌-◌, ◌%◌, ◌^◌, ◌<◌, ◌≤◌, Bool, true, false, List, [], ◌∷◌, length, Option, Some, None, sym, refl, ap, subst, ◌∙◌, ⊎_elim, arith, true≢false, eq-eqb, ◌==◌, nat_lt, if◌then◌else◌, slice_index}
+use Rattle.pool_index.proofs.Imports.{cases_eq, cases_lt, ne_eqb, nat_tests, option_or, SlotKind, UnitName, View, one_if, often, times, counted, number, rise, Meaning, put_view}
+use Rattle.pool_index.specs.Shard.{ShardState, IsShard, Choice, warm_at, next_cold, cold_choice, warm_choice, choice, after_pick, affine_choice, after_affine_pick}
 use Rattle.pool_index.specs.Part.{shard_counts, is_topped, cold_picks}
 use Rattle.pool_index.specs.ShardPart.{MeansShard}
-use Rattle.pool_index.specs.Probe.{is_pick, probe_found, after_probe, miss_count, IsProbed}
-use Rattle.pool_index.specs.Round.{round_place, found_units, IsShardOf, AreShards, HeldShard, ProbedAt, NoneFound, IsRound, KeepsRest, Gains, KeepsCounts, NoColdPick, OneColdPick, AllMissed, AllTopped}
+use Rattle.pool_index.specs.Probe.{is_pick, probe_found, after_probe, miss_count}
+use Rattle.pool_index.specs.Round.{round_place, found_units, AreShards, ProbedAt, NoneFound, IsRound, KeepsRest, Gains, KeepsCounts, NoColdPick, OneColdPick, AllMissed, AllTopped}
 use Rattle.pool_index.specs.declared.probe.Probe.{Probe}
 use Rattle.pool_index.specs.declared.probe.Probe.TheVariants.{Pick, Affine}
 use Rattle.pool_index.specs.declared.round.ShardPlaces.{ShardPlaces}
@@ -29,7 +17,7 @@ use Rattle.pool_index.specs.Moves.{Moves}
 abbrev choice_of_rest : ShardState → Option Choice
 choice_of_rest s = if nat_lt (length s.warm) s.budget then option_or (cold_choice s) (warm_choice s) else option_or (warm_choice s) (cold_choice s)
 
-no_rise : (n : ℕ) → n < 2 ^ 64 → rise n n ≡ 0
+pub no_rise : (n : ℕ) → n < 2 ^ 64 → rise n n ≡ 0
 no_rise n h = omega arith
 
 rise_once : (n : ℕ) → n < 2 ^ 64 → rise n ((n + 1) % 2 ^ 64) ≡ 1
@@ -204,10 +192,6 @@ module _ {T : Type 0} (m : Meaning T) (shard : T → Option ShardState) (means :
         let b = miss_counted c (place n) u w last in
         subst (λ (k : ℕ). number (counted (place k) (miss_count c)) v + 1 ≤ number (counted (place k) (miss_count c)) w) (sym is) (omega arith))
         (cases_lt j n)
-
-    pub none_noted : (n : ℕ) (v w : View T) → NoneFound m shard made limits c place n v w → (p : ℕ) → often p v.topped ≤ often p w.topped
-    none_noted zero v w e p = let a : often p w.topped ≡ often p v.topped = ap (λ (z : View T). often p z.topped) e in omega arith
-    none_noted (suc n) v w (x, before, last) p = let a = none_noted n v x before p in let b = probe_noted c (place n) None x w last p in omega arith
 
     pub none_topped : is_pick c ≡ true → (n : ℕ) (v w : View T) → NoneFound m shard made limits c place n v w → (j : ℕ) → j < n → 0 < often (place j) w.topped
     none_topped pick zero v w e j h = absurd (omega arith)

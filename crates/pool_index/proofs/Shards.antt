@@ -1,13 +1,6 @@
 -- What is known of the slots that a pick takes.
-use Rattle.std.proofs.Common.{◌≡◌, ℕ, ◌+◌, ◌*◌, ◌^◌, ◌<◌, ◌≤◌, length, arith, Bool, true, false, List, refl, suc, ap, ◌∙◌, ◌≢◌, sym, subst, inl, inr, get_or-set_same, get_or-set_other, take, drop, true≢false, eq-eqb}
-use Rattle.std.specs.Prelude.{Some, None, Option, IsSome, IfSome, is_some, option_map, ◌==◌, if◌then◌else◌, slice_index_or, slice_set, remove, count_by, nat_lt}
-use Rattle.std.proofs.lemmas.Bool.Decides.{nat_tests}
-use Rattle.std.proofs.lemmas.List.{length-set, get_or_past}
-use Rattle.std.proofs.lemmas.Bool.{cases_eq, cases_lt}
-use Rattle.std.proofs.lemmas.List.Edits.{length-remove}
-use Rattle.std.proofs.lemmas.List.Elements.{All-append, All-take, All-drop, All-get_or}
-use Rattle.std.proofs.lemmas.List.Sums.{sum_by-le, sum_by-remove, sum_by-set, get_or-le-sum_by}
-use Rattle.std.specs.Option.{option_map_or}
+use Rattle.std.proofs.Common.{◌≡◌, ℕ, ◌+◌, ◌*◌, ◌^◌, ◌<◌, ◌≤◌, length, arith, Bool, true, false, List, refl, suc, ap, ◌∙◌, ◌≢◌, sym, subst, inl, inr, get_or-set_same, get_or-set_other, take, drop, true≢false, eq-eqb, Some, None, Option, IsSome, IfSome, is_some, option_map, ◌==◌, if◌then◌else◌, slice_index_or, slice_set, remove, count_by, nat_lt}
+use Rattle.pool_index.proofs.Imports.{nat_tests, length-set, get_or_past, cases_eq, cases_lt, length-remove, All-append, All-take, All-drop, All-get_or, sum_by-le, sum_by-remove, sum_by-set, get_or-le-sum_by, option_map_or}
 use Rattle.pool_index.specs.Affinity.{is_affine}
 use Rattle.pool_index.specs.Positions.{last_position}
 use Rattle.pool_index.proofs.Filtered.{last_passes}
@@ -185,14 +178,6 @@ after_cold want s sound inside =
 
 pub after_cold_sound : (want : Option MemoryInModule) (s t : ShardState) → t ≡ after_choice want s next_cold → IsShard s → s.cold < s.capacity → IsShard t
 after_cold_sound want s t same sound inside = subst IsShard (sym same) (after_cold want s sound inside)
-
--- an unused slot is another than a used one
-pub other_slot : (s : ShardState) (m n : ℕ) → use_of s m ≡ None → IsSome (use_of s n) → m ≢ n
-other_slot s m n unused used same =
-    let none : use_of s n ≡ None = ap (use_of s) (sym same) ∙ unused in
-    let F : Option (Option MemoryInModule) → Type 0 = λ o. IsSome o in
-    let never : IsSome {T = Option MemoryInModule} None = subst F none used in
-    grind arith
 
 -- what is known of a warm slot that is taken
 pub record IsWarm (s : ShardState) (p : SlotId × ℕ) : Type 0 where

@@ -1,13 +1,7 @@
 -- How the pick units of used slots change when a slot is used or freed.
-use Rattle.std.proofs.Common.{◌≡◌, ℕ, zero, suc, ◌+◌, ◌*◌, ◌<◌, ◌≤◌, Bool, true, false, List, [], ◌∷◌, length, Option, Some, None, refl, sym, ap, ◌∙◌, ⊎_elim, arith, true≢false}
-use Rattle.std.specs.Prelude.{slice_index_or, slice_set, IsSome}
-use Rattle.std.proofs.lemmas.Bool.{cases_Bool}
+use Rattle.std.proofs.Common.{◌≡◌, ℕ, zero, suc, ◌+◌, ◌*◌, ◌<◌, ◌≤◌, Bool, true, false, List, [], ◌∷◌, length, Option, Some, None, refl, sym, ap, ◌∙◌, ⊎_elim, arith, true≢false, slice_index_or, slice_set, IsSome}
+use Rattle.pool_index.proofs.Imports.{cases_Bool, UnitName, SlotKind, one_if, same, times, pick_unit, same_is}
 use Rattle.pool_index.specs.declared.ids.MemoryInModule.{MemoryInModule}
-use Rattle.pool_hall.specs.declared.unit_name.UnitName.{UnitName}
-use Rattle.pool_hall.specs.declared.unit_name.SlotKind.{SlotKind}
-use Rattle.pool_hall.specs.Sum.{one_if}
-use Rattle.pool_hall.specs.Unit.{same, times, pick_unit}
-use Rattle.pool_hall.proofs.Units.{same_is, same_self}
 use Rattle.pool_index.specs.Part.{used_units}
 
 abbrev Uses : Type 0
@@ -77,7 +71,3 @@ module _ (kind : SlotKind) (step : ℕ) (u : UnitName) where
           let r = is_out (n + step) used (omega arith) in
           let s : n ≡ (n + step) + r.slot * step = ap (λ (z : UnitName). z.slot) (sym (same_is u (pick_unit kind n) here) ∙ r.is) in
           absurd (omega arith)
-
-  -- a used slot's unit is out
-  pub used_out : (n k : ℕ) (used : Uses) → IsSome (slice_index_or used k None) → k < length used → u ≡ pick_unit kind (n + k * step) → 0 < out n used
-  used_out n k used some inside is = let r = out_less n k used inside some in let o : one (n + k * step) ≡ 1 = ap (λ (z : UnitName). one_if (same u z)) (sym is) ∙ ap one_if (same_self u) in omega arith

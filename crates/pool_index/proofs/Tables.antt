@@ -1,11 +1,6 @@
 -- What a table of affinities tells after one of its places changed.
-use Rattle.std.proofs.Common.{◌≡◌, ◌≢◌, ℕ, zero, suc, ◌+◌, ◌^◌, ◌<◌, ◌≤◌, true, false, List, [], ◌∷◌, length, replicate, refl, ap, sym, ◌∙◌, subst, arith, inl, inr, ⊎_elim, true≢false, length-set, get_or-set_same, get_or-set_other}
-use Rattle.std.specs.Prelude.{Option, None, Some, IfSome, is_some, option_map, slice_index_or, slice_set, max, if◌then◌else◌}
-use Rattle.std.specs.Option.{option_or}
-use Rattle.std.proofs.lemmas.Bool.{cases_eq, cases_lt, cases_Bool}
-use Rattle.std.proofs.lemmas.Bool.Decides.{nat_tests}
-use Rattle.std.proofs.lemmas.List.{get_or_past, get_or-replicate, length-replicate}
-use Rattle.std.proofs.lemmas.List.Sums.{sum_by-set, sum_by-cons}
+use Rattle.std.proofs.Common.{◌≡◌, ◌≢◌, ℕ, zero, suc, ◌+◌, ◌^◌, ◌<◌, ◌≤◌, true, false, List, [], ◌∷◌, length, replicate, refl, ap, sym, ◌∙◌, subst, arith, inl, inr, ⊎_elim, true≢false, length-set, get_or-set_same, get_or-set_other, Option, None, Some, IfSome, is_some, option_map, slice_index_or, slice_set, max, if◌then◌else◌}
+use Rattle.pool_index.proofs.Imports.{option_or, cases_eq, cases_lt, cases_Bool, nat_tests, get_or_past, get_or-replicate, length-replicate, sum_by-set, sum_by-cons}
 use Rattle.pool_index.specs.Table.{same_affinity, home, place, distance, has, own, entry_with, ends_at, ends_len, entry_len, table_total}
 use Rattle.pool_index.specs.TableFields.{IsTable}
 use Rattle.pool_index.specs.declared.ids.MemoryInModule.{MemoryInModule}

@@ -1,10 +1,6 @@
 -- The lists that the records of slots stand for.
-use Rattle.std.proofs.Common.{◌≡◌, ◌≢◌, ℕ, zero, suc, ◌+◌, ◌-◌, ◌<◌, Bool, true, false, List, [], ◌∷◌, ◌++◌, length, map, refl, ap, sym, ◌∙◌, subst, arith, take, drop, get_or, length-append, get_or-set_other}
-use Rattle.std.specs.Prelude.{Option, None, Some, option_map, slice_index_or, slice_set, remove, replicate, filter, sum_by, unwrap_or, if◌then◌else◌}
-use Rattle.std.proofs.lemmas.List.Sums.{sum_by-cons}
-use Rattle.std.specs.Option.{option_or, option_map_or}
-use Rattle.std.proofs.lemmas.List.{map-append, map-set, length-map, length-replicate, get_or-replicate, same_lists}
-use Rattle.std.proofs.lemmas.List.Folds.{sum_by-replicate}
+use Rattle.std.proofs.Common.{◌≡◌, ◌≢◌, ℕ, zero, suc, ◌+◌, ◌-◌, ◌<◌, Bool, true, false, List, [], ◌∷◌, ◌++◌, length, map, refl, ap, sym, ◌∙◌, subst, arith, take, drop, get_or, length-append, get_or-set_other, Option, None, Some, option_map, slice_index_or, slice_set, remove, replicate, filter, sum_by, unwrap_or, if◌then◌else◌}
+use Rattle.pool_index.proofs.Imports.{sum_by-cons, option_or, option_map_or, map-append, map-set, length-map, length-replicate, get_or-replicate, same_lists, sum_by-replicate}
 use Rattle.pool_index.specs.Affinity.{is_affine, same_memory}
 use Rattle.pool_index.specs.Laws.{last_of}
 use Rattle.pool_index.specs.Positions.{last_position}

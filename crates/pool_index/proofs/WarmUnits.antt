@@ -1,18 +1,6 @@
 -- All warm slots of a shard that is held are taken: their pick units come out of it.
-use Rattle.std.proofs.Common.{◌≡◌, ℕ, zero, suc, ◌+◌, ◌-◌, ◌*◌, ◌^◌, ◌<◌, ◌≤◌, List, [], ◌∷◌, ◌++◌, length, min, Option, Some, None, sym, refl, ap, subst, ◌∙◌, arith, length-append}
-use Rattle.std.specs.Prelude.{map, flat_map, slice_index_or, slice_set, true, All}
-use Rattle.std.proofs.lemmas.List.Elements.{All-append, All-map}
-use Rattle.std.proofs.lemmas.List.{length-map}
-use Rattle.std.proofs.lemmas.Grind.{flat_map-append}
-use Rattle.pool_hall.specs.declared.unit_name.SlotKind.{SlotKind}
-use Rattle.pool_hall.specs.declared.unit_name.SlotKind.TheVariants.{Memory}
-use Rattle.pool_hall.specs.declared.unit_name.UnitName.{UnitName}
-use Rattle.pool_hall.specs.declared.view.View.{View}
-use Rattle.pool_hall.specs.Held.{IsHeld}
-use Rattle.pool_hall.specs.Sum.{one_if}
-use Rattle.pool_hall.specs.Unit.{same, times, pick_unit}
-use Rattle.pool_hall.specs.Step.{put_view, Taken, MayPut}
-use Rattle.pool_hall.proofs.Units.{times_append}
+use Rattle.std.proofs.Common.{◌≡◌, ℕ, zero, suc, ◌+◌, ◌-◌, ◌*◌, ◌^◌, ◌<◌, ◌≤◌, List, [], ◌∷◌, ◌++◌, length, min, Option, Some, None, sym, refl, ap, subst, ◌∙◌, arith, length-append, map, flat_map, slice_index_or, slice_set, true, All}
+use Rattle.pool_index.proofs.Imports.{All-append, All-map, length-map, flat_map-append, SlotKind, Memory, UnitName, View, IsHeld, one_if, same, times, pick_unit, put_view, Taken, MayPut, times_append}
 use Rattle.pool_index.specs.declared.ids.SlotId.{SlotId}
 use Rattle.pool_index.specs.declared.ids.MemoryInModule.{MemoryInModule}
 use Rattle.pool_index.specs.declared.warm_slot.WarmSlot.{WarmSlot}

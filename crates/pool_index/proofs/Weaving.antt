@@ -1,9 +1,6 @@
 -- The linked lists of warm slots, where a slot is taken out and where one is freed.
-use Rattle.std.proofs.Common.{◌≡◌, ◌≢◌, ℕ, ◌+◌, ◌-◌, ◌<◌, ◌≤◌, Bool, true, false, List, [], ◌∷◌, ◌++◌, length, refl, ap, sym, ◌∙◌, subst, arith, true≢false, ⊎_elim, length-set, get_or-set_other, length-append}
-use Rattle.std.specs.Prelude.{Option, None, Some, IfSome, slice_set, filter, sum_by, if◌then◌else◌}
-use Rattle.std.proofs.lemmas.Bool.{cases_Bool}
-use Rattle.std.proofs.lemmas.List.Elements.{filter-append}
-use Rattle.std.proofs.lemmas.List.Sums.{sum_by-append, sum_by-cons}
+use Rattle.std.proofs.Common.{◌≡◌, ◌≢◌, ℕ, ◌+◌, ◌-◌, ◌<◌, ◌≤◌, Bool, true, false, List, [], ◌∷◌, ◌++◌, length, refl, ap, sym, ◌∙◌, subst, arith, true≢false, ⊎_elim, length-set, get_or-set_other, length-append, Option, None, Some, IfSome, slice_set, filter, sum_by, if◌then◌else◌}
+use Rattle.pool_index.proofs.Imports.{cases_Bool, filter-append, sum_by-append, sum_by-cons}
 use Rattle.pool_index.specs.Links.{Each, Apart, first_of, last_or, ends_of, is_at, is_warm, entry_in, warm_entry, IsLinked, after_in, before_in, has_affinity, with_affinity, ends_without, IsWoven}
 use Rattle.pool_index.specs.Records.{record_of, links_of, unlinked}
 use Rattle.pool_index.specs.Table.{same_affinity, ends_at, ends_len, table_total}
@@ -140,16 +137,16 @@ module _ (rs : Rows) (table : Entries) (freed : Option Ends) (bytes : ℕ) (ls :
   around_affine : (before_in Affine rs x ≡ last_or None (F1 w.affinity)) × (after_in Affine rs x ≡ first_of (F2 w.affinity))
   around_affine = around (after_in Affine rs) (before_in Affine rs) None (F1 w.affinity) x (F2 w.affinity) (its_linked w.affinity (same_self w.affinity))
 
-  freed_before : w.freed.before ≡ last_or None ls
+  pub freed_before : w.freed.before ≡ last_or None ls
   freed_before = ap (λ r. (links_of Freed r).before) (sym here) ∙ around_freed.0
 
-  freed_after : w.freed.after ≡ first_of bs
+  pub freed_after : w.freed.after ≡ first_of bs
   freed_after = ap (λ r. (links_of Freed r).after) (sym here) ∙ around_freed.1
 
-  affine_before : w.affine.before ≡ last_or None (F1 w.affinity)
+  pub affine_before : w.affine.before ≡ last_or None (F1 w.affinity)
   affine_before = ap (λ r. (links_of Affine r).before) (sym here) ∙ around_affine.0
 
-  affine_after : w.affine.after ≡ first_of (F2 w.affinity)
+  pub affine_after : w.affine.after ≡ first_of (F2 w.affinity)
   affine_after = ap (λ r. (links_of Affine r).after) (sym here) ∙ around_affine.1
 
   left_within : Each (λ j. j < length rs) ls

@@ -26,6 +26,7 @@ pub record TakesLastAffine (of : MemoryInModule) (s : ShardState) (e : WarmSlot)
   pub others : affine_slots of s ≡ affine_slots of (after_affine_pick of s) ++ e ∷ []
   pub apart : (other : MemoryInModule) → same_memory other of ≡ false → affine_slots other (after_affine_pick of s) ≡ affine_slots other s
 
+-- A pick takes the last freed of the warm slots that are affine to the memory; where none is, it takes none of them.
 abbrev pub AffineSlotsAreFiltered : Type 0
 AffineSlotsAreFiltered = (of : MemoryInModule) (s : ShardState) → MatchOption (last_of (affine_slots of s)) (affine_answer of s ≡ None) (TakesLastAffine of s)
 
@@ -34,5 +35,6 @@ abbrev pub free_all : List (SlotId × ℕ) → ShardState → ShardState
 free_all [] s = s
 free_all (p ∷ ps) s = free_all ps (after_free p.0 p.1 s)
 
+-- Warm slots that are all taken and freed again in their order leave the shard as it was, but for one count.
 abbrev pub TakenSlotsComeBack : Type 0
 TakenSlotsComeBack = (s : ShardState) → IsShard s → free_all (taken_slots s) (after_take_warm s) ≡ record s { warm_takes = (s.warm_takes + 1) % 2 ^ 64 }

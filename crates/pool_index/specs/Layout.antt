@@ -24,6 +24,7 @@ budget_of warm shards k = warm / shards + (if nat_lt k (warm % shards) then 1 el
 abbrev pub shard_at : ℕ → ℕ → ℕ → ℕ → ℕ × ℕ
 shard_at capacity warm slots k = (capacity_of capacity slots k, budget_of warm (shard_count capacity slots) k)
 
+-- How so many slots and warm slots are split among shards: equal blocks of slots, the last one with the rest.
 abbrev pub layout : ℕ → ℕ → ℕ → ShardLayout
 layout capacity warm requested = record {
   slots_per_shard = slots_per_shard capacity requested;

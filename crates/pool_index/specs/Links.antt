@@ -1,6 +1,6 @@
 -- Lists of slots that are linked through their records.
-use Rattle.std.specs.Option.{option_map_or}
 use Rattle.std.specs.Prelude.{◌≡◌, ◌≢◌, ◌==◌, ◌+◌, ◌-◌, ℕ, zero, suc, Bool, true, false, List, [], ◌∷◌, length, map, filter, sum_by, Option, None, Some, option_map}
+use Rattle.std.specs.Option.{option_map_or}
 use Rattle.pool_index.specs.Lists.{SlotLists}
 use Rattle.pool_index.specs.Records.{record_of, links_of}
 use Rattle.pool_index.specs.Table.{same_affinity, ends_at, ends_len, table_total}
@@ -44,9 +44,11 @@ abbrev pub Linked : (ℕ → Option ℕ) → (ℕ → Option ℕ) → Option ℕ
 Linked after before p [] = Unit {0}
 Linked after before p (k ∷ ks) = (before k ≡ p) × (after k ≡ first_of ks) × Linked after before (Some k) ks
 
+-- The slot that follows slot k in a list, if any.
 abbrev pub after_in : Chain → List SlotRecord → ℕ → Option ℕ
 after_in c rs k = (links_of c (record_of rs k)).after
 
+-- The slot before slot k in a list, if any.
 abbrev pub before_in : Chain → List SlotRecord → ℕ → Option ℕ
 before_in c rs k = (links_of c (record_of rs k)).before
 
@@ -60,6 +62,7 @@ use_in Cold = None
 use_in (Used a) = Some a
 use_in (Warm w) = None
 
+-- The slot was freed and keeps what it held.
 abbrev pub is_warm : SlotRecord → Bool
 is_warm Cold = false
 is_warm (Used a) = false
@@ -71,6 +74,7 @@ entry_in k Cold = record { slot = record { 0 = k }; affinity = None; bytes = 0 }
 entry_in k (Used a) = record { slot = record { 0 = k }; affinity = None; bytes = 0 }
 entry_in k (Warm w) = record { slot = record { 0 = k }; affinity = w.affinity; bytes = w.bytes }
 
+-- The entry of slot k in the list of warm slots.
 abbrev pub warm_entry : List SlotRecord → ℕ → WarmSlot
 warm_entry rs k = entry_in k (record_of rs k)
 
@@ -119,6 +123,7 @@ abbrev pub last_or : Option ℕ → List ℕ → Option ℕ
 last_or p [] = p
 last_or p (k ∷ ks) = last_or (Some k) ks
 
+-- The last slot of a list, if it has one.
 abbrev pub ends_last : Option Ends → Option ℕ
 ends_last e = option_map (λ e. e.last) e
 

@@ -1,5 +1,6 @@
 -- The slots that were used: the free ones in a list, and what each of the others was picked for.
-use Rattle.std.specs.Prelude.{ℕ, ◌++◌, List, [], ◌∷◌, slice_index_or, slice_set, remove, sum_by, Option, None, Some, unwrap_or}
+use Rattle.std.specs.Prelude.{ℕ, ◌+◌, ◌-◌, ◌++◌, List, [], ◌∷◌, length, filter, min, take, drop, slice_index_or, slice_set, remove, sum_by, Option, None, Some, unwrap_or}
+use Rattle.pool_index.specs.Table.{same_affinity}
 use Rattle.pool_index.specs.declared.ids.MemoryInModule.{MemoryInModule}
 use Rattle.pool_index.specs.declared.ids.SlotId.{SlotId}
 use Rattle.pool_index.specs.declared.warm_slot.WarmSlot.{WarmSlot}
@@ -40,3 +41,15 @@ free_slot slot bytes l = record {
 abbrev pub use_again : List WarmSlot → List (Option (Option MemoryInModule)) → List (Option (Option MemoryInModule))
 use_again [] used = used
 use_again (e ∷ es) used = use_again es (slice_set used e.slot.0 (Some e.affinity))
+
+-- those of these warm slots that have this affinity, or that have none
+abbrev pub with_same : Option MemoryInModule → List WarmSlot → List WarmSlot
+with_same a warm = filter (λ e. same_affinity a e.affinity) warm
+
+-- How many records a free accesses: that of the slot twice, and those of the last slots of all the warm ones and of those with its affinity, where there are any
+abbrev pub free_accesses : SlotId → SlotLists → ℕ
+free_accesses slot l = 2 + min 1 (length l.warm) + min 1 (length (with_same (unwrap_or (slice_index_or l.used slot.0 None) None) l.warm))
+
+-- How many records a take of the warm slot at a place accesses: that of the slot, and those of its neighbours among all warm slots and among those with its affinity
+abbrev pub take_accesses : SlotLists → ℕ → ℕ
+take_accesses l i = 1 + min 1 i + min 1 (length l.warm - (i + 1)) + min 1 (length (with_same (warm_slot l i).affinity (take i l.warm))) + min 1 (length (with_same (warm_slot l i).affinity (drop (i + 1) l.warm)))

@@ -9,6 +9,7 @@ use Rattle.pool_index.specs.Shard.{ShardState, fresh_shard}
 abbrev pub made_shard : ℕ → ℕ → ℕ → ℕ → ShardState
 made_shard capacity warm slots k = fresh_shard Memory (k * slots) 1 (capacity_of capacity slots k) (budget_of warm (shard_count capacity slots) k)
 
+-- The shards of an allocator as it is made: no slot was used yet.
 abbrev pub made_shards : ℕ → ℕ → ℕ → List ShardState
 made_shards capacity warm slots = map (made_shard capacity warm slots) (range_with_len 0 (shard_count capacity slots))
 

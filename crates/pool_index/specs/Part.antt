@@ -1,12 +1,12 @@
 -- What a hall sees of a shard.
-use Rattle.std.specs.Prelude.{◌≡◌, ℕ, zero, suc, ◌+◌, ◌<◌, ◌==◌, ◌&&◌, ◌||◌, Bool, true, false, List, [], ◌∷◌, Option, Some, None, slice_index_or, if◌then◌else◌}
+use Rattle.std.specs.Prelude.{◌≡◌, ℕ, zero, suc, ◌+◌, ◌<◌, ◌==◌, ◌&&◌, ◌||◌, Bool, false, List, [], ◌∷◌, Option, Some, None, slice_index_or, if◌then◌else◌}
 use Rattle.pool_hall.specs.declared.unit_name.SlotKind.{SlotKind}
 use Rattle.pool_hall.specs.declared.unit_name.SlotKind.TheVariants.{Memory}
 use Rattle.pool_hall.specs.declared.unit_name.UnitName.{UnitName}
 use Rattle.pool_hall.specs.Unit.{kind_number, pick_unit}
 use Rattle.pool_hall.specs.Meaning.{Meaning}
 use Rattle.pool_index.specs.declared.ids.MemoryInModule.{MemoryInModule}
-use Rattle.pool_index.specs.Shard.{ShardState, IsShard, IsSameShard, fresh_shard, slot_number}
+use Rattle.pool_index.specs.Shard.{ShardState, IsShard, IsSameShard, fresh_shard, slot_number, resident_bytes}
 
 -- the pick unit of slot k of a shard
 abbrev pub slot_unit : ShardState → ℕ → UnitName
@@ -22,21 +22,29 @@ used_units kind step n (Some want ∷ used) = pick_unit kind n ∷ used_units ki
 abbrev pub shard_units : ShardState → List UnitName
 shard_units s = used_units s.kind s.step s.first s.used
 
--- the places of a shard's counts: cold picks, full answers, affine misses, warm takes
+-- The place of the count of cold picks among a shard's counts.
 abbrev pub cold_picks : ℕ
 cold_picks = 0
 
+-- The place of the count of full answers among a shard's counts.
 abbrev pub full_answers : ℕ
 full_answers = 1
 
+-- The place of the count of affine misses among a shard's counts.
 abbrev pub affine_misses : ℕ
 affine_misses = 2
 
+-- The place of the count of takes of all warm slots among a shard's counts.
 abbrev pub warm_takes : ℕ
 warm_takes = 3
 
+-- The place of the bytes that warm slots keep resident among a shard's counts.
+abbrev pub bytes_kept : ℕ
+bytes_kept = 4
+
+-- The counts of a shard that a hall sees: first uses, full answers, affine misses, takes of all warm slots, and the bytes that warm slots keep resident.
 abbrev pub shard_counts : ShardState → List ℕ
-shard_counts s = s.cold ∷ s.full_answers ∷ s.affine_misses ∷ s.warm_takes ∷ []
+shard_counts s = s.cold ∷ s.full_answers ∷ s.affine_misses ∷ s.warm_takes ∷ resident_bytes s ∷ []
 
 -- each slot was used once
 abbrev pub is_topped : ShardState → Bool
@@ -57,6 +65,7 @@ owner_from p [] u = p
 owner_from p (s ∷ []) u = p
 owner_from p (s ∷ t ∷ ss) u = if has_slot s u then p else owner_from (p + 1) (t ∷ ss) u
 
+-- The shard, among these, to which a slot's unit belongs.
 abbrev pub owner : List ShardState → UnitName → ℕ
 owner ss u = owner_from 0 ss u
 
@@ -70,6 +79,7 @@ pub record FitsAt (made : List ShardState) (p : ℕ) (s : ShardState) : Type 0 w
   pub same : IsSameShard (shard_at made p) s
   pub own : (k : ℕ) → k < s.capacity → owner made (slot_unit s k) ≡ p
 
+-- What a hall sees of a shard: the units of its used slots are away, it keeps none, and its counts may fall.
 abbrev pub shard_meaning : Meaning ShardState
 shard_meaning = record {
   fits = λ made limits p s. FitsAt made p s;

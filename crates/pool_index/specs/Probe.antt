@@ -10,6 +10,7 @@ abbrev pub probe_found : Probe → ShardState → Option ℕ
 probe_found (Pick want) s = option_map (λ p. slot_number s p.0.0) (pick_answer want s)
 probe_found (Affine of) s = option_map (λ k. slot_number s k.0) (affine_answer of s)
 
+-- A shard after a probe, which is a pick or a pick of an affine slot alone.
 abbrev pub after_probe : Probe → ShardState → ShardState
 after_probe (Pick want) s = after_pick want s
 after_probe (Affine of) s = after_affine_pick of s

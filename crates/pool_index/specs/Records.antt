@@ -14,6 +14,7 @@ record_of rs k = slice_index_or rs k Cold
 abbrev pub cold_records : ℕ → List SlotRecord
 cold_records n = replicate n Cold
 
+-- The links of a record that stands in no list.
 abbrev pub no_links : Links
 no_links = record { before = None; after = None }
 
@@ -52,3 +53,8 @@ unlinked c l rs = with_before c l.after l.before (with_after c l.before l.after 
 -- the last slot of a list is linked with one behind it
 abbrev pub appended : Chain → Option ℕ → ℕ → List SlotRecord → List SlotRecord
 appended c last k rs = with_after c last (Some k) rs
+
+-- how often the record of a slot is accessed where a link of it is set: once, and never where there is no slot
+abbrev pub link_accesses : Option ℕ → ℕ
+link_accesses None = 0
+link_accesses (Some k) = 1

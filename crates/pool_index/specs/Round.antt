@@ -30,6 +30,7 @@ module _ {T : Type 0} (m : Meaning T) (shard : T → Option ShardState) (made : 
     pub is : shard x ≡ Some state
     pub kind : state.kind ≡ of
 
+  -- Each part that fits at one of these places is a shard of their kind.
   abbrev pub AreShards : ShardPlaces → Type 0
   AreShards places = (p : ℕ) (x : T) → places.first ≤ p → p < places.first + places.count → m.fits made limits p x → IsShardOf places.kind x
 

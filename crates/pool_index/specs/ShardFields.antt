@@ -2,6 +2,7 @@
 use Rattle.pool_index.specs.Shard.{ShardState}
 use Rattle.pool_index.specs.declared.shard.Shard.TheInside.{Inside}
 
+-- A shard of the code as plain data: its lists of warm and used slots in place of links.
 abbrev pub state_of : Inside → ShardState
 state_of f = record {
   kind = f.kind;

@@ -13,6 +13,7 @@ is_it x s e = cc
 pub same_unit : (s t : ShardState) (k : ℕ) → IsSameShard s t → slot_unit t k ≡ slot_unit s k
 same_unit s t k e = λ i. pick_unit (e.kind i) (e.first i + k * e.step i)
 
+-- Being the same shard, by kind, place, capacity and budget, passes on from one step to the next.
 pub same_after : (r s t : ShardState) → IsSameShard r s → IsSameShard s t → IsSameShard r t
 same_after r s t e f = record { kind = f.kind ∙ e.kind; first = f.first ∙ e.first; step = f.step ∙ e.step; capacity = f.capacity ∙ e.capacity; budget = f.budget ∙ e.budget }
 
@@ -23,6 +24,7 @@ fits_after made p s t fit same sound = record {
   own = λ k inside. ap (owner made) (same_unit s t k same) ∙ fit.own k (let c = same.capacity in omega arith);
 }
 
+-- A hall of shards alone satisfies what the round asks of a hall whose parts may be shards.
 pub shard_means : MeansShard shard_meaning Some
 shard_means = record {
   away = λ x s e. ap shard_units (is_it x s e);

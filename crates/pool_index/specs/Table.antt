@@ -54,6 +54,7 @@ abbrev pub ends_len : Option Ends → ℕ
 ends_len None = 0
 ends_len (Some e) = e.len
 
+-- How many warm slots are affine to an entry of the table; none where there is no entry.
 abbrev pub entry_len : Option AffinityEntry → ℕ
 entry_len None = 0
 entry_len (Some e) = e.ends.len

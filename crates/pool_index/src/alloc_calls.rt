@@ -6,13 +6,13 @@ ghost use Rattle.pool_hall.specs.Rule.{first_view};
 ghost use Rattle.pool_hall.specs.Unit.{pick_unit, times};
 ghost use Rattle.pool_hall.specs.Seat.{made_with, limits_of, view, IsSeatOf, IsFree};
 ghost use Rattle.pool_hall.specs.declared.hall.HallSeat.{HallSeat};
-ghost use Rattle.pool_index.specs.Shard.{ShardState, IsShard, after_free};
+ghost use Rattle.pool_index.specs.Shard.{ShardState, IsShard};
 ghost use Rattle.pool_index.specs.Layout.{shard_count, slots_per_shard};
 ghost use Rattle.pool_index.specs.Part.{shard_meaning, full_answers, affine_misses};
 ghost use Rattle.pool_index.specs.declared.probe.Probe.TheVariants as probe;
-ghost use Rattle.pool_index.specs.Round.{round_place, found_units, AreShards, IsRound, HeldShard, KeepsRest, Gains, Gives, KeepsCounts, NoColdPick, OneColdPick, AllMissed, AllTopped};
+ghost use Rattle.pool_index.specs.Round.{round_place, found_units, AreShards, IsRound, KeepsRest, Gains, Gives, NoColdPick, OneColdPick, AllMissed, AllTopped};
 ghost use Rattle.pool_index.specs.MadeShards.{made_shard, made_shards};
-ghost use Rattle.pool_index.specs.Allocator.{slot_answered, made_of, limits_in, slot_count, places_of, place_in, local_in, IsIndexSeat};
+ghost use Rattle.pool_index.specs.Allocator.{slot_answered, made_of, limits_in, slot_count, places_of, place_in, local_in, FreedInShard, AddsBytes, IsIndexSeat};
 
 use crate::allocator::{FullNotes, IndexSeat, ModuleAffinityIndexAllocator};
 use crate::free_call::FreeSlot;
@@ -22,7 +22,7 @@ use crate::probe::Probe;
 use crate::round::{ShardPlaces, probe_shards};
 use crate::shard::Shard;
 use pool_hall::{Hall, SlotKind};
-use pool_pages::{CompiledModuleId, DefinedMemoryIndex};
+use pool_types::{CompiledModuleId, DefinedMemoryIndex};
 use std::alloc::{AllocError, Global};
 use std::sync::Wait;
 
@@ -231,8 +231,8 @@ impl ModuleAffinityIndexAllocator {
         requires bytes { bytes_resident ≤ 2 ^ 32 }
         ensures seat { IsIndexSeat self.now seat.new }
         ensures units { Gives (pick_unit Memory slot.0 ∷ []) (view seat.old) (view seat.new) }
-        ensures freed { (s : ShardState) × HeldShard shard_meaning Some (made_of self.now) (limits_in self.now) (place_in self.now slot.0) s (after_free (record { 0 = local_in self.now slot.0 }) bytes_resident s) (view seat.old) (view seat.new) }
-        ensures counts { KeepsCounts (view seat.old) (view seat.new) }
+        ensures freed { FreedInShard self.now slot bytes_resident (view seat.old) (view seat.new) }
+        ensures counts { AddsBytes self.now ((slot, bytes_resident) ∷ []) (view seat.old) (view seat.new) }
         ensures rest { KeepsRest (view seat.old) (view seat.new) }
     {
         let (place, local) = self.local(slot);

@@ -1,6 +1,6 @@
 ghost use Rattle.std.specs.Prelude.{◌≡◌, ◌^◌, ◌<◌};
 
-use pool_pages::{CompiledModuleId, DefinedMemoryIndex};
+use pool_types::{CompiledModuleId, DefinedMemoryIndex};
 
 /// The number of a slot, from 0 up.
 #[derive(Clone, Copy, Debug, PartialEq, Eq, PartialOrd, Ord, Hash)]

@@ -1,7 +1,7 @@
 ghost use Rattle.std.specs.Prelude.{◌≡◌, ◌<◌, IfOk, sum_by};
 ghost use Rattle.pool_index.specs.Layout.{layout, slots_per_shard, shard_at, shard_count};
 
-use pool_pages::PlainList;
+use pool_types::PlainList;
 use std::alloc::{AllocError, Global};
 
 /// How the slots of an index allocator are split among shards (Wasmtime's `index_allocator.rs`).

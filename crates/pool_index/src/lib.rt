@@ -1,26 +1,48 @@
-//! The index allocator: which slot an allocation gets. It knows numbers of slots alone, and nothing of what is in
-//! them.
+//! Which slot an allocation gets: numbers of slots, and nothing of what is in them.
+//!
+//! `Shard` is the live half, which the pool stands on: slots of one kind that are cold, used or warm, with the memory
+//! that each warm one was used for (`MemoryInModule`). `Shard::pick` is the policy of the pool: affine slots first,
+//! then cold ones or warm ones by the budget. `ShardLayout` splits slots among shards, `Taken` has slots that a purge
+//! or a release took, and `Steps` counts accesses in contracts.
+//!
+//! The index allocators behind locks are for the pool of threads, and no pool uses them yet:
+//! `ModuleAffinityIndexAllocator`, `SimpleIndexAllocator`, and the round over shards (`probe_shards`).
+//!
+//! From Wasmtime: `vm/instance/allocator/pooling/index_allocator.rs`. It stands on `pool_types` and `pool_hall`.
+//!
+//! ```rust
+//! let (slot, resident) = shard.pick(Some(memory), &mut steps)?;
+//! ```
 #![tactic(auto)]
 
+// Numbers
+mod ids;
+
+// A shard: the live half
+mod laws;
+mod layout;
+mod shard;
+mod steps;
+mod taken;
+mod warm_slot;
+
+// What a shard keeps of its slots
 mod affinity_table;
+mod slot_lists;
+mod slot_row;
+
+// Index allocators behind locks, for the pool of threads
 mod alloc_calls;
 mod allocator;
 mod counting;
 mod free_call;
-mod ids;
-mod laws;
-mod layout;
 mod many_calls;
+mod simple;
+
+// The round over shards, behind locks
 mod part;
 mod probe;
 mod round;
-mod shard;
-mod simple;
-mod slot_lists;
-mod slot_row;
-mod steps;
-mod taken;
-mod warm_slot;
 
 pub use allocator::{FullNotes, IndexSeat, ModuleAffinityIndexAllocator};
 pub use ids::{MemoryInModule, ShardId, SlotId};

@@ -4,7 +4,7 @@ ghost use Rattle.pool_hall.specs.Seat.{view};
 ghost use Rattle.pool_index.specs.Shard.{resident_bytes, after_take_warm};
 ghost use Rattle.pool_index.specs.Freed.{IsSum, HasAll, all_unused, taken_outside, units_of_slots};
 ghost use Rattle.pool_index.specs.Round.{KeepsRest, KeepsUnits, Gains, Gives, KeepsCounts};
-ghost use Rattle.pool_index.specs.Allocator.{slot_count, FoundInTurn, IsIndexSeat};
+ghost use Rattle.pool_index.specs.Allocator.{slot_count, FoundInTurn, FreedInTurn, AddsBytes, IsIndexSeat};
 
 use crate::allocator::{IndexSeat, ModuleAffinityIndexAllocator};
 use crate::counting::{CountSlots, ShardCounts, TakeWarm};
@@ -37,7 +37,8 @@ impl ModuleAffinityIndexAllocator {
         requires bytes { All (λ p. p.1 ≤ 2 ^ 32) items.now }
         ensures seat { IsIndexSeat self.now seat.new }
         ensures units { Gives (units_of_slots items.now) (view seat.old) (view seat.new) }
-        ensures counts { KeepsCounts (view seat.old) (view seat.new) }
+        ensures freed { FreedInTurn self.now items.now (view seat.old) (view seat.new) }
+        ensures counts { AddsBytes self.now items.now (view seat.old) (view seat.new) }
         ensures rest { KeepsRest (view seat.old) (view seat.new) }
     {
         for at in 0..items.len() {

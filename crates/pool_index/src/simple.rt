@@ -12,7 +12,7 @@ ghost use Rattle.pool_index.specs.Round.{round_place, found_units, IsRound, Keep
 ghost use Rattle.pool_index.specs.MadeShards.{made_shards};
 ghost use Rattle.pool_index.specs.Shard.{resident_bytes};
 ghost use Rattle.pool_index.specs.Freed.{HasAll, all_unused, units_of_slots};
-ghost use Rattle.pool_index.specs.Allocator.{slot_answered, made_of, limits_in, slot_count, places_of, FoundInTurn, IsIndexSeat};
+ghost use Rattle.pool_index.specs.Allocator.{slot_answered, made_of, limits_in, slot_count, places_of, FoundInTurn, FreedInShard, FreedInTurn, AddsBytes, IsIndexSeat};
 
 use crate::allocator::{FullNotes, IndexSeat, ModuleAffinityIndexAllocator};
 use crate::ids::{ShardId, SlotId};
@@ -69,7 +69,8 @@ impl SimpleIndexAllocator {
         requires bytes { bytes_resident ≤ 2 ^ 32 }
         ensures seat { IsIndexSeat self.now.0 seat.new }
         ensures units { Gives (pick_unit Memory slot.0 ∷ []) (view seat.old) (view seat.new) }
-        ensures counts { KeepsCounts (view seat.old) (view seat.new) }
+        ensures freed { FreedInShard self.now.0 slot bytes_resident (view seat.old) (view seat.new) }
+        ensures counts { AddsBytes self.now.0 ((slot, bytes_resident) ∷ []) (view seat.old) (view seat.new) }
         ensures rest { KeepsRest (view seat.old) (view seat.new) }
     {
         self.0.free(rt, seat, slot, bytes_resident);
@@ -83,7 +84,8 @@ impl SimpleIndexAllocator {
         requires bytes { All (λ p. p.1 ≤ 2 ^ 32) items.now }
         ensures seat { IsIndexSeat self.now.0 seat.new }
         ensures units { Gives (units_of_slots items.now) (view seat.old) (view seat.new) }
-        ensures counts { KeepsCounts (view seat.old) (view seat.new) }
+        ensures freed { FreedInTurn self.now.0 items.now (view seat.old) (view seat.new) }
+        ensures counts { AddsBytes self.now.0 items.now (view seat.old) (view seat.new) }
         ensures rest { KeepsRest (view seat.old) (view seat.new) }
     {
         self.0.free_many(rt, seat, items);

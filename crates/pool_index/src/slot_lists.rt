@@ -4,7 +4,7 @@ ghost use Rattle.pool_index.specs.Affinity.{is_affine};
 ghost use Rattle.pool_index.specs.Positions.{last_position};
 ghost use Rattle.pool_index.specs.Links.{ends_without, ends_with, ends_last};
 ghost use Rattle.pool_index.specs.Table.{ends_len};
-ghost use Rattle.pool_index.specs.Lists.{warm_slot, with_bytes, bytes_of, use_warm, use_slot, free_slot, use_again};
+ghost use Rattle.pool_index.specs.Lists.{warm_slot, with_bytes, bytes_of, use_warm, use_slot, free_slot, free_accesses, take_accesses, use_again};
 
 use crate::affinity_table::{AffinityTable, Ends};
 use crate::ids::{MemoryInModule, SlotId};
@@ -139,7 +139,7 @@ impl SlotLists {
     ) -> Option<(SlotId, usize)>
         ensures answer { result ≡ option_map (λ i. with_bytes (warm_slot self.old i)) (last_position (is_affine of) self.old.warm) }
         ensures after { self.new ≡ option_map_or (use_warm want self.old) (last_position (is_affine of) self.old.warm) self.old }
-        ensures steps { steps.new ≤ steps.old + 5 }
+        ensures steps { steps.new ≡ steps.old + option_map_or (take_accesses self.old) (last_position (is_affine of) self.old.warm) 0 }
         ensures missed { result ≡ None → steps.new ≡ steps.old }
     {
         let slot = self.last_affine(of)?;
@@ -155,7 +155,7 @@ impl SlotLists {
         requires { 0 < length self.old.warm }
         ensures answer { result ≡ with_bytes (warm_slot self.old 0) }
         ensures after { self.new ≡ use_warm want self.old 0 }
-        ensures steps { steps.new ≤ steps.old + 5 }
+        ensures steps { steps.new ≡ steps.old + take_accesses self.old 0 }
     {
         let slot = self.first();
         self.take(slot, want, steps)
@@ -200,7 +200,7 @@ impl SlotLists {
         requires few { length self.old.used < 2 ^ 32 }
         requires bytes { bytes_of self.old.warm + bytes < 2 ^ 64 }
         ensures after { self.new ≡ free_slot slot bytes self.old }
-        ensures steps { steps.new ≤ steps.old + 4 }
+        ensures steps { steps.new ≡ steps.old + free_accesses slot self.old }
     {
         let SlotRecord::Used(affinity) = self.rows.read(slot.0, steps) else {
             unreachable!()
@@ -232,7 +232,7 @@ impl SlotLists {
         requires { (i : ℕ) × (i < length self.old.warm) × ((warm_slot self.old i).slot.0 ≡ slot) }
         ensures answer { (i : ℕ) → i < length self.old.warm → (warm_slot self.old i).slot.0 ≡ slot → result ≡ with_bytes (warm_slot self.old i) }
         ensures after { (i : ℕ) → i < length self.old.warm → (warm_slot self.old i).slot.0 ≡ slot → self.new ≡ use_warm want self.old i }
-        ensures steps { steps.new ≤ steps.old + 5 }
+        ensures steps { (i : ℕ) → i < length self.old.warm → (warm_slot self.old i).slot.0 ≡ slot → steps.new ≡ steps.old + take_accesses self.old i }
     {
         let SlotRecord::Warm(record) = self.rows.replace(slot, SlotRecord::Used(want), steps) else {
             unreachable!()

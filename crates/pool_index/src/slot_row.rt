@@ -1,5 +1,5 @@
-ghost use Rattle.std.specs.Prelude.{◌≡◌, ◌+◌, ◌<◌, ◌≤◌, IfOk, IfSome, length, slice_set};
-ghost use Rattle.pool_index.specs.Records.{record_of, cold_records, links_of, with_links, with_before, with_after, unlinked, appended};
+ghost use Rattle.std.specs.Prelude.{◌≡◌, ◌+◌, ◌<◌, IfOk, IfSome, length, slice_set};
+ghost use Rattle.pool_index.specs.Records.{record_of, cold_records, links_of, with_links, with_before, with_after, unlinked, appended, link_accesses};
 
 use crate::ids::MemoryInModule;
 use crate::steps::Steps;
@@ -132,7 +132,7 @@ impl SlotRow {
         requires before { IfSome links.before (λ k. k < length self.old) }
         requires after { IfSome links.after (λ k. k < length self.old) }
         ensures after { self.new ≡ unlinked chain links self.old }
-        ensures steps { steps.new ≤ steps.old + 2 }
+        ensures steps { steps.new ≡ steps.old + link_accesses links.before + link_accesses links.after }
     {
         self.set_after(chain, links.before, links.after, steps);
         self.set_before(chain, links.after, links.before, steps);
@@ -148,7 +148,7 @@ impl SlotRow {
     )
         requires { IfSome last (λ k. k < length self.old) }
         ensures after { self.new ≡ appended chain last slot self.old }
-        ensures steps { steps.new ≤ steps.old + 1 }
+        ensures steps { steps.new ≡ steps.old + link_accesses last }
     {
         self.set_after(chain, last, Some(slot), steps);
     }
@@ -162,7 +162,7 @@ impl SlotRow {
     )
         requires { IfSome slot (λ k. k < length self.old) }
         ensures after { self.new ≡ with_after chain slot after self.old }
-        ensures steps { steps.new ≤ steps.old + 1 }
+        ensures steps { steps.new ≡ steps.old + link_accesses slot }
     {
         let Some(slot) = slot else {
             return;
@@ -182,7 +182,7 @@ impl SlotRow {
     )
         requires { IfSome slot (λ k. k < length self.old) }
         ensures after { self.new ≡ with_before chain slot before self.old }
-        ensures steps { steps.new ≤ steps.old + 1 }
+        ensures steps { steps.new ≡ steps.old + link_accesses slot }
     {
         let Some(slot) = slot else {
             return;

@@ -17,16 +17,18 @@ pub data Exchange : Type 0 where
   may_grow : GrowthQuestion → Result Bool LimiterError → Exchange
   has_failed : Growable → GrowError → Result (Unit {0}) LimiterError → Exchange
 
+-- The question whether this may grow from one size to another, with the greatest size of its type.
 abbrev pub question_of : Growable → ℕ → ℕ → Option ℕ → GrowthQuestion
 question_of what current desired maximum = record { what = what; current = current; desired = desired; maximum = maximum }
 
 -- These exchanges, in this order and no others, took a limiter from one state to the other, where each of them may lead
--- from a state to another as given.
+-- from a state to another as given. Code that is written for every limiter can show that relation only by making the
+-- call, so a clause by this pins what the limiter was asked.
 abbrev pub Exchanged : {R : Type 0} → (R → Exchange → R → Type 0) → List Exchange → R → R → Type 0
 Exchanged leads [] old new = new ≡ old
 Exchanged {R} leads (e ∷ rest) old new = (between : R) × (leads old e between × Exchanged leads rest between new)
 
--- the same of a limiter that need not be there
+-- These exchanges took the limiter from one state to the other; where there is none, nothing is said.
 abbrev pub IfExchanged : {R : Type 0} → (R → Exchange → R → Type 0) → List Exchange → Option R → Option R → Type 0
 IfExchanged leads es None new = Unit {0}
 IfExchanged leads es (Some old) None = ⊥

@@ -29,20 +29,25 @@ abbrev pub pages_exchanges : Growable → Option GrowError → Result (Unit {0})
 pages_exchanges what None report = []
 pages_exchanges what (Some e) report = has_failed what e report ∷ []
 
+-- Once the limiter allowed a growth: a size without room is reported; else what the pages' failure brings.
 abbrev pub allowed_exchanges : Growable → Bool → Option GrowError → Result (Unit {0}) LimiterError → List Exchange
 allowed_exchanges what true failure report = has_failed what MaximumExceeded report ∷ []
 allowed_exchanges what false failure report = pages_exchanges what failure report
 
+-- The limiter is asked. A no and an error end it; a yes goes on with room and pages.
 abbrev pub answer_exchanges : GrowthQuestion → Bool → Result Bool LimiterError → Option GrowError → Result (Unit {0}) LimiterError → List Exchange
 answer_exchanges q past (Err e) failure report = may_grow q (Err e) ∷ []
 answer_exchanges q past (Ok false) failure report = may_grow q (Ok false) ∷ []
 answer_exchanges q past (Ok true) failure report = may_grow q (Ok true) ∷ allowed_exchanges q.what past failure report
 
+-- What passes to the limiter, by the first obstacle: nothing for a growth by nothing, a report where the type forbids
+-- the size, else the question.
 abbrev pub exchanges_by : GrowthQuestion → Bool → Bool → Bool → GrowthGiven → List Exchange
 exchanges_by q true past_type past_room g = []
 exchanges_by q false true past_room g = has_failed q.what TypeLimit g.report ∷ []
 exchanges_by q false false past_room g = answer_exchanges q past_room g.answer g.failure g.report
 
+-- All that passes to the limiter in one growth, in order.
 abbrev pub growth_exchanges : GrowthQuestion → Obstacles → GrowthGiven → List Exchange
 growth_exchanges q o g = exchanges_by q o.nothing o.past_type o.past_room g
 
@@ -60,19 +65,23 @@ report_result wanting (Err e) = Err (fault.LimiterFault e)
 report_result true (Ok u) = Err fault.Memory
 report_result false (Ok u) = Ok None
 
+-- The result once the pages were asked: what was to be answered, or what the failure of the pages makes of it.
 abbrev pub pages_result : {X : Type 0} → X → Option GrowError → Result (Unit {0}) LimiterError → Result (Option X) GrowFault
 pages_result x None report = Ok (Some x)
 pages_result x (Some e) report = report_result (is_want_of_memory e) report
 
+-- The result once the limiter allowed it: a refusal where there is no room, else as the pages have it.
 abbrev pub allowed_result : {X : Type 0} → X → Bool → Option GrowError → Result (Unit {0}) LimiterError → Result (Option X) GrowFault
 allowed_result x true failure report = report_result false report
 allowed_result x false failure report = pages_result x failure report
 
+-- The result once the limiter answered: its error is the growth's error, its no is no growth.
 abbrev pub answer_result : {X : Type 0} → X → Bool → Result Bool LimiterError → Option GrowError → Result (Unit {0}) LimiterError → Result (Option X) GrowFault
 answer_result x past (Err e) failure report = Err (fault.LimiterFault e)
 answer_result x past (Ok false) failure report = Ok None
 answer_result x past (Ok true) failure report = allowed_result x past failure report
 
+-- The result by the first obstacle: a growth by nothing succeeds, one that the type forbids is refused.
 abbrev pub result_by : {X : Type 0} → X → Bool → Bool → Bool → GrowthGiven → Result (Option X) GrowFault
 result_by x true past_type past_room g = Ok (Some x)
 result_by x false true past_room g = report_result false g.report
@@ -87,20 +96,25 @@ abbrev pub PagesMake : Type 0 → (GrowError → Type 0) → Option GrowError �
 PagesMake Grown Ungrown None = Grown
 PagesMake Grown Ungrown (Some e) = Ungrown e
 
+-- What becomes of what was to grow, once the limiter allowed it: the same without room, else as its pages end.
 abbrev pub AllowedMakes : Type 0 → Type 0 → (GrowError → Type 0) → Bool → Option GrowError → Type 0
 AllowedMakes Same Grown Ungrown true failure = Same
 AllowedMakes Same Grown Ungrown false failure = PagesMake Grown Ungrown failure
 
+-- What becomes of what was to grow, once the limiter answered: the same after a no or an error.
 abbrev pub AnswerMakes : Type 0 → Type 0 → (GrowError → Type 0) → Bool → Result Bool LimiterError → Option GrowError → Type 0
 AnswerMakes Same Grown Ungrown past (Err e) failure = Same
 AnswerMakes Same Grown Ungrown past (Ok false) failure = Same
 AnswerMakes Same Grown Ungrown past (Ok true) failure = AllowedMakes Same Grown Ungrown past failure
 
+-- What becomes of what was to grow, by the first obstacle: the same where there is nothing to do or the type forbids
+-- it.
 abbrev pub MakesBy : Type 0 → Type 0 → (GrowError → Type 0) → Bool → Bool → Bool → GrowthGiven → Type 0
 MakesBy Same Grown Ungrown true past_type past_room g = Same
 MakesBy Same Grown Ungrown false true past_room g = Same
 MakesBy Same Grown Ungrown false false past_room g = AnswerMakes Same Grown Ungrown past_room g.answer g.failure
 
+-- What one growth makes of what was to grow: the same, grown, or not grown for want of pages or memory.
 abbrev pub GrowthMakes : Type 0 → Type 0 → (GrowError → Type 0) → Obstacles → GrowthGiven → Type 0
 GrowthMakes Same Grown Ungrown o g = MakesBy Same Grown Ungrown o.nothing o.past_type o.past_room g
 

@@ -41,7 +41,8 @@ memory_answer (Some always) given desired maximum = Ok true
 memory_answer (Some (limited_by l)) given desired maximum =
     growth_answer l.trap_on_grow_failure (MemoryGrow desired) (is_within l.memory_size desired && is_within maximum desired)
 
--- the same for a table
+-- What a limiter of this rule answers to a number of elements and a maximum, or what was answered where no rule is
+-- told.
 abbrev pub table_answer : Option GrowthRule → Result Bool LimiterError → ℕ → Option ℕ → Result Bool LimiterError
 table_answer None given desired maximum = given
 table_answer (Some always) given desired maximum = Ok true
@@ -54,17 +55,18 @@ memory_failure None given = given
 memory_failure (Some always) given = Ok tt
 memory_failure (Some (limited_by l)) given = failure_answer l.trap_on_grow_failure MemoryGrowFailed
 
--- the same for a table's growth
+-- What a limiter of this rule answers to the report that a table failed to grow.
 abbrev pub table_failure : Option GrowthRule → Result (Unit {0}) LimiterError → Result (Unit {0}) LimiterError
 table_failure None given = given
 table_failure (Some always) given = Ok tt
 table_failure (Some (limited_by l)) given = failure_answer l.trap_on_grow_failure TableGrowFailed
 
--- the same for either, by what is to grow
+-- What a limiter of this rule answers to the question whether a memory or a table may grow.
 abbrev pub answer_by : Growable → Option GrowthRule → Result Bool LimiterError → ℕ → Option ℕ → Result Bool LimiterError
 answer_by Memory rule given desired maximum = memory_answer rule given desired maximum
 answer_by Table rule given desired maximum = table_answer rule given desired maximum
 
+-- What a limiter of this rule answers to the report that a memory or a table failed to grow.
 abbrev pub failure_by : Growable → Option GrowthRule → Result (Unit {0}) LimiterError → Result (Unit {0}) LimiterError
 failure_by Memory rule given = memory_failure rule given
 failure_by Table rule given = table_failure rule given

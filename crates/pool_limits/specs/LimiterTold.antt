@@ -2,7 +2,7 @@
 use Rattle.std.specs.Prelude.{ℕ, Bool, true, false, Option, Some, None, Result, Ok, Err, ◌⊎◌}
 use Rattle.std.specs.Borrow.{MutBor}
 use Rattle.std.proofs.Common.{inl, inr}
-use Rattle.pool_pages.specs.Told.{risen}
+use Rattle.pool_types.specs.Rising.{risen}
 use Rattle.pool_limits.specs.declared.errors.LimiterError.{LimiterError}
 use Rattle.pool_limits.specs.Growth.{GrowthRule, always}
 
@@ -23,6 +23,7 @@ pub record LimiterTold : Type 0 where
   pub quotas : Quotas
   pub counts : LimiterCounts
 
+-- The counts of a limiter that has refused nothing yet.
 abbrev pub no_refusals : LimiterCounts
 no_refusals = record { noes = 0; errors = 0 }
 

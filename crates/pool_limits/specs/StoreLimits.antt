@@ -17,6 +17,7 @@ default_limits = record {
   counts = no_refusals;
 }
 
+-- These limits limit nothing and have the default quotas.
 abbrev pub IsDefault : Limits → Type 0
 IsDefault limits = limits ≡ default_limits
 

@@ -1,21 +1,6 @@
 -- A slot as a memory begins in it: what the memory reads, and what lies behind it.
-use Rattle.std.proofs.Common.{◌≡◌, ℕ, ◌+◌, ◌-◌, ◌^◌, ◌<◌, ◌≤◌, nat_le, Bool, true, false, List, length, refl, sym, ap, ◌∙◌, subst, arith, slice_range, replicate, Option, Some, None, Result, Ok, Err}
-use Rattle.std.specs.Prelude.{IfSome, option_map, nat_lt, ◌&&◌, if◌then◌else◌}
-use Rattle.std.proofs.lemmas.List.{length-replicate}
-use Rattle.std.proofs.lemmas.Bool.{ltb-false}
-use Rattle.pool_pages.specs.Count.{count, rounded_up}
-use Rattle.pool_pages.specs.Contents.{Contents, put}
-use Rattle.pool_pages.specs.Told.{exposing, hiding}
-use Rattle.pool_pages.proofs.Puts.{length-put, range-put_above}
-use Rattle.pool_pages.specs.MemoryTypes.{page_size, minimum_byte_size}
-use Rattle.pool_pages.specs.declared.module_types.MemoryType.{MemoryType}
-use Rattle.pool_pages.specs.declared.unsupported.Unsupported.{Unsupported}
-use Rattle.pool_pages.specs.declared.unsupported.Unsupported.TheVariants.{InitialSize}
-use Rattle.pool_images.specs.Images.{Image, start}
-use Rattle.pool_images.specs.Slots.{Slot, SlotIdentity, IsSlot, IsSound, IsBegun, IsSized, called, resized, size_of}
-use Rattle.pool_images.proofs.Pieces.{piece_of}
-use Rattle.pool_images.proofs.Marks.{range-zeros, range-put_around}
-use Rattle.pool_images.proofs.Begun.{rounded_up_above}
+use Rattle.std.proofs.Common.{◌≡◌, ℕ, ◌+◌, ◌-◌, ◌^◌, ◌<◌, ◌≤◌, nat_le, Bool, true, false, List, length, refl, sym, ap, ◌∙◌, subst, arith, slice_range, replicate, Option, Some, None, Result, Ok, Err, IfSome, option_map, nat_lt, ◌&&◌, if◌then◌else◌}
+use Rattle.pool_memory.proofs.Imports.{length-replicate, ltb-false, count, rounded_up, Contents, put, exposing, hiding, length-put, range-put_above, page_size, minimum_byte_size, MemoryType, Unsupported, InitialSize, Image, start, Slot, SlotIdentity, IsSlot, IsSound, IsBegun, IsSized, called, resized, size_of, piece_of, range-zeros, range-put_around, rounded_up_above}
 use Rattle.pool_memory.specs.Linear.{linear_bytes}
 use Rattle.pool_memory.specs.Static.{Static, CanHold, linear_of, static_capacity, made_static}
 use Rattle.pool_memory.specs.Making.{Granted, EndsWithin}

@@ -1,8 +1,6 @@
 -- Ranges of the bytes of a region.
 use Rattle.std.proofs.Common.{◌≡◌, ℕ, ◌+◌, ◌-◌, ◌≤◌, List, length, ap, ◌∙◌, arith, slice_range, replicate}
-use Rattle.std.proofs.lemmas.List.{length-replicate}
-use Rattle.pool_images.proofs.Pieces.{piece_of}
-use Rattle.pool_images.proofs.Marks.{range-zeros}
+use Rattle.pool_memory.proofs.Imports.{length-replicate, piece_of, range-zeros}
 
 -- a part of a range of zeros
 pub zeros_part : (xs : List ℕ) (base a b i j : ℕ) → base + b ≤ length xs → a ≤ i → i ≤ j → j ≤ b → slice_range xs (base + a) (base + b) ≡ replicate (b - a) 0 → slice_range xs (base + i) (base + j) ≡ replicate (j - i) 0

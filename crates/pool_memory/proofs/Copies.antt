@@ -1,35 +1,11 @@
 -- Bytes that are copied piece by piece.
-use Rattle.std.proofs.Common.{◌≡◌, ℕ, ◌+◌, ◌-◌, ◌≤◌, ◌++◌, List, [], length, drop, take, refl, sym, ap, ◌∙◌, subst, arith, slice_range, Option, Some, None}
-use Rattle.std.specs.Prelude.{IfSome, option_map, is_some}
-use Rattle.std.proofs.lemmas.List.{length-append, take-append-drop}
-use Rattle.pool_pages.specs.Contents.{Contents, put, written}
-use Rattle.pool_pages.proofs.PageRuns.{range_join}
-use Rattle.pool_pages.proofs.Puts.{put-put}
-use Rattle.pool_images.specs.Slots.{Slot, IsSlot, IsSound, IsReady, size_of, written_at}
-use Rattle.pool_images.proofs.Ready.{followed}
-use Rattle.pool_memory.specs.Copying.{IsReadable, OnlyWritten, IsCopied}
+use Rattle.std.proofs.Common.{◌≡◌, ℕ, ◌+◌, ◌-◌, ◌≤◌, ◌++◌, List, [], length, drop, take, refl, sym, ap, ◌∙◌, subst, arith, slice_range, Option, Some, None, IfSome, option_map, is_some}
+use Rattle.pool_memory.proofs.Imports.{length-append, take-append-drop, Contents, put, written, range_join, put-put, Slot, IsSlot, IsSound, IsReady, size_of, followed}
+use Rattle.pool_memory.specs.Copying.{IsCopied}
 
 pub tells_mapped : (f : Contents → Contents) (o : Option Contents) → is_some (option_map f o) ≡ is_some o
 tells_mapped f None = refl
 tells_mapped f (Some c) = refl
-
-bytes_put : (i : ℕ) (new : List ℕ) (o : Option Contents) → option_map (λ c. c.bytes) (option_map (written i new) o) ≡ option_map (λ c. put i new c.bytes) o
-bytes_put i new None = refl
-bytes_put i new (Some c) = refl
-
--- a piece
-pub piece_copied : (at len : ℕ) (from old new : Slot) (bytes : List ℕ) → length bytes ≡ len → IfSome from.region.contents (λ c. bytes ≡ slice_range c.bytes (from.base.bytes + at) (from.base.bytes + at + len)) → new ≡ written_at at bytes old → IfSome new.region.contents (IsReady new) → IsCopied at len from old new
-piece_copied at len from old new bytes long told is ready =
-    let P : Slot → Type 0 = λ s. OnlyWritten old s in
-    let B : Slot → Type 0 = λ s. option_map (λ c. c.bytes) s.region.contents ≡ option_map (λ c. put (old.base.bytes + at) bytes c.bytes) old.region.contents in
-    record {
-      written = subst P (sym is) (record { tells = tells_mapped (written (old.base.bytes + at) bytes) old.region.contents; same = refl });
-      ready = ready;
-      bytes = bytes;
-      long = long;
-      told = told;
-      put = subst B (sym is) (bytes_put (old.base.bytes + at) bytes old.region.contents);
-    }
 
 put_none : (i : ℕ) (xs : List ℕ) → put i [] xs ≡ xs
 put_none i xs =
@@ -107,10 +83,3 @@ more_copied done n from old mid new from_fits fits in_from in_old first second =
       put = put_more old.base.bytes done first.bytes second.bytes old.region.contents mid.region.contents new.region.contents first.long
           (if_same old.region.contents (old.base.bytes + (done + n)) (old.base.bytes + done + length second.bytes) here (long_told old (done + n) fits in_old)) first.put (subst P base second.put);
     }
-
--- where bytes were copied the slot can be read and written as before
-pub still_readable : (n done : ℕ) (from old new : Slot) → IsCopied 0 done from old new → IsReadable n old → IsReadable n new
-still_readable n done from old new copied readable = record {
-  reached = let same : new.accessible.bytes ≡ old.accessible.bytes = ap (λ (s : Slot). s.accessible.bytes) copied.written.same in omega (arith, same, readable.reached);
-  ready = copied.ready;
-}

@@ -1,24 +1,11 @@
 -- Memories as the default creator makes them.
-use Rattle.std.proofs.Common.{◌≡◌, ℕ, ◌+◌, ◌-◌, ◌^◌, ◌<◌, ◌≤◌, Bool, true, false, List, [], ◌∷◌, length, min, refl, sym, ap, ◌∙◌, subst, inl, inr, arith, slice_range, replicate, nat_lt, Option, Some, None, Result, Ok, Err}
-use Rattle.std.specs.Prelude.{◌↔◌, ◌⊎◌, ◌==◌, ◌||◌, not, IfSome, is_some, option_map, if◌then◌else◌}
-use Rattle.std.specs.List.{list_any}
-use Rattle.std.proofs.lemmas.Bool.{cases_lt, lt-ltb}
-use Rattle.std.proofs.lemmas.Bool.Decides.{nat_tests}
-use Rattle.pool_pages.specs.Contents.{Contents}
-use Rattle.pool_pages.specs.MakerTold.{MakerTold, Planned, calls_of, part_of, plan_for, fails_making}
-use Rattle.pool_pages.specs.declared.module_types.MemoryTunables.{MemoryTunables}
-use Rattle.pool_pages.specs.declared.pages.RegionName.TheVariants.{OnDemand}
-use Rattle.pool_pages.specs.declared.unsupported.Unsupported.{Unsupported}
-use Rattle.pool_pages.specs.declared.unsupported.Unsupported.TheVariants.{AddressSpace}
-use Rattle.pool_images.specs.Slots.{Slot, raised}
-use Rattle.pool_images.proofs.Begun.{if_mapped}
-use Rattle.pool_images.proofs.Ready.{followed, paired}
-use Rattle.pool_memory.specs.Creators.{IsAsMade, IsDesigned, IsBetween, ListsBetween, HasFaulted, IsSameMaker, CreatorLeaves, mapped_design}
-use Rattle.pool_memory.specs.Layouts.{Layout, layout_len, first_layout}
-use Rattle.pool_limits.specs.declared.errors.GrowError.{GrowError}
+use Rattle.std.proofs.Common.{◌≡◌, ℕ, ◌+◌, ◌-◌, ◌^◌, ◌<◌, ◌≤◌, Bool, true, false, List, [], ◌∷◌, length, min, refl, sym, ap, ◌∙◌, inl, inr, arith, slice_range, replicate, Option, Some, None, Result, Ok, Err, ◌⊎◌, ◌==◌, ◌||◌, not, IfSome, is_some, if◌then◌else◌}
+use Rattle.pool_memory.proofs.Imports.{list_any, cases_lt, mapped_some, Contents, MakerTold, Planned, calls_of, part_of, plan_for, fails_making, MemoryTunables, OnDemand, Unsupported, Slot, raised, if_mapped, followed, paired, GrowError}
+use Rattle.pool_memory.specs.Creators.{IsAsMade, IsBetween, ListsBetween, HasFaulted, IsSameMaker, CreatorLeaves}
+use Rattle.pool_memory.specs.Layouts.{Layout, first_layout}
 use Rattle.pool_memory.specs.Linear.{Linear}
 use Rattle.pool_memory.specs.Malloc.{Malloc, malloc_linear}
-use Rattle.pool_memory.specs.Mapped.{Mapped, IsMadeSlot, mapped_linear, mapped_refusal, extra_on_growth}
+use Rattle.pool_memory.specs.Mapped.{Mapped, IsMadeSlot, mapped_linear}
 use Rattle.pool_memory.specs.Moving.{CallLeaves, IsAsked, MakingFails, FirstCallFails, MakingLeaves, first_call, slot_for}
 use Rattle.pool_memory.specs.declared.memory_error.MemoryError.{MemoryError}
 use Rattle.pool_memory.specs.declared.memory_error.MemoryError.TheVariants as refused
@@ -43,10 +30,6 @@ asked_same old new asked = record {
   same = asked ∙ ap (λ (n : ℕ). record old { next = n; behind = new.behind; faults = new.faults }) (sym (next_risen old new asked));
   rises = omega (arith, next_risen old new asked);
 }
-
-mapped_some : {X Y : Type 0} (f : X → Y) (o : Option X) → is_some (option_map f o) ≡ is_some o
-mapped_some f None = refl
-mapped_some f (Some x) = refl
 
 plan_if : (b : Bool) (n : ℕ) (s : Slot) → (if b then raised n s else s).region.plan ≡ s.region.plan
 plan_if true n s = refl
@@ -90,17 +73,6 @@ mapped_as_made old new t minimum extra m is made asked =
           ap (λ (x : Mapped). x.slot.region.plan) is ∙ plan_if _ _ _,
         ),
       );
-    }
-
-pub mapped_as_designed : (old : MakerTold) (t : MemoryTunables) (minimum : ℕ) (maximum : Option ℕ) (m : Mapped) → m ≡ record { slot = slot_for old (first_layout old.page t minimum) minimum; size = minimum; extra = extra_on_growth t minimum maximum; as_made = true; known = true } → IsMadeSlot (first_layout old.page t minimum) minimum m.slot → IsDesigned (mapped_design old.page t minimum maximum) (mapped_linear m)
-mapped_as_designed old t minimum maximum m is made =
-    let known : m.known ≡ true = ap (λ (x : Mapped). x.known) is in
-    let Cap : Bool → ℕ = λ b. if b then m.slot.static_size else 0 in
-    record {
-      capacity = ap Cap known ∙ ap (λ (l : Layout). l.capacity) made.layout;
-      moves = refl;
-      extra = ap (λ (x : Mapped). x.extra) is;
-      place = made.layout;
     }
 
 some_listed : (p : ℕ → Bool) (b : Bool) (plan : List ℕ) → false ≡ (b || not (list_any p plan)) → 0 < length plan
@@ -149,30 +121,6 @@ mapped_leaves l size (Err refused.PageFault) old new refusal = faulted_by l size
 mapped_leaves l size (Err (refused.Unsupported u)) old new refusal = refusal.1.1
 mapped_leaves l size (Err (refused.LimiterDenied m)) old new refusal = absurd refusal
 mapped_leaves l size (Err (refused.LimiterFault e)) old new refusal = absurd refusal
-
-pub mapped_same : {X : Type 0} (l : Layout) (size : ℕ) (r : Result X MemoryError) (old new : MakerTold) → MakingLeaves l size r old new → IsSameMaker old new
-mapped_same l size (Ok x) old new made = asked_same old new made.made.asked
-mapped_same l size (Err refused.Memory) old new refusal = asked_same old new refusal.asked
-mapped_same l size (Err refused.PageFault) old new refusal = asked_same old new refusal.asked
-mapped_same l size (Err (refused.Unsupported u)) old new refusal = let S : MakerTold → Type 0 = IsSameMaker old in subst S (sym refusal.1.1) (record { same = refl; rises = omega arith })
-mapped_same l size (Err (refused.LimiterDenied m)) old new refusal = absurd refusal
-mapped_same l size (Err (refused.LimiterFault e)) old new refusal = absurd refusal
-
-fits_none : (n : ℕ) (u : Unsupported) → n < 2 ^ 64 → (if nat_lt n (2 ^ 64) then None else Some AddressSpace) ≡ Some u → ⊥
-fits_none n u fits is = let t = lt-ltb n (2 ^ 64) fits in let none : None ≡ Some u = rw t at is in cc none
-
--- it is unsupported exactly where that is told
-pub mapped_unsupported : {X : Type 0} (page : ℕ) (t : MemoryTunables) (minimum : ℕ) (r : Result X MemoryError) (old new : MakerTold) → MakingLeaves (first_layout page t minimum) minimum r old new → (u : Unsupported) → (r ≡ Err (refused.Unsupported u)) ↔ (mapped_refusal page t minimum ≡ Some u)
-mapped_unsupported page t minimum (Ok x) old new made u = ((λ is. absurd (cc is)), (λ is. absurd (fits_none (layout_len (first_layout page t minimum)) u made.fits is)))
-mapped_unsupported page t minimum (Err refused.Memory) old new refusal u = ((λ is. absurd (cc is)), (λ is. absurd (fits_none (layout_len (first_layout page t minimum)) u refusal.fits is)))
-mapped_unsupported page t minimum (Err refused.PageFault) old new refusal u = ((λ is. absurd (cc is)), (λ is. absurd (fits_none (layout_len (first_layout page t minimum)) u refusal.fits is)))
-mapped_unsupported page t minimum (Err (refused.Unsupported v)) old new refusal u =
-    let n : ℕ = layout_len (first_layout page t minimum) in
-    let no : nat_lt n (2 ^ 64) ≡ false = grind (arith, nat_tests, refusal.1.0) in
-    let is : mapped_refusal page t minimum ≡ Some AddressSpace = rw no refl in
-    ((λ e. let same : v ≡ u = cc in is ∙ ap (λ (x : Unsupported). Some x) (sym refusal.0 ∙ same)), (λ e. let same : AddressSpace ≡ u = cc in ap (λ (x : Unsupported). Err (refused.Unsupported x)) (refusal.0 ∙ same)))
-mapped_unsupported page t minimum (Err (refused.LimiterDenied m)) old new refusal u = absurd refusal
-mapped_unsupported page t minimum (Err (refused.LimiterFault e)) old new refusal u = absurd refusal
 
 -- a memory in a list of bytes never calls the maker
 pub malloc_calls : (b : Bool) (failure : Option GrowError) (size : ℕ) (m : Malloc) (new : Linear) (told : MakerTold) → CallLeaves b failure size (malloc_linear m) new told told

@@ -1,10 +1,6 @@
 -- A memory that a creator makes: what it begins with, and what a refusal leaves of the maker.
-use Rattle.std.proofs.Common.{◌≡◌, ℕ, ◌+◌, ◌^◌, ◌<◌, ◌≤◌, sym, ap, ◌∙◌, subst, Option, Some, Result, Ok, Err}
-use Rattle.std.specs.Prelude.{◌↔◌, IfErr}
-use Rattle.pool_pages.specs.MakerTold.{MakerTold}
-use Rattle.pool_pages.specs.MemoryTypes.{page_size, minimum_byte_size}
-use Rattle.pool_pages.specs.declared.module_types.MemoryType.{MemoryType}
-use Rattle.pool_pages.specs.declared.unsupported.Unsupported.{Unsupported}
+use Rattle.std.proofs.Common.{◌≡◌, ℕ, ◌+◌, ◌^◌, ◌<◌, ◌≤◌, sym, ap, ◌∙◌, subst, Option, Some, Result, Ok, Err, ◌↔◌, IfErr}
+use Rattle.pool_memory.proofs.Imports.{MakerTold, page_size, minimum_byte_size, MemoryType, Unsupported}
 use Rattle.pool_memory.specs.Creators.{IsAsMade}
 use Rattle.pool_memory.specs.Linear.{Linear}
 use Rattle.pool_memory.specs.Making.{Granted}

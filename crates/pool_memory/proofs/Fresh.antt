@@ -1,25 +1,10 @@
 -- The slot in a region that is made for a memory.
-use Rattle.std.proofs.Common.{◌≡◌, ℕ, ◌+◌, ◌-◌, ◌/◌, ◌%◌, ◌^◌, ◌<◌, ◌≤◌, Bool, true, false, List, refl, sym, ap, ◌∙◌, subst, inl, inr, arith, slice_range, replicate, get_or, Option, Some, None}
-use Rattle.std.specs.Prelude.{IfSome, option_map, if◌then◌else◌}
-use Rattle.std.proofs.lemmas.Bool.{cases_lt}
-use Rattle.std.proofs.lemmas.List.{length-replicate, get_or-replicate, get_or_past}
-use Rattle.pool_pages.specs.Count.{Count, count, IsPageSize, rounded_up}
-use Rattle.pool_pages.specs.Contents.{Contents, CanReach}
-use Rattle.pool_pages.specs.MakerTold.{MakerTold, Planned, fresh, next_after, fails_making}
-use Rattle.pool_pages.specs.MakeFaults.{RaisesFaults, RaisesBehind}
-use Rattle.pool_pages.specs.declared.maker.MakeFault.{MakeFault}
+use Rattle.std.proofs.Common.{◌≡◌, ℕ, ◌+◌, ◌-◌, ◌/◌, ◌%◌, ◌^◌, ◌<◌, ◌≤◌, Bool, true, false, List, refl, sym, ap, ◌∙◌, subst, arith, slice_range, replicate, Option, Some, None, IfSome, option_map, if◌then◌else◌}
+use Rattle.pool_memory.proofs.Imports.{replicated, Count, count, IsPageSize, rounded_up, Contents, CanReach, MakerTold, Planned, fresh, next_after, fails_making, RaisesFaults, RaisesBehind, MakeFault, OnDemand, Told, Rose, page_from, Slot, SlotIdentity, IsSlot, IsClean, HasColour, OnlyExposed, identity, range-zeros, followed, rounded_up_more, whole_leaves, rounded_same}
 use Rattle.pool_pages.specs.declared.maker.MakeFault.TheVariants as making
-use Rattle.pool_pages.specs.declared.pages.RegionName.TheVariants.{OnDemand}
-use Rattle.pool_pages.specs.Told.{Told, Rose}
-use Rattle.pool_pages.proofs.PageNumbers.{page_from}
-use Rattle.pool_images.specs.Slots.{Slot, SlotIdentity, IsSlot, IsClean, HasColour, OnlyExposed, identity}
-use Rattle.pool_images.proofs.Marks.{range-zeros}
-use Rattle.pool_images.proofs.Ready.{followed}
-use Rattle.pool_images.proofs.Sizes.{rounded_up_more}
 use Rattle.pool_memory.specs.Layouts.{Layout, layout_len}
 use Rattle.pool_memory.specs.Mapped.{IsMadeSlot}
-use Rattle.pool_memory.specs.Moving.{region_for, slot_of_region, IsRegionMade, IsMadeRegion, IsRegionRefused}
-use Rattle.pool_images.proofs.PageSizes.{whole_leaves, rounded_same}
+use Rattle.pool_memory.specs.Moving.{region_for, slot_of_region, IsRegionMade, IsRegionRefused}
 use Rattle.pool_memory.proofs.Raised.{bytes_carried}
 
 -- what such a region tells, where it tells its pages
@@ -28,13 +13,6 @@ record TellsFresh (before size len page : ℕ) (c : Contents) : Type 0 where
   zeros : slice_range c.bytes before (before + size) ≡ replicate size 0
   reach : CanReach before 0 c
   has_colour : HasColour before size None c
-
-replicated : (n k : ℕ) → get_or (replicate {A = ℕ} n 0) k 0 ≡ 0
-replicated n k =
-    elim (cases_lt k n) [
-      | inl below ↦ get_or-replicate n k 0 0 below
-      | inr past ↦ get_or_past (replicate n 0) k 0 (omega (arith, length-replicate {A = ℕ} n 0))
-    ]
 
 tells_fresh : (b : Bool) (page before size len : ℕ) → before % page ≡ 0 → before + size ≤ len → IfSome (if b then Some (fresh page 0 len) else None) (TellsFresh before size len page)
 tells_fresh false page before size len whole inside = tt
@@ -112,16 +90,6 @@ open_room l region s size is made sized whole within =
     let static : s.static_size ≡ l.capacity = ap (λ (x : Slot). x.static_size) is in
     let up : rounded_up s.region.page size ≡ rounded_up l.page size = ap (λ (p : ℕ). rounded_up p size) page in
     omega (arith, up, most, same, static)
-
--- a maker that made a region of its next number
-pub made_as : (n : ℕ) (old new : MakerTold) → n ≡ old.next → new ≡ record old { next = next_after (OnDemand n) old.next; behind = new.behind; faults = new.faults } → new.faults ≡ old.faults → new.behind ≡ old.behind → fails_making (OnDemand n) old.listed ≡ false → IfSome old.plan (λ plan. fails_making (OnDemand n) plan ≡ false) → IsMadeRegion old new
-made_as n old new same asked faults behind listed planned = record {
-  asked = subst (λ (k : ℕ). new ≡ record old { next = next_after (OnDemand k) old.next; behind = new.behind; faults = new.faults }) same asked;
-  faults = faults;
-  behind = behind;
-  listed = subst (λ (k : ℕ). fails_making (OnDemand k) old.listed ≡ false) same listed;
-  planned = subst (λ (k : ℕ). IfSome old.plan (λ plan. fails_making (OnDemand k) plan ≡ false)) same planned;
-}
 
 listed_as : (o : Option (List Planned)) (n : ℕ) → IfSome o (λ plan. making.PageFault ≡ making.PageFault → fails_making (OnDemand n) plan ≡ true) → IfSome o (λ plan. fails_making (OnDemand n) plan ≡ true)
 listed_as None n told = tt

@@ -1,26 +1,13 @@
 -- Each way that a growth of a memory can go.
-use Rattle.std.proofs.Common.{◌≡◌, ◌≢◌, ℕ, Bool, true, false, refl, sym, ap, ◌∙◌, subst, arith, Option, Some, None, Result, Ok, Err}
-use Rattle.std.specs.Prelude.{◌==◌, not}
-use Rattle.std.proofs.lemmas.Bool.{eq-eqb}
-use Rattle.std.proofs.lemmas.Bool.Decides.{nat_tests}
-use Rattle.pool_pages.specs.MakerTold.{MakerTold}
-use Rattle.pool_pages.specs.MemoryTypes.{allow_growth_to}
-use Rattle.pool_limits.specs.Growth.{memory_answer, memory_failure}
-use Rattle.pool_limits.specs.LimiterTold.{LimiterTold, limiter_told, after_answer, after_report}
-use Rattle.pool_limits.specs.Exchanges.{GrowthQuestion, Exchange, may_grow, has_failed, Exchanged}
-use Rattle.pool_limits.specs.Growing.{Obstacles, GrowthGiven, growth_exchanges, AllowedMakes, IsRuled, result_by, answer_result, allowed_result, report_result, is_want_of_memory, report_seen}
-use Rattle.pool_limits.specs.declared.growing.Growable.TheVariants.{Memory}
-use Rattle.pool_limits.specs.declared.errors.LimiterError.{LimiterError}
-use Rattle.pool_limits.specs.declared.errors.GrowError.{GrowError}
+use Rattle.std.proofs.Common.{◌≡◌, ◌≢◌, ℕ, Bool, true, false, refl, sym, ap, ◌∙◌, subst, arith, Option, Some, None, Result, Ok, Err, ◌==◌, not}
+use Rattle.pool_memory.proofs.Imports.{eq-eqb, nat_tests, MakerTold, allow_growth_to, memory_answer, memory_failure, LimiterTold, after_answer, after_report, GrowthQuestion, Exchange, may_grow, has_failed, Exchanged, Obstacles, GrowthGiven, growth_exchanges, AllowedMakes, IsRuled, result_by, answer_result, allowed_result, report_result, is_want_of_memory, report_seen, Memory, LimiterError, GrowError, GrowFault, unasked, ruled_nothing, ruled_past_type, ruled_error, ruled_no, ruled_yes, allowed_grown, allowed_past, allowed_failed}
 use Rattle.pool_limits.specs.declared.errors.GrowError.TheVariants as failed
-use Rattle.pool_limits.specs.declared.errors.GrowFault.{GrowFault}
 use Rattle.pool_limits.specs.declared.errors.GrowFault.TheVariants as fault
-use Rattle.pool_limits.proofs.Ruled.{unasked, ruled_nothing, ruled_past_type, ruled_error, ruled_no, ruled_yes, allowed_grown, allowed_past, allowed_failed}
 use Rattle.pool_memory.specs.Linear.{Linear}
 use Rattle.pool_memory.specs.Moving.{MakerLeft}
 use Rattle.pool_memory.specs.Making.{maximum_asked}
 use Rattle.pool_memory.specs.Memories.{MemoryState}
-use Rattle.pool_memory.specs.Growing.{obstacles, growth_question, IsGrowth, GrowsAsking, GrowsMoving, IsAllowedGrowth, GrowthLeaves, GrowthLeavesMaker, AskedPages, GrowsTo, IsUngrown, grown_size, past_room, first_of}
+use Rattle.pool_memory.specs.Growing.{obstacles, growth_question, GrowsMoving, IsAllowedGrowth, GrowthLeaves, GrowthLeavesMaker, AskedPages, GrowsTo, IsUngrown, grown_size, past_room, first_of}
 
 seen : (pages : ℕ) (old : MemoryState) (a b : Bool) → (pages == 0) ≡ a → allow_growth_to old.ty (grown_size pages old) ≡ not b → not (not b) ≡ b → obstacles pages old ≡ record { nothing = a; past_type = b; past_room = past_room (grown_size pages old) old }
 seen pages old a b first second twice =
@@ -197,14 +184,3 @@ growth_first told leads pages x old new maker left before after r s is grows =
         grows.1.1,
       ),
     )
-
--- a growth where nobody is asked that could say no
-pub growth_alone : {R S X : Type 0} (told : R → LimiterTold) (leads : R → Exchange → R → Type 0) (other : S → LimiterTold) (ways : S → Exchange → S → Type 0) (pages : ℕ) (x : X) (old new : MemoryState) (maker left : Option MakerTold) (before after : S) (r : Result (Option X) GrowFault) → other before ≡ limiter_told told None → other after ≡ limiter_told told None
-    → GrowsMoving other ways pages x old new maker left (Some before) (Some after) r → GrowsMoving told leads pages x old new maker left None None r
-growth_alone told leads other ways pages x old new maker left before after r first second grows =
-    let P : LimiterTold → LimiterTold → Type 0 = λ t u. IsGrowth grows.0 pages x old new t u r in
-    (grows.0, (subst (λ (t : LimiterTold). P t (limiter_told told None)) first (subst (λ (u : LimiterTold). P (other before) u) second grows.1.0), (tt, grows.1.1.1)))
-
--- a growth, without the maker
-pub growth_asking : {R X : Type 0} (told : R → LimiterTold) (leads : R → Exchange → R → Type 0) (pages : ℕ) (x : X) (old new : MemoryState) (maker left : Option MakerTold) (before after : Option R) (r : Result (Option X) GrowFault) → GrowsMoving told leads pages x old new maker left before after r → GrowsAsking told leads pages x old new before after r
-growth_asking told leads pages x old new maker left before after r grows = (grows.0, (grows.1.0, grows.1.1.0))

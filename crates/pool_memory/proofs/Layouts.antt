@@ -1,10 +1,7 @@
 -- The lengths of regions that addresses don't reach.
 use Rattle.std.proofs.Common.{◌≡◌, ℕ, ◌+◌, ◌-◌, ◌^◌, ◌<◌, ◌≤◌, subst, arith}
-use Rattle.pool_pages.specs.Count.{IsPageSize, rounded_up}
-use Rattle.pool_pages.specs.MemoryTypes.{guard_size}
-use Rattle.pool_pages.specs.declared.module_types.MemoryTunables.{MemoryTunables}
+use Rattle.pool_memory.proofs.Imports.{IsPageSize, rounded_up, guard_size, MemoryTunables, rounded_past}
 use Rattle.pool_memory.specs.Layouts.{Layout, layout_len, first_room, first_layout, moved_layout}
-use Rattle.pool_images.proofs.PageSizes.{rounded_past}
 
 -- a size that can't be rounded up
 pub size_past : (l : Layout) (page size extra : ℕ) → page ≡ l.page → IsPageSize page → (size + page - 1 < 2 ^ 64 → ⊥) → layout_len (moved_layout size extra l) < 2 ^ 64 → ⊥

@@ -5,6 +5,7 @@ pub mod Creations
 pub mod Dynamics
 pub mod Fresh
 pub mod Growths
+mod Imports
 pub mod Layouts
 pub mod Makings
 pub mod Mallocs

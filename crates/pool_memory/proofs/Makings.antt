@@ -1,15 +1,6 @@
 -- How a memory is made: the answer that a refusal tells, the sizes of a type, and what a memory begins with.
-use Rattle.std.proofs.Common.{◌≡◌, ℕ, ◌+◌, ◌-◌, ◌*◌, ◌^◌, ◌<◌, ◌≤◌, ◌%◌, Bool, true, false, refl, sym, ap, ◌∙◌, inl, inr, arith, nat_lt, Option, Some, None, Result, Ok, Err}
-use Rattle.std.specs.Prelude.{IfSome, if◌then◌else◌}
-use Rattle.std.proofs.Math.Nat.{mul-le-mul_right, mul-mod_left}
-use Rattle.std.proofs.lemmas.Nat.{pow-add}
-use Rattle.std.proofs.lemmas.Bool.{cases_lt, lt-ltb}
-use Rattle.pool_pages.proofs.Multiples.{page_below}
-use Rattle.pool_pages.specs.MemoryTypes.{page_size, minimum_byte_size, maximum_byte_size, greatest_size, index_bound, allow_growth_to, refused_limits, above}
-use Rattle.pool_pages.specs.declared.module_types.MemoryType.{MemoryType}
-use Rattle.pool_pages.specs.declared.unsupported.Unsupported.{Unsupported}
-use Rattle.pool_pages.specs.declared.unsupported.Unsupported.TheVariants.{MinimumExceedsMaximum, MemoryMinimum, AddressSpace}
-use Rattle.pool_limits.specs.declared.errors.LimiterError.{LimiterError}
+use Rattle.std.proofs.Common.{◌≡◌, ℕ, ◌+◌, ◌-◌, ◌*◌, ◌^◌, ◌<◌, ◌≤◌, ◌%◌, Bool, true, false, refl, sym, ap, ◌∙◌, inl, inr, arith, nat_lt, Option, Some, None, Result, Ok, Err, IfSome, if◌then◌else◌}
+use Rattle.pool_memory.proofs.Imports.{mul-le-mul_right, mul-mod_left, pow-add, cases_lt, lt-ltb, page_below, page_size, minimum_byte_size, maximum_byte_size, greatest_size, index_bound, allow_growth_to, refused_limits, above, MemoryType, Unsupported, MinimumExceedsMaximum, MemoryMinimum, AddressSpace, LimiterError}
 use Rattle.pool_memory.specs.Making.{maximum_asked, limits_answer, limiter_answer}
 use Rattle.pool_memory.specs.declared.memory_error.MemoryError.TheVariants as refused
 

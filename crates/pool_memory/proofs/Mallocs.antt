@@ -1,53 +1,11 @@
 -- A memory in a list of bytes, as it is made, written and grown.
-use Rattle.std.proofs.Common.{◌≡◌, ℕ, ◌+◌, ◌-◌, ◌*◌, ◌/◌, ◌%◌, ◌^◌, ◌<◌, ◌≤◌, ◌++◌, List, length, take, min, max, refl, sym, ap, ◌∙◌, inl, inr, arith, slice_range, replicate, Some}
-use Rattle.std.proofs.Math.Nat.{mul-mod_left, div-mul-le_self, div-lt_iff_lt-mul}
-use Rattle.std.proofs.lemmas.Bool.{cases_lt}
-use Rattle.std.proofs.lemmas.List.{length-replicate, replicate-append-replicate, take_all, take-append-le}
-use Rattle.std.proofs.Math.Seq.{take-add}
-use Rattle.pool_pages.specs.Contents.{put}
-use Rattle.pool_pages.specs.Count.{rounded_up}
-use Rattle.pool_pages.specs.Dense.{with_zeros}
-use Rattle.pool_pages.specs.MemoryTypes.{reservation_for_growth}
-use Rattle.pool_pages.specs.declared.module_types.MemoryTunables.{MemoryTunables}
-use Rattle.pool_pages.proofs.Multiples.{whole}
-use Rattle.pool_pages.proofs.Prefixes.{length-with_zeros, range-with_zeros}
-use Rattle.pool_pages.proofs.Puts.{length-put, range-put_above, range_range}
-use Rattle.pool_images.proofs.Begun.{rounded_up_above}
-use Rattle.pool_images.proofs.Marks.{range-zeros}
-use Rattle.pool_images.proofs.Sizes.{rounded_up_more}
+use Rattle.std.proofs.Common.{◌≡◌, ℕ, ◌+◌, ◌-◌, ◌*◌, ◌/◌, ◌%◌, ◌^◌, ◌<◌, ◌≤◌, ◌++◌, List, length, take, max, refl, sym, ap, ◌∙◌, inl, inr, arith, slice_range, replicate, Some}
+use Rattle.pool_memory.proofs.Imports.{mul-mod_left, div-mul-le_self, div-lt_iff_lt-mul, cases_lt, length-replicate, replicate-append-replicate, take-append-le, take-add, zeros_within, put, rounded_up, with_zeros, whole, length-with_zeros, range-with_zeros, length-put, range-put_above, range_range, rounded_up_above}
 use Rattle.pool_memory.specs.Growing.{GrowsTo}
-use Rattle.pool_memory.specs.Linear.{IsLinear}
-use Rattle.pool_memory.specs.Malloc.{Malloc, IsMalloc, malloc_linear, malloc_capacity, malloc_made, malloc_grown}
-use Rattle.pool_memory.proofs.Bytes.{zeros_part}
+use Rattle.pool_memory.specs.Malloc.{Malloc, IsMalloc, malloc_linear, malloc_grown}
 
 whole16 : (n : ℕ) → rounded_up 16 n % 16 ≡ 0
 whole16 n = mul-mod_left ((n + 16 - 1) / 16) 16
-
--- whole units below the end of the addresses leave room for one more
-pub fits16 : (n : ℕ) → rounded_up 16 n < 2 ^ 64 → n + 15 < 2 ^ 64
-fits16 n below =
-    let most : n ≤ rounded_up 16 n = rounded_up_above 16 n (omega arith) in
-    let q : ℕ = (n + 16 - 1) / 16 in
-    let few : q < 2 ^ 60 =
-    elim (cases_lt q (2 ^ 60)) [
-      | inl few ↦ few
-      | inr many ↦ absurd (let over : 2 ^ 60 * 16 ≤ q * 16 = omega (arith, many) in omega (arith, below, over))
-    ] in
-    omega (arith, most, few)
-
-zeros_within : (xs : List ℕ) (a b i j : ℕ) → b ≤ length xs → a ≤ i → i ≤ j → j ≤ b → slice_range xs a b ≡ replicate (b - a) 0 → slice_range xs i j ≡ replicate (j - i) 0
-zeros_within xs a b i j fits from order to zeros =
-    let first : a + (i - a) ≡ i = omega arith in
-    let last : a + (j - a) ≡ j = omega arith in
-    let start : a + 0 ≡ a = omega arith in
-    let end : a + (b - a) ≡ b = omega arith in
-    let all : b - a - 0 ≡ b - a = omega arith in
-    let some : j - a - (i - a) ≡ j - i = omega arith in
-    ap (λ (n : ℕ). slice_range xs n j) (sym first)
-    ∙ ap (λ (n : ℕ). slice_range xs (a + (i - a)) n) (sym last)
-    ∙ zeros_part xs a 0 (b - a) (i - a) (j - a) (omega arith) (omega arith) (omega arith) (omega arith)
-    (ap (λ (n : ℕ). slice_range xs n (a + (b - a))) start ∙ ap (λ (n : ℕ). slice_range xs a n) end ∙ zeros ∙ ap (λ (n : ℕ). replicate {A = ℕ} n 0) (sym all))
-    ∙ ap (λ (n : ℕ). replicate {A = ℕ} n 0) some
 
 -- a list with zeros behind it up to a length that may be shorter
 same_zeros : (r : ℕ) (b : List ℕ) → with_zeros (max r (length b)) b ≡ with_zeros r b
@@ -69,34 +27,6 @@ grown_zeros b a r within zeros =
     ∙ ap (with_zeros (m - a)) zeros
     ∙ replicate-append-replicate (length b - a) (m - a - length (replicate {A = ℕ} (length b - a) 0)) 0
     ∙ ap (λ (n : ℕ). replicate {A = ℕ} n 0) sum
-
--- it is one as it is made
-pub made_is_malloc : (t : MemoryTunables) (minimum : ℕ) → malloc_capacity t minimum < 2 ^ 64 → IsMalloc (malloc_made t minimum)
-made_is_malloc t minimum below =
-    let r : ℕ = rounded_up 16 minimum in
-    let long : length (replicate {A = ℕ} r 0) ≡ r = length-replicate r 0 in
-    let more : r ≤ malloc_capacity t minimum = rounded_up_more 16 minimum (minimum + reservation_for_growth t) (omega arith) (omega arith) in
-    let least : minimum ≤ r = rounded_up_above 16 minimum (omega arith) in
-    record {
-      whole = ap (λ (n : ℕ). n % 16) long ∙ whole16 minimum;
-      reached = omega (arith, long, least);
-      room = omega (arith, long, more);
-      units = whole16 (minimum + reservation_for_growth t);
-      bounded = below;
-      zeros = range-zeros r minimum (length (replicate {A = ℕ} r 0)) (omega (arith, long));
-    }
-
--- it is a linear memory
-pub malloc_is_linear : (m : Malloc) → IsMalloc m → IsLinear (malloc_linear m)
-malloc_is_linear m is =
-    let n : ℕ = min (length m.bytes) m.capacity in
-    let all : n ≡ length m.bytes = omega (arith, is.room) in
-    let whole : take n m.bytes ≡ m.bytes = take_all n m.bytes (omega arith) in
-    record {
-      within = omega (arith, is.reached, is.room);
-      reached = is.reached;
-      zeros = ap (λ (l : List ℕ). slice_range l m.size n) whole ∙ ap (λ (k : ℕ). slice_range m.bytes m.size k) all ∙ is.zeros ∙ ap (λ (k : ℕ). replicate {A = ℕ} (k - m.size) 0) (sym all);
-    }
 
 range_taken : (xs : List ℕ) (n i j : ℕ) → i ≤ j → j ≤ n → slice_range (take n xs) i j ≡ slice_range xs i j
 range_taken xs n i j order within =

@@ -1,20 +1,9 @@
 -- A memory in a region of its own, as it is read, written and grown in its place.
-use Rattle.std.proofs.Common.{◌≡◌, ℕ, ◌+◌, ◌-◌, ◌*◌, ◌/◌, ◌%◌, ◌<◌, ◌≤◌, ◌++◌, Bool, true, false, List, [], ◌∷◌, length, take, drop, min, refl, sym, ap, ◌∙◌, subst, arith, slice_range, replicate, Option, Some, None}
-use Rattle.std.specs.Prelude.{IfSome, option_map, if◌then◌else◌, nat_lt, ◌==◌, ◌||◌, not}
-use Rattle.std.specs.List.{list_any}
-use Rattle.std.proofs.lemmas.Bool.Decides.{nat_tests}
-use Rattle.pool_limits.specs.declared.errors.GrowError.TheVariants as failed
-use Rattle.std.proofs.Math.Nat.{div-eq_of_lt}
-use Rattle.std.proofs.lemmas.List.{take-append-drop, append-nil}
-use Rattle.pool_pages.specs.Count.{rounded_up}
-use Rattle.pool_pages.specs.Contents.{Contents, put, put_all, written}
-use Rattle.pool_pages.specs.Told.{risen}
-use Rattle.pool_images.specs.Slots.{Slot, SlotIdentity, IsSlot, IsReady, CallFaulted, OnlyExposed, identity, limited, raised, raising, written_at}
-use Rattle.pool_images.proofs.Kept.{kept_self}
-use Rattle.pool_images.proofs.Ready.{followed}
-use Rattle.pool_memory.specs.Growing.{GrowsTo, IsUngrown, IsCallPlanned}
+use Rattle.std.proofs.Common.{◌≡◌, ℕ, ◌+◌, ◌-◌, ◌*◌, ◌%◌, ◌<◌, ◌≤◌, ◌++◌, Bool, true, false, List, [], length, take, drop, min, refl, sym, ap, ◌∙◌, subst, arith, slice_range, replicate, Option, Some, None, IfSome, option_map, if◌then◌else◌, nat_lt, ◌==◌, ◌||◌, not}
+use Rattle.pool_memory.proofs.Imports.{list_any, nat_tests, div-eq_of_lt, append-nil, rounded_up, Contents, written, risen, Slot, SlotIdentity, IsSlot, IsReady, OnlyExposed, identity, limited, raised, written_at, kept_self, followed}
+use Rattle.pool_memory.specs.Growing.{GrowsTo, IsCallPlanned}
 use Rattle.pool_memory.specs.Layouts.{Layout}
-use Rattle.pool_memory.specs.Linear.{Linear, IsLinear, in_slot, linear_bytes, linear_written, ready}
+use Rattle.pool_memory.specs.Linear.{Linear, IsLinear, in_slot, linear_bytes, ready}
 use Rattle.pool_memory.specs.Mapped.{Mapped, IsMapped, KeepsLayout, used, held_in, mapped_linear, mapped_capacity}
 use Rattle.pool_memory.specs.Static.{IsStatic, CanHold}
 use Rattle.pool_memory.proofs.Copies.{tells_mapped}
@@ -67,38 +56,6 @@ known_by false n empty some = absurd (let none : n ≡ 0 = empty refl in omega a
 pub some_known : (m : Mapped) (n : ℕ) → IsMapped m → n ≤ m.size → 0 < n → m.known ≡ true
 some_known m n is within some = known_by m.known m.size is.empty (omega arith)
 
--- what is read of nothing
-pub read_nothing : (o : Option (List ℕ)) (out : List ℕ) (at n : ℕ) → length out ≡ n → n ≡ 0 → IfSome o (λ bytes. out ≡ slice_range bytes at (at + n))
-read_nothing None out at n long none = tt
-read_nothing (Some bytes) [] at n long none =
-    let less : at + n - at ≡ 0 = omega arith in
-    sym (ap (λ (k : ℕ). take k (drop at bytes)) less)
-read_nothing (Some bytes) (x ∷ xs) at n long none = absurd (omega (arith, long, none))
-
-put_nothing : {X : Type 0} (i : ℕ) (xs : List X) → put i [] xs ≡ xs
-put_nothing i xs =
-    let same : i + 0 ≡ i = omega arith in
-    ap (λ (k : ℕ). take i xs ++ drop k xs) same ∙ take-append-drop i xs
-
-written_nothing : (i : ℕ) (c : Contents) → written i [] c ≡ c
-written_nothing i c = ap (λ (b : List ℕ). record c { bytes = b; dirty = put_all (i / c.page) 0 true c.dirty }) (put_nothing i c.bytes) ∙ ap (λ (d : List Bool). record c { dirty = d }) (put_nothing (i / c.page) c.dirty)
-
-told_nothing : (i : ℕ) (o : Option Contents) → option_map (written i []) o ≡ o
-told_nothing i None = refl
-told_nothing i (Some c) = ap (λ (x : Contents). Some x) (written_nothing i c)
-
--- nothing written leaves it
-pub wrote_nothing : (m : Mapped) (at : ℕ) (new : List ℕ) → new ≡ [] → mapped_linear m ≡ linear_written at new (mapped_linear m)
-wrote_nothing m at new none =
-    let P : List ℕ → Type 0 = λ l. mapped_linear m ≡ linear_written at l (mapped_linear m) in
-    let same : (used m.slot).region.contents ≡ option_map (written (m.slot.base.bytes + at) []) (used m.slot).region.contents = sym (told_nothing (m.slot.base.bytes + at) m.slot.region.contents) in
-    let Lin : Option Contents → Linear = λ o. record (mapped_linear m) { storage = in_slot (record (used m.slot) { region = record m.slot.region { contents = o } }) } in
-    subst P (sym none) (ap Lin same)
-
-pub empty_list : (l : List ℕ) → length l ≡ 0 → l ≡ []
-empty_list [] none = refl
-empty_list (x ∷ xs) none = absurd (omega (arith, none))
-
 -- it is one still where bytes of it were written
 pub written_is_mapped : (m : Mapped) (at : ℕ) (new : List ℕ) → IsSlot m.slot → IsMapped m → m.known ≡ true → at + length new ≤ m.size → IfSome (written_at at new m.slot).region.contents (IsReady (written_at at new m.slot)) → IsMapped (record m { slot = written_at at new m.slot; as_made = false })
 written_is_mapped m at new fits is known below ready =
@@ -130,10 +87,6 @@ used_if false n s = refl
 
 used_limited : (n : ℕ) (s : Slot) → used (limited n s) ≡ limited n (used s)
 used_limited n s = used_if (nat_lt s.accessible.bytes (rounded_up s.region.page n)) (rounded_up s.region.page n) s
-
-static_if : (b : Bool) (n : ℕ) (s : Slot) → (if b then raised n s else s).static_size ≡ s.static_size
-static_if true n s = refl
-static_if false n s = refl
 
 -- the condition of a growth in its place
 pub mapped_room : (m : Mapped) (n : ℕ) → IsSlot m.slot → IsMapped m → m.known ≡ true → n ≤ m.slot.static_size → rounded_up m.slot.region.page n ≤ m.slot.static_size
@@ -201,30 +154,6 @@ mapped_grows m n t fits is known kept more within is_limited planned =
       place = refl;
       moved = λ past. absurd (let room : m.slot.static_size < n = subst (λ (b : Bool). Cap b m.slot.static_size < n) known past in omega arith);
       in_place = λ _. ap (λ (c : ℕ). Lin c (used t)) (ap (Cap m.known) static) ∙ ap (Lin (Cap m.known m.slot.static_size)) same;
-      planned = λ _. planned;
-    }
-
-seen_by : (f : List ℕ → List ℕ) (old new : Option Contents) → option_map (λ c. c.bytes) new ≡ option_map (λ c. c.bytes) old → option_map (λ c. f c.bytes) new ≡ option_map (λ c. f c.bytes) old
-seen_by f None None same = refl
-seen_by f None (Some d) same = absurd cc
-seen_by f (Some c) None same = absurd cc
-seen_by f (Some c) (Some d) same = let e : d.bytes ≡ c.bytes = cc in ap (λ (b : List ℕ). Some (f b)) e
-
--- it couldn't, since the call on its region failed
-pub mapped_fails : (m : Mapped) (n : ℕ) (t : Slot) → m.known ≡ true → OnlyExposed m.slot t → n ≤ m.slot.static_size → CallFaulted (raising (rounded_up m.slot.region.page n) m.slot) m.slot t → IsCallPlanned false n (in_slot m.slot) → IsUngrown failed.PageFault n (mapped_linear m) (mapped_linear (record m { slot = t }))
-mapped_fails m n t known kept within faulted planned =
-    let static : t.static_size ≡ m.slot.static_size = ap (λ (i : SlotIdentity). i.static_size) kept.same in
-    let base : t.base.bytes ≡ m.slot.base.bytes = ap (λ (i : SlotIdentity). i.base.bytes) kept.same in
-    let Cap : Bool → ℕ → ℕ = λ b c. if b then c else 0 in
-    record {
-      failure = tt;
-      same_size = refl;
-      capacity = ap (Cap m.known) static;
-      moves = refl;
-      extra = refl;
-      bytes = ap (λ (b : ℕ). option_map (λ c. slice_range c.bytes b (b + m.size)) t.region.contents) base ∙ seen_by (λ l. slice_range l m.slot.base.bytes (m.slot.base.bytes + m.size)) m.slot.region.contents t.region.contents kept.bytes;
-      stays = λ past. absurd (let room : m.slot.static_size < n = subst (λ (b : Bool). Cap b m.slot.static_size < n) known past in omega arith);
-      in_place = λ _. (refl, record { region = faulted.region; same = ap used faulted.same });
       planned = λ _. planned;
     }
 

@@ -1,89 +1,21 @@
 -- A memory that moves to another region.
-use Rattle.std.proofs.Common.{◌≡◌, ℕ, ◌+◌, ◌-◌, ◌%◌, ◌<◌, ◌≤◌, ◌++◌, Bool, true, false, List, length, refl, sym, ap, ◌∙◌, subst, arith, slice_range, replicate, nat_lt, Option, Some, None}
-use Rattle.std.specs.Prelude.{IfSome, option_map, if◌then◌else◌}
-use Rattle.std.proofs.lemmas.Bool.{lt-ltb}
-use Rattle.std.proofs.lemmas.Bool.Decides.{nat_tests}
-use Rattle.pool_pages.proofs.PageRuns.{range_join}
-use Rattle.pool_pages.proofs.Puts.{length-put, range-put, range-put_above}
-use Rattle.pool_images.proofs.Ready.{followed}
+use Rattle.std.proofs.Common.{◌≡◌, ℕ, ◌+◌, ◌-◌, ◌%◌, ◌≤◌, ◌++◌, true, false, List, length, refl, sym, ap, ◌∙◌, subst, arith, slice_range, replicate, Option, Some, None, IfSome, option_map}
+use Rattle.pool_memory.proofs.Imports.{range_join, length-put, range-put, range-put_above, followed, rounded_same, rounded_up, Contents, put, Slot, IsSlot, IsSound, size_of}
 use Rattle.pool_memory.proofs.Bytes.{zeros_part}
 use Rattle.pool_memory.proofs.Copies.{none_copied}
 use Rattle.pool_memory.proofs.Mapped.{used_ready}
-use Rattle.pool_images.proofs.PageSizes.{rounded_same}
 use Rattle.pool_memory.proofs.Statics.{static_inside}
-use Rattle.pool_pages.specs.Count.{rounded_up}
-use Rattle.pool_pages.specs.Contents.{Contents, put}
-use Rattle.pool_pages.specs.MakerTold.{MakerTold}
-use Rattle.pool_images.specs.Slots.{Slot, IsSlot, IsSound, size_of}
-use Rattle.pool_limits.specs.declared.errors.GrowError.{GrowError}
 use Rattle.pool_memory.specs.Copying.{IsCopied}
-use Rattle.pool_memory.specs.Growing.{GrowsTo, IsUngrown, IsGrowthFailure}
-use Rattle.pool_memory.specs.Layouts.{Layout, layout_len, layout_of, moved_layout}
-use Rattle.pool_memory.specs.Linear.{Linear, linear_bytes}
-use Rattle.pool_memory.specs.Mapped.{Mapped, IsMapped, KeepsLayout, IsMadeSlot, HasMoved, used, mapped_linear, mapped_capacity}
-use Rattle.pool_memory.specs.Moving.{CallLeaves, PlaceLeaves, MakerLeft}
+use Rattle.pool_memory.specs.Layouts.{Layout, layout_len}
+use Rattle.pool_memory.specs.Linear.{linear_bytes}
+use Rattle.pool_memory.specs.Mapped.{Mapped, IsMapped, KeepsLayout, IsMadeSlot, HasMoved, used, mapped_linear}
 use Rattle.pool_memory.specs.Static.{IsStatic}
-
-room_false : (a b : ℕ) → b ≤ a → nat_lt a b ≡ false
-room_false a b within = grind (arith, nat_tests)
 
 -- all bytes of the slot are there
 pub all_there : (s : Slot) → IsSlot s → IfSome s.region.contents (λ c. s.base.bytes + s.static_size ≤ length c.bytes)
 all_there s fits =
     followed (IsSound s.region.page s.region.len s.base.bytes (size_of s)) (λ c. s.base.bytes + s.static_size ≤ length c.bytes) s.region.contents
     (λ c sound. omega (arith, sound.shaped.bytes, static_inside s fits)) fits.told
-
--- the layout that a memory keeps is that of its slot
-pub layout_kept : (l : Layout) (m : Mapped) → KeepsLayout l m → l ≡ layout_of m.slot
-layout_kept l m keeps =
-    let guard : l.guard ≡ m.slot.region.len - m.slot.static_size - m.slot.base.bytes = omega (arith, keeps.len, keeps.before, keeps.capacity) in
-    ap (λ (n : ℕ). record l { page = n }) keeps.page
-    ∙ ap (λ (n : ℕ). record l { page = m.slot.region.page; before = n }) keeps.before
-    ∙ ap (λ (n : ℕ). record l { page = m.slot.region.page; before = m.slot.base.bytes; capacity = n }) keeps.capacity
-    ∙ ap (λ (n : ℕ). record (layout_of m.slot) { guard = n }) guard
-
--- it is called where the memory is past its capacity
-pub called_for : (failure : Option GrowError) (size : ℕ) (old new : Linear) (before after : MakerTold) → old.capacity < size → PlaceLeaves failure size old.extra old.storage new.storage before after → MakerLeft failure size old new (Some before) (Some after)
-called_for failure size old new before after past leaves =
-    subst (λ (b : Bool). CallLeaves b failure size old new before after) (sym (lt-ltb old.capacity size past)) leaves
-
--- it isn't called where the memory has room
-pub not_called : (failure : Option GrowError) (size : ℕ) (old new : Linear) (told : MakerTold) → size ≤ old.capacity → MakerLeft failure size old new (Some told) (Some told)
-not_called failure size old new told within =
-    let no : nat_lt old.capacity size ≡ false = room_false old.capacity size within in
-    subst (λ (b : Bool). CallLeaves b failure size old new told told) (sym no) refl
-
--- the memory moved, to a slot that was made for it
-pub moved_grows : (l : Layout) (m n : Mapped) (size : ℕ) (s : Slot) → KeepsLayout l m → mapped_capacity m < size → IsMadeSlot (moved_layout size m.extra l) size s → HasMoved size s m n → GrowsTo size (mapped_linear m) (mapped_linear n)
-moved_grows l m n size s keeps past made moved =
-    let static : n.slot.static_size ≡ s.static_size = ap (λ (x : Slot). x.static_size) moved.place.same in
-    let room : s.static_size ≡ (moved_layout size m.extra l).capacity = ap (λ (x : Layout). x.capacity) made.layout in
-    let same : (moved_layout size m.extra l).capacity ≡ (moved_layout size m.extra (layout_of m.slot)).capacity = ap (λ (x : Layout). (moved_layout size m.extra x).capacity) (layout_kept l m keeps) in
-    let Cap : Bool → ℕ = λ b. if b then n.slot.static_size else 0 in
-    record {
-      same_size = moved.sized;
-      bytes = λ within. absurd (omega (arith, past, within));
-      moves = refl;
-      extra = moved.extra;
-      place = refl;
-      moved = λ _. record { bytes = moved.bytes; told = tt; room = ap Cap moved.known ∙ static ∙ room ∙ same };
-      in_place = λ within. absurd (omega (arith, past, within));
-      planned = λ within. absurd (omega (arith, past, within));
-    }
-
--- it couldn't move, and stays as it was
-pub stayed : (e : GrowError) (size : ℕ) (m : Mapped) → mapped_capacity m < size → IsGrowthFailure e → IsUngrown e size (mapped_linear m) (mapped_linear m)
-stayed e size m past failure = record {
-  failure = failure;
-  same_size = refl;
-  capacity = refl;
-  moves = refl;
-  extra = refl;
-  bytes = refl;
-  stays = λ _. refl;
-  in_place = λ within. absurd (omega (arith, past, within));
-  planned = λ within. absurd (omega (arith, past, within));
-}
 
 -- what is behind the bytes that were copied
 part_behind : (base len size all : ℕ) (b : List ℕ) (new old : Option Contents) → length b ≡ len → len ≤ size → size ≤ all → IfSome old (λ c. base + all ≤ length c.bytes)

@@ -1,12 +1,6 @@
 -- A memory that stays in its slot, where more of the slot is exposed.
-use Rattle.std.proofs.Common.{◌≡◌, ℕ, ◌+◌, ◌-◌, ◌≤◌, ◌++◌, true, List, length, refl, sym, ap, ◌∙◌, subst, arith, slice_range, replicate, Option, Some, None}
-use Rattle.std.specs.Prelude.{IfSome, option_map}
-use Rattle.pool_pages.specs.Count.{rounded_up}
-use Rattle.pool_pages.specs.Contents.{Contents}
-use Rattle.pool_pages.proofs.PageRuns.{range_join}
-use Rattle.pool_images.specs.Slots.{Slot, SlotIdentity, IsSlot, IsSound, OnlyExposed, size_of, limited}
-use Rattle.pool_images.proofs.Ready.{followed, paired}
-use Rattle.pool_images.proofs.Sizes.{rounded_up_more}
+use Rattle.std.proofs.Common.{◌≡◌, ℕ, ◌+◌, ◌-◌, ◌≤◌, ◌++◌, true, List, length, refl, sym, ap, ◌∙◌, subst, arith, slice_range, replicate, Option, Some, None, IfSome, option_map}
+use Rattle.pool_memory.proofs.Imports.{rounded_up, Contents, range_join, Slot, SlotIdentity, IsSlot, IsSound, OnlyExposed, size_of, limited, followed, paired, rounded_up_more}
 use Rattle.pool_memory.specs.Growing.{GrowsTo, IsCallPlanned}
 use Rattle.pool_memory.specs.Linear.{in_slot}
 use Rattle.pool_memory.specs.Static.{Static, IsStatic, linear_of}

@@ -1,17 +1,10 @@
 -- A memory in a region of its own that begins with an image.
-use Rattle.std.proofs.Common.{◌≡◌, ℕ, ◌+◌, ◌≤◌, Bool, true, false, length, sym, ap, ◌∙◌, arith, Some, None}
-use Rattle.std.specs.Prelude.{IfSome, is_some, if◌then◌else◌}
-use Rattle.pool_pages.specs.Count.{rounded_up}
-use Rattle.pool_pages.specs.declared.module_types.MemoryTunables.{MemoryTunables}
-use Rattle.pool_pages.specs.declared.module_types.MemoryType.{MemoryType}
-use Rattle.pool_images.specs.Images.{Image}
-use Rattle.pool_images.specs.Orders.{Follows, replacing}
-use Rattle.pool_images.specs.Slots.{Slot, SlotIdentity, IsSlot, IsBegun, IsSized, HasImage, name_of, hides}
-use Rattle.pool_images.proofs.Ready.{followed}
+use Rattle.std.proofs.Common.{◌≡◌, ℕ, ◌+◌, ◌≤◌, Bool, true, false, length, ap, arith, Some, is_some, if◌then◌else◌}
+use Rattle.pool_memory.proofs.Imports.{Image, Slot, SlotIdentity, IsSlot, IsBegun, IsSized, name_of}
 use Rattle.pool_memory.specs.Linear.{Linear, in_slot}
 use Rattle.pool_memory.specs.Mapped.{Mapped, KeepsLayout, IsMapped, used, mapped_linear}
 use Rattle.pool_memory.specs.Layouts.{Layout}
-use Rattle.pool_memory.specs.Starting.{HasStarted, PlaceStarts}
+use Rattle.pool_memory.specs.Starting.{HasStarted}
 use Rattle.pool_memory.proofs.Begun.{instantiated_holds, begun_reads}
 use Rattle.pool_memory.proofs.Mapped.{started_keeps}
 
@@ -38,9 +31,3 @@ begun_started m t image hide is made fits begun sized named ends =
       mapped = ap is_some named;
       bytes = begun_reads (record { slot = t; size = m.size; capacity = 0 }) (Some image) fits (omega (arith, static, inside)) ends begun;
     }
-
--- its calls, where it is told what its slot holds
-pub first_calls : (m : Mapped) (t : Slot) (image : Image) (ty : MemoryType) (tunables : MemoryTunables) (size : ℕ) (ok : Bool) → m.slot.image ≡ None → IfSome m.slot.region.contents (λ c. (HasImage m.slot (Some image) c → ⊥) → Follows (replacing (rounded_up m.slot.region.page size) (hides ty tunables m.slot.region.page) (Some image) m.slot) ok m.slot.region t.region) → PlaceStarts ty tunables image size ok (in_slot (used m.slot)) (in_slot (used t))
-first_calls m t image ty tunables size ok none told =
-    let F : Type 0 = Follows (replacing (rounded_up m.slot.region.page size) (hides ty tunables m.slot.region.page) (Some image) m.slot) ok m.slot.region t.region in
-    followed (λ c. (HasImage m.slot (Some image) c → ⊥) → F) (λ c. F) m.slot.region.contents (λ c follows. follows (λ has. let other : None ≡ Some (name_of image) = sym none ∙ has.0 in cc other)) told

@@ -1,12 +1,6 @@
 -- What is kept of a memory that stays in its slot.
-use Rattle.std.proofs.Common.{◌≡◌, ℕ, ◌+◌, ◌-◌, ◌<◌, ◌≤◌, List, length, refl, sym, ap, ◌∙◌, arith, slice_range, replicate, Option, Some, None}
-use Rattle.std.specs.Prelude.{IfSome, option_map}
-use Rattle.pool_pages.specs.Count.{rounded_up}
-use Rattle.pool_pages.specs.Contents.{Contents, written}
-use Rattle.pool_pages.proofs.Puts.{range-put_above, range_range}
-use Rattle.pool_images.specs.Slots.{Slot, IsSlot, IsSound, IsReady, size_of, written_at}
-use Rattle.pool_images.proofs.Begun.{rounded_up_above}
-use Rattle.pool_images.proofs.Sizes.{rounded_up_more}
+use Rattle.std.proofs.Common.{◌≡◌, ℕ, ◌+◌, ◌-◌, ◌<◌, ◌≤◌, List, length, refl, sym, ap, ◌∙◌, arith, slice_range, replicate, Option, Some, None, IfSome, option_map}
+use Rattle.pool_memory.proofs.Imports.{rounded_up, Contents, written, range-put_above, range_range, Slot, IsSlot, IsSound, IsReady, size_of, written_at, rounded_up_above, rounded_up_more}
 use Rattle.pool_memory.specs.Linear.{IsLinear, linear_bytes, ready}
 use Rattle.pool_memory.specs.Static.{Static, IsStatic, CanHold, linear_of, static_capacity}
 use Rattle.pool_memory.proofs.Bytes.{zeros_part}

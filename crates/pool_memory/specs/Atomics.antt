@@ -1,8 +1,6 @@
 -- Atomic accesses to a memory that isn't shared.
 use Rattle.std.specs.Prelude.{ℕ, ◌+◌, ◌%◌, ◌==◌, nat_le, if◌then◌else◌, Result, Ok, Err}
-use Rattle.pool_limits.specs.declared.errors.Trap.{Trap}
-use Rattle.pool_limits.specs.declared.errors.Trap.TheVariants.{MemoryOutOfBounds, HeapMisaligned, AtomicWaitNonSharedMemory}
-use Rattle.pool_limits.specs.declared.errors.WaitResult.{WaitResult}
+use Rattle.pool_memory.specs.Imports.{Trap, MemoryOutOfBounds, HeapMisaligned, AtomicWaitNonSharedMemory, WaitResult}
 
 -- the address, where it is a multiple of the alignment and the access ends within the memory
 abbrev pub atomic_answer : ℕ → ℕ → ℕ → ℕ → Result ℕ Trap
@@ -16,7 +14,7 @@ abbrev pub notify_answer : Result ℕ Trap → Result ℕ Trap
 notify_answer (Ok addr) = Ok 0
 notify_answer (Err trap) = Err trap
 
--- and nobody may wait
+-- A memory that isn't shared can't be waited on: the trap.
 abbrev pub wait_answer : Result ℕ Trap → Result WaitResult Trap
 wait_answer (Ok addr) = Err AtomicWaitNonSharedMemory
 wait_answer (Err trap) = Err trap

@@ -1,7 +1,6 @@
 -- How bytes are copied from the slot of a memory to another.
 use Rattle.std.specs.Prelude.{◌≡◌, ℕ, ◌+◌, ◌≤◌, List, length, slice_range, IfSome, is_some, option_map}
-use Rattle.pool_pages.specs.Contents.{put}
-use Rattle.pool_images.specs.Slots.{Slot, IsReady}
+use Rattle.pool_memory.specs.Imports.{put, Slot, IsReady}
 
 -- the first n bytes of the slot can be read and written
 pub record IsReadable (n : ℕ) (s : Slot) : Type 0 where

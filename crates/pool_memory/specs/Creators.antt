@@ -1,10 +1,6 @@
 -- What makes the memories of instances: when it refuses, and what it makes.
 use Rattle.std.specs.Prelude.{◌≡◌, ℕ, ◌-◌, ◌^◌, ◌<◌, ◌≤◌, ◌⊎◌, ◌||◌, List, length, min, replicate, Bool, true, false, Option, Some, None, IfSome, is_some, Result, Ok, Err, if◌then◌else◌}
-use Rattle.pool_pages.specs.MakerTold.{MakerTold, Planned, calls_of, plan_for}
-use Rattle.pool_pages.specs.Told.{Rose}
-use Rattle.pool_pages.specs.declared.module_types.MemoryTunables.{MemoryTunables}
-use Rattle.pool_pages.specs.declared.pages.RegionName.TheVariants.{OnDemand}
-use Rattle.pool_pages.specs.declared.unsupported.Unsupported.{Unsupported}
+use Rattle.pool_memory.specs.Imports.{MakerTold, Planned, calls_of, plan_for, Rose, MemoryTunables, OnDemand, Unsupported}
 use Rattle.pool_memory.specs.Layouts.{Layout, layout_of, first_layout}
 use Rattle.pool_memory.specs.Linear.{Linear, Storage, in_slot, stored, is_mapped, linear_bytes}
 use Rattle.pool_memory.specs.Mapped.{mapped_refusal, extra_on_growth}
@@ -20,6 +16,7 @@ pub record Design : Type 0 where
   pub extra : ℕ
   pub layout : Option Layout
 
+-- Where a memory lies: in a region laid out so, or in a list of bytes where there is no layout.
 abbrev pub LiesIn : Option Layout → Storage → Type 0
 LiesIn (Some layout) (in_slot s) = layout_of s ≡ layout
 LiesIn (Some layout) (stored len bytes) = ⊥
@@ -61,7 +58,7 @@ pub record IsAsMade (minimum to : ℕ) (maker : MakerTold) (l : Linear) : Type 0
 abbrev pub ListsBetween : ℕ → ℕ → List Planned → Type 0
 ListsBetween from to plan = (n : ℕ) × (IsBetween from to n × (0 < length (calls_of (OnDemand n) plan)))
 
--- so is one of the calls that the maker tells of such a region
+-- The plan of some region that was asked for in between lists a call, where the maker tells it.
 abbrev pub FailsBetween : ℕ → ℕ → MakerTold → Type 0
 FailsBetween from to m = (n : ℕ) × (IsBetween from to n × IfSome (plan_for (OnDemand n) m) (λ calls. 0 < length calls))
 
@@ -93,10 +90,12 @@ pub record IsSameMaker (old new : MakerTold) : Type 0 where
 abbrev pub in_regions : MemoryTunables → Bool
 in_regions t = t.tunables.signals_based_traps || needs_pages t
 
--- Memories in lists of bytes where the settings need no pages, and otherwise in regions.
+-- Why the default creator makes no memory, if it doesn't: for one in a list of bytes, or for one in a region, by the
+-- settings.
 abbrev pub default_refusal : ℕ → MemoryTunables → ℕ → Option Unsupported
 default_refusal page tunables minimum = if in_regions tunables then mapped_refusal page tunables minimum else malloc_refusal tunables minimum
 
+-- The memory that the creator makes in a region of its own: its capacity, its room on a move, its layout.
 abbrev pub mapped_design : ℕ → MemoryTunables → ℕ → Option ℕ → Design
 mapped_design page tunables minimum maximum = record {
   capacity = (first_layout page tunables minimum).capacity;
@@ -105,8 +104,10 @@ mapped_design page tunables minimum maximum = record {
   layout = Some (first_layout page tunables minimum);
 }
 
+-- The memory that the creator makes in a list of bytes.
 abbrev pub malloc_design : MemoryTunables → ℕ → Design
 malloc_design tunables minimum = record { capacity = malloc_capacity tunables minimum; moves = true; extra = 0; layout = None }
 
+-- What the creator makes: a memory in a region where the settings ask for regions, else one in a list of bytes.
 abbrev pub default_design : ℕ → MemoryTunables → ℕ → Option ℕ → Design
 default_design page tunables minimum maximum = if in_regions tunables then mapped_design page tunables minimum maximum else malloc_design tunables minimum

@@ -1,13 +1,6 @@
 -- How a memory is made that a creator makes: what is asked, what it begins with, and when it is refused.
 use Rattle.std.specs.Prelude.{◌≡◌, ◌↔◌, ℕ, ◌+◌, ◌≤◌, ◌&&◌, length, Bool, true, Option, Some, IfSome, Result, Ok, Err, if◌then◌else◌}
-use Rattle.pool_pages.specs.MakerTold.{MakerTold}
-use Rattle.pool_pages.specs.MemoryTypes.{minimum_byte_size, memory_may_move}
-use Rattle.pool_pages.specs.declared.module_types.MemoryTunables.{MemoryTunables}
-use Rattle.pool_pages.specs.declared.module_types.MemoryType.{MemoryType}
-use Rattle.pool_pages.specs.declared.unsupported.Unsupported.{Unsupported}
-use Rattle.pool_pages.specs.declared.unsupported.Unsupported.TheVariants.{SharedOnDemand}
-use Rattle.pool_limits.specs.declared.errors.LimiterError.{LimiterError}
-use Rattle.pool_images.specs.Images.{Image}
+use Rattle.pool_memory.specs.Imports.{MakerTold, minimum_byte_size, memory_may_move, MemoryTunables, MemoryType, Unsupported, SharedOnDemand, LimiterError, Image}
 use Rattle.pool_memory.specs.Creators.{Design, IsDesigned, IsAsMade, HasFaulted}
 use Rattle.pool_memory.specs.Linear.{Linear}
 use Rattle.pool_memory.specs.Making.{limits_answer}
@@ -44,6 +37,7 @@ DynamicRefuses (refused.LimiterDenied min) old new = new ≡ old
 DynamicRefuses (refused.LimiterFault e) old new = new ≡ old
 DynamicRefuses refused.PageFault old new = HasFaulted old new
 
+-- What a making leaves of the maker: no more faults after a success, else by its error.
 abbrev pub DynamicLeaves : {X : Type 0} → Result X MemoryError → MakerTold → MakerTold → Type 0
 DynamicLeaves (Ok x) old new = (new.faults ≡ old.faults) × (new.behind ≡ old.behind)
 DynamicLeaves (Err e) old new = DynamicRefuses e old new

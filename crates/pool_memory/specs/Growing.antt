@@ -1,20 +1,8 @@
 -- How a memory grows: what is asked in which order, what is answered, and what the memory and the limiter are left with.
 use Rattle.std.specs.Prelude.{◌≡◌, ℕ, ◌+◌, ◌-◌, ◌*◌, ◌^◌, ◌<◌, ◌≤◌, ◌==◌, ◌&&◌, ◌||◌, List, ◌++◌, replicate, min, is_some, Bool, true, false, not, nat_lt, Option, Some, None, IfSome, option_map, Result, Ok, Err}
-use Rattle.std.specs.Option.{option_map_or}
-use Rattle.std.specs.Result.{result_err}
-use Rattle.pool_pages.specs.Count.{rounded_up}
-use Rattle.pool_pages.specs.MakerTold.{MakerTold}
-use Rattle.pool_pages.specs.Told.{passes}
-use Rattle.pool_pages.specs.MemoryTypes.{page_size, allow_growth_to}
-use Rattle.pool_limits.specs.LimiterTold.{LimiterTold, limiter_told}
-use Rattle.pool_limits.specs.Exchanges.{GrowthQuestion, question_of, Exchange, IfExchanged}
-use Rattle.pool_limits.specs.Growing.{Obstacles, GrowthGiven, growth_exchanges, IsRuled, IsAllowed, PagesMake, AllowedMakes, AnswerMakes, MakesBy, GrowthMakes}
+use Rattle.pool_memory.specs.Imports.{option_map_or, result_err, rounded_up, MakerTold, passes, page_size, allow_growth_to, LimiterTold, limiter_told, GrowthQuestion, question_of, Exchange, IfExchanged, Obstacles, GrowthGiven, growth_exchanges, IsRuled, IsAllowed, PagesMake, AnswerMakes, MakesBy, GrowthMakes, LimiterError, GrowError, GrowFault, CallFaulted, raising, limited}
 use Rattle.pool_limits.specs.declared.growing.Growable.TheVariants.{Memory}
-use Rattle.pool_limits.specs.declared.errors.LimiterError.{LimiterError}
-use Rattle.pool_limits.specs.declared.errors.GrowError.{GrowError}
 use Rattle.pool_limits.specs.declared.errors.GrowError.TheVariants as failed
-use Rattle.pool_limits.specs.declared.errors.GrowFault.{GrowFault}
-use Rattle.pool_images.specs.Slots.{CallFaulted, raising, limited}
 use Rattle.pool_memory.specs.Layouts.{layout_of, moved_layout}
 use Rattle.pool_memory.specs.Linear.{Storage, in_slot, stored, is_listed, Linear, linear_bytes}
 use Rattle.pool_memory.specs.Making.{maximum_asked}
@@ -94,6 +82,7 @@ pub record IsUngrown (e : GrowError) (size : ℕ) (old new : Linear) : Type 0 wh
 abbrev pub grown_size : ℕ → MemoryState → ℕ
 grown_size pages m = min (m.linear.size + pages * page_size m.ty) (2 ^ 64 - page_size m.ty)
 
+-- A size exceeds the maximum, if there is one.
 abbrev pub exceeds : Option ℕ → ℕ → Bool
 exceeds most size = option_map_or (λ n. nat_lt n size) most false
 
@@ -117,15 +106,15 @@ growth_question pages m = question_of Memory m.linear.size (grown_size pages m) 
 abbrev pub PagesLeave : Option GrowError → ℕ → Linear → Linear → Type 0
 PagesLeave failure size old new = PagesMake (GrowsTo size old new) (λ e. IsUngrown e size old new) failure
 
-abbrev pub AllowedLeaves : Bool → Option GrowError → ℕ → Linear → Linear → Type 0
-AllowedLeaves past failure size old new = AllowedMakes (new ≡ old) (GrowsTo size old new) (λ e. IsUngrown e size old new) past failure
-
+-- What a growth leaves of a memory once the limiter answered: the same after a no or an error.
 abbrev pub AnswerLeaves : Bool → Result Bool LimiterError → Option GrowError → ℕ → Linear → Linear → Type 0
 AnswerLeaves past answer failure size old new = AnswerMakes (new ≡ old) (GrowsTo size old new) (λ e. IsUngrown e size old new) past answer failure
 
+-- What a growth leaves of a memory, by the first obstacle that it meets.
 abbrev pub LeavesBy : Bool → Bool → Bool → GrowthGiven → ℕ → Linear → Linear → Type 0
 LeavesBy nothing past_type past_room g size old new = MakesBy (new ≡ old) (GrowsTo size old new) (λ e. IsUngrown e size old new) nothing past_type past_room g
 
+-- What one growth leaves of a memory: the same, the new size with zeros, or the old size where pages failed.
 abbrev pub GrowthLeaves : Obstacles → GrowthGiven → ℕ → Linear → Linear → Type 0
 GrowthLeaves o g size old new = GrowthMakes (new ≡ old) (GrowsTo size old new) (λ e. IsUngrown e size old new) o g
 
@@ -160,7 +149,7 @@ abbrev pub GrowsAsking : {R X : Type 0} → (R → LimiterTold) → (R → Excha
 GrowsAsking told leads pages granted old new before after result =
     (given : GrowthGiven) × (IsGrowth given pages granted old new (limiter_told told before) (limiter_told told after) result × IfExchanged leads (growth_exchanges (growth_question pages old) (obstacles pages old) given) before after)
 
--- The same, with what it leaves of the maker.
+-- A growth with what passed to the limiter, and with what it leaves of the maker.
 abbrev pub GrowsMoving : {R X : Type 0} → (R → LimiterTold) → (R → Exchange → R → Type 0) → ℕ → X → MemoryState → MemoryState → Option MakerTold → Option MakerTold → Option R → Option R → Result (Option X) GrowFault → Type 0
 GrowsMoving told leads pages granted old new maker left before after result =
     (given : GrowthGiven) × (IsGrowth given pages granted old new (limiter_told told before) (limiter_told told after) result

@@ -1,9 +1,6 @@
 -- How a region is laid out that a memory has to itself, and how large it is made.
 use Rattle.std.specs.Prelude.{ℕ, ◌+◌, ◌-◌, nat_le, if◌then◌else◌}
-use Rattle.pool_pages.specs.Count.{rounded_up}
-use Rattle.pool_pages.specs.MemoryTypes.{reservation, guard_size, reservation_for_growth}
-use Rattle.pool_pages.specs.declared.module_types.MemoryTunables.{MemoryTunables}
-use Rattle.pool_images.specs.Slots.{Slot}
+use Rattle.pool_memory.specs.Imports.{rounded_up, reservation, guard_size, reservation_for_growth, MemoryTunables, Slot}
 
 -- the region's page, and how many bytes lie before the memory, may become its own, and lie behind it
 pub record Layout : Type 0 where
@@ -21,6 +18,7 @@ layout_len l = l.before + l.capacity + l.guard
 abbrev pub first_room : MemoryTunables → ℕ → ℕ
 first_room tunables minimum = if nat_le minimum (reservation tunables) then reservation tunables else minimum + reservation_for_growth tunables
 
+-- How many bytes lie unreachable before a memory: the guard in whole pages where the settings ask for one, else none.
 abbrev pub guard_before : ℕ → MemoryTunables → ℕ
 guard_before page tunables = if tunables.tunables.guard_before_linear_memory then rounded_up page (guard_size tunables) else 0
 

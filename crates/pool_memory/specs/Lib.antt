@@ -3,6 +3,7 @@ pub mod Copying
 pub mod Creators
 pub mod Dynamic
 pub mod Growing
+mod Imports
 pub mod Layouts
 pub mod Linear
 pub mod LinearStates

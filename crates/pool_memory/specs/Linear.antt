@@ -1,11 +1,6 @@
 -- A linear memory: how many bytes it has and may have, where they lie, and what a write makes of it.
 use Rattle.std.specs.Prelude.{◌≡◌, ℕ, ◌+◌, ◌-◌, ◌≤◌, List, take, replicate, slice_range, min, Bool, true, false, Option, None, IfSome, is_some, option_map}
-use Rattle.pool_pages.specs.Contents.{put}
-use Rattle.pool_pages.specs.Count.{count}
-use Rattle.pool_pages.specs.MakerTold.{no_calls}
-use Rattle.pool_pages.specs.declared.pages.RegionName.TheVariants.{OnDemand}
-use Rattle.pool_pages.specs.declared.pages.DecommitBehavior.TheVariants.{Zero}
-use Rattle.pool_images.specs.Slots.{Slot, written_at}
+use Rattle.pool_memory.specs.Imports.{put, count, no_calls, OnDemand, Zero, Slot, written_at}
 
 -- in the slot of an image, or in storage of the memory's own: how many bytes of that can be reached and, where it tells
 -- them, which those are
@@ -72,6 +67,7 @@ ready l = min (reached l.storage) l.capacity
 abbrev pub linear_bytes : Linear → Option (List ℕ)
 linear_bytes l = first_bytes l.size l.storage
 
+-- A memory once bytes were written at a place; its size and capacity stay.
 abbrev pub linear_written : ℕ → List ℕ → Linear → Linear
 linear_written at new l = record l { storage = storage_written at new l.storage }
 

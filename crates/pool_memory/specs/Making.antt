@@ -1,14 +1,6 @@
 -- How a memory is made in a slot: what the limiter is asked, and what comes of its answer.
 use Rattle.std.specs.Prelude.{◌≡◌, ℕ, ◌+◌, ◌-◌, ◌^◌, ◌<◌, ◌≤◌, length, Bool, true, false, nat_lt, if◌then◌else◌, Option, Some, None, IfSome, Result, Ok, Err}
-use Rattle.pool_pages.specs.MemoryTypes.{page_size, minimum_byte_size, maximum_byte_size, allow_growth_to}
-use Rattle.pool_pages.specs.declared.module_types.MemoryType.{MemoryType}
-use Rattle.pool_pages.specs.declared.unsupported.Unsupported.{Unsupported}
-use Rattle.pool_pages.specs.declared.unsupported.Unsupported.TheVariants.{MemoryMinimum, AddressSpace}
-use Rattle.pool_limits.specs.Exchanges.{GrowthQuestion, question_of}
-use Rattle.pool_limits.specs.declared.growing.Growable.TheVariants.{Memory as memory_kind}
-use Rattle.pool_limits.specs.declared.errors.LimiterError.{LimiterError}
-use Rattle.pool_images.specs.Images.{Image}
-use Rattle.pool_images.specs.Slots.{Slot}
+use Rattle.pool_memory.specs.Imports.{page_size, minimum_byte_size, maximum_byte_size, allow_growth_to, MemoryType, Unsupported, MemoryMinimum, AddressSpace, GrowthQuestion, question_of, memory_kind, LimiterError, Image, Slot}
 use Rattle.pool_memory.specs.Static.{Static, linear_of, made_static}
 use Rattle.pool_memory.specs.Memories.{MemoryState}
 use Rattle.pool_memory.specs.declared.memory.Memory.{Memory}
@@ -56,11 +48,12 @@ answer_behind (refused.LimiterDenied min) = Ok false
 answer_behind (refused.LimiterFault e) = Err e
 answer_behind refused.PageFault = Ok true
 
--- what it answered where a making ended so
+-- What the limiter answered, read off how the making of a memory ended.
 abbrev pub limiter_answer : {X : Type 0} → Result X MemoryError → Result Bool LimiterError
 limiter_answer (Ok x) = Ok true
 limiter_answer (Err e) = answer_behind e
 
+-- What the limiter answered, read off how the making of a memory in a slot ended.
 abbrev pub static_limiter_answer : {X : Type 0} → Result X (Slot × MemoryError) → Result Bool LimiterError
 static_limiter_answer (Ok x) = Ok true
 static_limiter_answer (Err refusal) = answer_behind refusal.1
@@ -69,10 +62,12 @@ static_limiter_answer (Err refusal) = answer_behind refusal.1
 abbrev pub fixed_in : MemoryType → Static → MemoryState
 fixed_in ty m = record { ty = ty; may_move = false; linear = linear_of m }
 
+-- A memory with its type in its slot, or the slot handed back with the reason why it isn't supported.
 abbrev pub made_memory : {M L : Type 0} → MemoryType → Result Static (Slot × Unsupported) → Result (Memory M L) (Slot × MemoryError)
 made_memory ty (Ok m) = Ok (Local (fixed_in ty m))
 made_memory ty (Err refusal) = Err (refusal.0, refused.Unsupported refusal.1)
 
+-- A memory in its slot by the limits that were granted, or the slot handed back with the refusal.
 abbrev pub made_within : {M L : Type 0} → Result (ℕ × Option ℕ) MemoryError → MemoryType → ℕ → Slot → Result (Memory M L) (Slot × MemoryError)
 made_within (Err e) ty base_capacity slot = Err (slot, e)
 made_within (Ok limits) ty base_capacity slot = made_memory ty (made_static base_capacity limits.0 limits.1 slot)

@@ -1,21 +1,17 @@
 -- A memory in a list of bytes, in units of 16.
 use Rattle.std.specs.Prelude.{◌≡◌, ℕ, ◌+◌, ◌-◌, ◌/◌, ◌%◌, ◌^◌, ◌<◌, ◌≤◌, List, length, replicate, max, slice_range, Bool, true, ◌||◌, nat_lt, if◌then◌else◌, Option, Some, None}
-use Rattle.pool_pages.specs.Count.{rounded_up}
-use Rattle.pool_pages.specs.Dense.{with_zeros}
-use Rattle.pool_pages.specs.MemoryTypes.{reservation, guard_size, reservation_for_growth}
-use Rattle.pool_pages.specs.declared.module_types.MemoryTunables.{MemoryTunables}
-use Rattle.pool_pages.specs.declared.unsupported.Unsupported.{Unsupported}
-use Rattle.pool_pages.specs.declared.unsupported.Unsupported.TheVariants.{MallocTunables, AddressSpace}
+use Rattle.pool_memory.specs.Imports.{rounded_up, with_zeros, reservation, guard_size, reservation_for_growth, MemoryTunables, Unsupported, MallocTunables, AddressSpace}
 use Rattle.pool_memory.specs.Linear.{Linear, stored}
 use Rattle.pool_memory.specs.declared.memory_error.MemoryError.{MemoryError}
 use Rattle.pool_memory.specs.declared.memory_error.MemoryError.TheVariants as refused
 
--- how many bytes it has, the bytes that it stores, and for how many it has taken room
+-- A memory in a list of bytes: its size, the bytes that it stores, and for how many it has taken room.
 pub record Malloc : Type 0 where
   pub size : ℕ
   pub bytes : List ℕ
   pub capacity : ℕ
 
+-- A memory in a list of bytes as plain data: it may move, and has no room for growth in advance.
 abbrev pub malloc_linear : Malloc → Linear
 malloc_linear m = record { size = m.size; capacity = m.capacity; moves = true; extra = 0; storage = stored (length m.bytes) (Some m.bytes) }
 

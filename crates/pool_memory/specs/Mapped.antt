@@ -1,11 +1,6 @@
 -- A memory in a region that it has to itself.
 use Rattle.std.specs.Prelude.{◌≡◌, ℕ, ◌+◌, ◌-◌, ◌%◌, ◌^◌, ◌≤◌, ◌++◌, replicate, slice_range, Bool, true, false, ◌&&◌, nat_le, nat_lt, if◌then◌else◌, Option, Some, None, IfSome}
-use Rattle.pool_pages.specs.MemoryTypes.{reservation, reservation_for_growth}
-use Rattle.pool_pages.specs.declared.module_types.MemoryTunables.{MemoryTunables}
-use Rattle.pool_pages.specs.declared.unsupported.Unsupported.{Unsupported}
-use Rattle.pool_pages.specs.declared.unsupported.Unsupported.TheVariants.{AddressSpace}
-use Rattle.pool_pages.specs.declared.pages.DecommitBehavior.TheVariants.{RestoreOriginalMapping}
-use Rattle.pool_images.specs.Slots.{Slot, IsClean, IsSlot}
+use Rattle.pool_memory.specs.Imports.{reservation, reservation_for_growth, MemoryTunables, Unsupported, AddressSpace, RestoreOriginalMapping, Slot, IsClean, IsSlot}
 use Rattle.pool_memory.specs.Linear.{Linear, in_slot, linear_bytes}
 use Rattle.pool_memory.specs.Copying.{OnlyWritten}
 use Rattle.pool_memory.specs.Static.{Static, IsStatic}
@@ -28,6 +23,7 @@ used s = record s { dirty = true }
 abbrev pub mapped_capacity : Mapped → ℕ
 mapped_capacity m = if m.known then m.slot.static_size else 0
 
+-- A memory in a region of its own as plain data: it may move.
 abbrev pub mapped_linear : Mapped → Linear
 mapped_linear m = record { size = m.size; capacity = mapped_capacity m; moves = true; extra = m.extra; storage = in_slot (used m.slot) }
 
@@ -63,6 +59,8 @@ abbrev pub is_reserved : MemoryTunables → ℕ → Option ℕ → Bool
 is_reserved tunables minimum None = false
 is_reserved tunables minimum (Some maximum) = nat_le minimum (reservation tunables) && nat_le maximum (reservation tunables)
 
+-- How many bytes of room a larger region gets beyond the size asked for: none where the first region is large enough
+-- for ever.
 abbrev pub extra_on_growth : MemoryTunables → ℕ → Option ℕ → ℕ
 extra_on_growth tunables minimum maximum = if is_reserved tunables minimum maximum then 0 else reservation_for_growth tunables
 

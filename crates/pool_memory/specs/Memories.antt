@@ -1,10 +1,6 @@
 -- A memory with its type, and what reads and writes of it answer.
 use Rattle.std.specs.Prelude.{◌≡◌, ℕ, ◌+◌, ◌^◌, ◌<◌, ◌≤◌, List, Bool, true, false, nat_le, if◌then◌else◌, Option, Result, Ok, Err}
-use Rattle.pool_pages.specs.MemoryTypes.{page_size}
-use Rattle.pool_pages.specs.declared.module_types.MemoryType.{MemoryType}
-use Rattle.pool_limits.specs.declared.errors.Trap.{Trap}
-use Rattle.pool_limits.specs.declared.errors.Trap.TheVariants.{MemoryOutOfBounds}
-use Rattle.pool_images.specs.Slots.{Slot}
+use Rattle.pool_memory.specs.Imports.{page_size, MemoryType, Trap, MemoryOutOfBounds, Slot}
 use Rattle.pool_memory.specs.Linear.{Linear, slot_in, linear_bytes, linear_written}
 
 -- its type, whether it may be moved as it grows, and its bytes with their room

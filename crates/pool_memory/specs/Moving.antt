@@ -1,17 +1,7 @@
 -- How a memory asks a maker for a region, and what that leaves of the maker.
 use Rattle.std.specs.Prelude.{◌≡◌, ℕ, ◌^◌, ◌<◌, ◌≤◌, Bool, true, false, nat_lt, Option, Some, None, Result, Ok, Err, IfSome, ◌⊎◌}
-use Rattle.pool_pages.specs.Count.{count, rounded_up}
-use Rattle.pool_pages.specs.MakeFaults.{RaisesBehind}
-use Rattle.pool_pages.specs.MakerTold.{MakerTold, made_region, next_after, fails_making, plan_for}
-use Rattle.pool_pages.specs.Told.{Told, PageCall, Rose, passes, exposing}
-use Rattle.pool_pages.specs.declared.maker.MakeFault.{MakeFault}
+use Rattle.pool_memory.specs.Imports.{count, rounded_up, RaisesBehind, MakerTold, made_region, next_after, fails_making, plan_for, Told, PageCall, passes, exposing, Rose, MakeFault, RegionName, OnDemand, RestoreOriginalMapping, AddressSpace, Slot, IsFresh, limited, GrowError}
 use Rattle.pool_pages.specs.declared.maker.MakeFault.TheVariants as making
-use Rattle.pool_pages.specs.declared.pages.RegionName.{RegionName}
-use Rattle.pool_pages.specs.declared.pages.RegionName.TheVariants.{OnDemand}
-use Rattle.pool_pages.specs.declared.pages.DecommitBehavior.TheVariants.{RestoreOriginalMapping}
-use Rattle.pool_pages.specs.declared.unsupported.Unsupported.TheVariants.{AddressSpace}
-use Rattle.pool_images.specs.Slots.{Slot, IsFresh, limited}
-use Rattle.pool_limits.specs.declared.errors.GrowError.{GrowError}
 use Rattle.pool_limits.specs.declared.errors.GrowError.TheVariants as failed
 use Rattle.pool_memory.specs.Copying.{OnlyWritten}
 use Rattle.pool_memory.specs.Layouts.{Layout, layout_len, layout_of, moved_layout}
@@ -46,10 +36,11 @@ slot_of_region t l = record {
   colour = None;
 }
 
--- the same once so many bytes can be reached, which is the first call on the region
+-- The slot of such a region once so many bytes can be reached, which is the first call on it.
 abbrev pub slot_for : MakerTold → Layout → ℕ → Slot
 slot_for m l size = limited size (slot_of_region (region_for m l) l)
 
+-- The first call on a new region: the pages of the memory's first size become reachable behind the guard.
 abbrev pub first_call : Layout → ℕ → PageCall
 first_call l size = exposing l.before (rounded_up l.page size)
 
@@ -92,10 +83,12 @@ abbrev pub RegionRefusedBy : MakeFault → MakerTold → MakerTold → Type 0
 RegionRefusedBy making.Memory old new = MemoryWants old new
 RegionRefusedBy making.PageFault old new = MakingFails old new
 
+-- A region was asked for and isn't there: for want of memory, or for a page fault that has its cause in the maker.
 pub record IsRegionRefused (fault : MakeFault) (old new : MakerTold) : Type 0 where
   pub asked : IsAsked old new
   pub cause : RegionRefusedBy fault old new
 
+-- Why no memory was made in a region: want of memory, a failed making, or a failed first call.
 abbrev pub RefusedBy : MakeFault → Layout → ℕ → MakerTold → MakerTold → Type 0
 RefusedBy making.Memory l size old new = MemoryWants old new
 RefusedBy making.PageFault l size old new = MakingFails old new ⊎ FirstCallFails l size old new
@@ -116,6 +109,7 @@ MoveLeaves (Some failed.Overflow) l size place old new = (2 ^ 64 ≤ layout_len 
 MoveLeaves (Some failed.TypeLimit) l size place old new = ⊥
 MoveLeaves (Some failed.MaximumExceeded) l size place old new = ⊥
 
+-- What a growth leaves of the maker: a memory in a region may ask it for a larger one, one in a list of bytes doesn't.
 abbrev pub PlaceLeaves : Option GrowError → ℕ → ℕ → Storage → Storage → MakerTold → MakerTold → Type 0
 PlaceLeaves failure size extra (in_slot s) new before after = MoveLeaves failure (moved_layout size extra (layout_of s)) size new before after
 PlaceLeaves failure size extra (stored len bytes) new before after = after ≡ before

@@ -1,14 +1,9 @@
 -- How a memory that was just made begins with an image.
 use Rattle.std.specs.Prelude.{◌≡◌, ℕ, ◌%◌, ◌==◌, List, Bool, true, false, ◌&&◌, Option, Some, None, IfSome}
-use Rattle.pool_pages.specs.Count.{rounded_up}
-use Rattle.pool_pages.specs.Told.{PageCall}
-use Rattle.pool_pages.specs.declared.module_types.MemoryTunables.{MemoryTunables}
-use Rattle.pool_pages.specs.declared.module_types.MemoryType.{MemoryType}
-use Rattle.pool_images.specs.Images.{Image, start}
-use Rattle.pool_images.specs.Orders.{Follows, replacing}
-use Rattle.pool_images.specs.Slots.{Slot, FitsInto, IsLeft, identity, hides}
+use Rattle.pool_memory.specs.Imports.{rounded_up, PageCall, MemoryTunables, MemoryType, Image, start, Follows, replacing, Slot, FitsInto, IsLeft, identity, hides}
 use Rattle.pool_memory.specs.Linear.{Linear, Storage, in_slot, stored, slot_in, is_mapped, linear_bytes}
 
+-- A memory in a region whose size is whole pages: it can begin with an image mapped.
 abbrev pub has_whole_pages : ℕ → Storage → Bool
 has_whole_pages size (in_slot s) = size % s.region.page == 0
 has_whole_pages size (stored len bytes) = false
@@ -22,6 +17,7 @@ abbrev pub FitsIn : Image → ℕ → Storage → Type 0
 FitsIn image size (in_slot s) = FitsInto s.region.page size image
 FitsIn image size (stored len bytes) = Unit {0}
 
+-- An image ends within a memory, and begins and ends at pages of its region.
 abbrev pub ImageFits : Image → Linear → Type 0
 ImageFits image l = FitsIn image l.size l.storage
 
@@ -43,10 +39,12 @@ pub record HasNotStarted (old new : Linear) : Type 0 where
 abbrev pub CallsFollow : List PageCall → Bool → Slot → Slot → Type 0
 CallsFollow calls ok old new = IfSome old.region.contents (λ c. Follows calls ok old.region new.region)
 
+-- The page calls by which a memory in a region takes an image; one in a list of bytes makes none.
 abbrev pub PlaceStarts : MemoryType → MemoryTunables → Image → ℕ → Bool → Storage → Storage → Type 0
 PlaceStarts ty tunables image size ok (in_slot s) new = CallsFollow (replacing (rounded_up s.region.page size) (hides ty tunables s.region.page) (Some image) s) ok s (slot_in new)
 PlaceStarts ty tunables image size ok (stored len bytes) new = Unit {0}
 
+-- A memory that may take its image by pages does so by these page calls, and fails where one fails.
 abbrev pub StartsBy : MemoryType → MemoryTunables → Image → Bool → Linear → Linear → Type 0
 StartsBy ty tunables image ok old new = takes_image old ≡ true → PlaceStarts ty tunables image old.size ok old.storage new.storage
 

@@ -1,18 +1,15 @@
 -- A memory that stays in the slot of an image that it began in.
 use Rattle.std.specs.Prelude.{◌≡◌, ℕ, ◌+◌, ◌-◌, ◌≤◌, min, replicate, slice_range, nat_le, if◌then◌else◌, false, Option, IfSome, Result, Ok, Err}
-use Rattle.std.specs.Option.{option_map_or}
-use Rattle.pool_pages.specs.Count.{rounded_up}
-use Rattle.pool_pages.specs.declared.unsupported.Unsupported.{Unsupported}
-use Rattle.pool_pages.specs.declared.unsupported.Unsupported.TheVariants.{InitialSize}
-use Rattle.pool_images.specs.Slots.{Slot, IsInUse}
+use Rattle.pool_memory.specs.Imports.{option_map_or, rounded_up, Unsupported, InitialSize, Slot, IsInUse}
 use Rattle.pool_memory.specs.Linear.{Linear, in_slot}
 
--- its slot, how many bytes it has, and how many it may have
+-- A memory that stays in its slot: the slot, how many bytes it has, and how many it may have.
 pub record Static : Type 0 where
   pub slot : Slot
   pub size : ℕ
   pub capacity : ℕ
 
+-- A memory that stays in its slot as plain data: it never moves.
 abbrev pub linear_of : Static → Linear
 linear_of m = record { size = m.size; capacity = m.capacity; moves = false; extra = 0; storage = in_slot m.slot }
 

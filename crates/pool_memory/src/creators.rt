@@ -1,8 +1,8 @@
 ghost use Rattle.std.specs.Prelude.{◌≡◌, ◌↔◌, ℕ, ◌<◌, true, Option, Some, Err, IfOk, IfSome, option_map};
 ghost use Rattle.pool_pages.specs.MakerTold.{MakerTold};
-ghost use Rattle.pool_pages.specs.declared.module_types.MemoryType.{MemoryType};
-ghost use Rattle.pool_pages.specs.declared.module_types.MemoryTunables.{MemoryTunables};
-ghost use Rattle.pool_pages.specs.declared.unsupported.Unsupported.{Unsupported};
+ghost use Rattle.pool_types.specs.declared.module_types.MemoryType.{MemoryType};
+ghost use Rattle.pool_types.specs.declared.module_types.MemoryTunables.{MemoryTunables};
+ghost use Rattle.pool_types.specs.declared.unsupported.Unsupported.{Unsupported};
 ghost use Rattle.pool_memory.specs.Creators.{Design, IsDesigned, IsAsMade, IsSameMaker, CreatorLeaves, in_regions, mapped_design, malloc_design};
 ghost use Rattle.pool_memory.specs.LinearStates.{either_linear, either_untouched};
 ghost use Rattle.pool_memory.specs.Malloc.{malloc_refusal};
@@ -14,7 +14,8 @@ use crate::memory_error::MemoryError;
 use crate::mmap_memory::MmapMemory;
 use pool_images::MemoryImage;
 use pool_limits::GrowError;
-use pool_pages::{MemoryTunables, MemoryType, PageFault, PageMaker, Pages, Unsupported};
+use pool_pages::{PageFault, PageMaker, Pages};
+use pool_types::{MemoryTunables, MemoryType, Unsupported};
 use std::alloc::Global;
 use std::sync::Arc;
 
@@ -63,9 +64,9 @@ pub enum LinearMemory<P: Pages> {
 impl<M: PageMaker> RuntimeMemoryCreator<M> for DefaultMemoryCreator {
     type Linear = LinearMemory<M::Region>;
 
-    ghost use Rattle.pool_pages.specs.declared.module_types.MemoryType.{MemoryType};
-    ghost use Rattle.pool_pages.specs.declared.module_types.MemoryTunables.{MemoryTunables};
-    ghost use Rattle.pool_pages.specs.declared.unsupported.Unsupported.{Unsupported};
+    ghost use Rattle.pool_types.specs.declared.module_types.MemoryType.{MemoryType};
+    ghost use Rattle.pool_types.specs.declared.module_types.MemoryTunables.{MemoryTunables};
+    ghost use Rattle.pool_types.specs.declared.unsupported.Unsupported.{Unsupported};
     ghost use Rattle.pool_memory.specs.Creators.{default_refusal, default_design};
     ghost use Rattle.std.specs.Prelude.{Some};
 

@@ -1,7 +1,7 @@
 ghost use Rattle.std.specs.Prelude.{[], ◌∷◌, ◌≡◌, ◌+◌, ◌^◌, ◌<◌, ◌≤◌, ◌&&◌, true, Ok, IfOk, IfErr, IfSome, OnErr, option_map};
 ghost use Rattle.std.specs.Arc.{arc_value};
 ghost use Rattle.std.specs.Option.{option_copied_mut};
-ghost use Rattle.pool_pages.specs.MemoryTypes.{page_size, minimum_byte_size, memory_may_move};
+ghost use Rattle.pool_types.specs.MemoryTypes.{page_size, minimum_byte_size, memory_may_move};
 ghost use Rattle.pool_limits.specs.Growth.{memory_answer};
 ghost use Rattle.pool_limits.specs.LimiterTold.{after_answer, limiter_told, option_left};
 ghost use Rattle.pool_limits.specs.Exchanges.{may_grow, IfExchanged};
@@ -20,7 +20,8 @@ use crate::memory::Memory;
 use crate::memory_error::MemoryError;
 use pool_images::MemoryImage;
 use pool_limits::{ResourceLimiter, Unlimited};
-use pool_pages::{MemoryKind, MemoryTunables, MemoryType, PageMaker, Unsupported};
+use pool_pages::PageMaker;
+use pool_types::{MemoryKind, MemoryTunables, MemoryType, Unsupported};
 use std::alloc::Global;
 use std::sync::Arc;
 

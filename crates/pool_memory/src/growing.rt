@@ -1,6 +1,6 @@
 ghost use Rattle.std.specs.Prelude.{◌≡◌, ◌+◌, ◌^◌, ◌≤◌, Some};
 ghost use Rattle.std.specs.Option.{option_copied_mut};
-ghost use Rattle.pool_pages.specs.MemoryTypes.{page_size};
+ghost use Rattle.pool_types.specs.MemoryTypes.{page_size};
 ghost use Rattle.pool_limits.specs.LimiterTold.{option_left};
 ghost use Rattle.pool_memory.specs.Growing.{GrowsAsking, GrowsMoving, IsAllowedGrowth, grown_size, past_room, first_of};
 

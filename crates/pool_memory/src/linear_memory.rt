@@ -10,7 +10,8 @@ ghost use Rattle.pool_memory.specs.Starting.{takes_image, ImageFits, HasStarted,
 
 use pool_images::MemoryImage;
 use pool_limits::GrowError;
-use pool_pages::{MemoryTunables, MemoryType, PageFault};
+use pool_pages::PageFault;
+use pool_types::{MemoryTunables, MemoryType};
 use std::sync::Arc;
 
 /// The bytes of a linear memory, and the room that they have. `M` makes the regions of one that moves.

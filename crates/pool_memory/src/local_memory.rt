@@ -1,6 +1,6 @@
 ghost use Rattle.std.specs.Prelude.{◌≡◌, ◌↔◌, ◌+◌, ◌^◌, ◌<◌, ◌≤◌, ◌&&◌, length, replicate, slice_range, true, not, false, IsTrue, Option, Some, option_map, IfOk, IfErr, IfSome, OnOk, OnErr, MatchResult};
 ghost use Rattle.std.specs.Arc.{arc_value};
-ghost use Rattle.pool_pages.specs.MemoryTypes.{page_size, memory_may_move};
+ghost use Rattle.pool_types.specs.MemoryTypes.{page_size, memory_may_move};
 ghost use Rattle.pool_memory.specs.Linear.{IsLinear, in_slot, is_mapped};
 ghost use Rattle.pool_memory.specs.Growing.{AskedPages, grown_size, past_room, exceeds};
 ghost use Rattle.pool_memory.specs.Making.{maximum_asked};
@@ -13,7 +13,8 @@ use crate::making::maximum_asked;
 use crate::static_memory::StaticMemory;
 use pool_images::{MemoryImage, MemoryImageSlot};
 use pool_limits::{GrowError, Trap};
-use pool_pages::{MemoryTunables, MemoryType, PageCalls, PageFault, Pages};
+use pool_pages::{PageCalls, PageFault, Pages};
+use pool_types::{MemoryTunables, MemoryType};
 use std::marker::{Model, PhantomData};
 use std::sync::Arc;
 

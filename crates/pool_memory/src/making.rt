@@ -1,6 +1,6 @@
 ghost use Rattle.std.specs.Prelude.{◌≡◌, ◌^◌, ◌<◌, ◌≤◌, true, Option, None, Ok, IfOk, IfSome};
-ghost use Rattle.pool_pages.specs.Count.{rounded_up};
-ghost use Rattle.pool_pages.specs.MemoryTypes.{page_size, minimum_byte_size, refused_limits};
+ghost use Rattle.pool_types.specs.Count.{rounded_up};
+ghost use Rattle.pool_types.specs.MemoryTypes.{page_size, minimum_byte_size, refused_limits};
 ghost use Rattle.pool_limits.specs.Growth.{memory_answer};
 ghost use Rattle.pool_limits.specs.LimiterTold.{after_answer};
 ghost use Rattle.pool_limits.specs.Exchanges.{may_grow};
@@ -18,7 +18,8 @@ use crate::memory_error::MemoryError;
 use crate::static_memory::StaticMemory;
 use pool_images::MemoryImageSlot;
 use pool_limits::{LimiterError, ResourceLimiter};
-use pool_pages::{MemoryTunables, MemoryType, Pages, Unsupported};
+use pool_pages::Pages;
+use pool_types::{MemoryTunables, MemoryType, Unsupported};
 
 // The memory in the slot, or the slot with what refused it. The limiter is asked first.
 pub(crate) fn make_static<P: Pages, R: ResourceLimiter>(

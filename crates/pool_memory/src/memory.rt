@@ -1,7 +1,7 @@
 ghost use Rattle.std.specs.Prelude.{[], ◌∷◌, ◌≡◌, ◌+◌, ◌^◌, ◌<◌, ◌≤◌, length, replicate, slice_range, not, false, Option, Some, None, IfOk, IfSome, OnOk, OnErr};
 ghost use Rattle.std.specs.Option.{option_copied_mut};
-ghost use Rattle.pool_pages.specs.Count.{rounded_up};
-ghost use Rattle.pool_pages.specs.MemoryTypes.{page_size, minimum_byte_size, refused_limits};
+ghost use Rattle.pool_types.specs.Count.{rounded_up};
+ghost use Rattle.pool_types.specs.MemoryTypes.{page_size, minimum_byte_size, refused_limits};
 ghost use Rattle.pool_limits.specs.Growth.{memory_answer};
 ghost use Rattle.pool_limits.specs.LimiterTold.{after_answer, limiter_told, option_left};
 ghost use Rattle.pool_limits.specs.Exchanges.{may_grow, IfExchanged};
@@ -21,7 +21,8 @@ use crate::memory_error::MemoryError;
 use crate::static_memory::StaticMemory;
 use pool_images::MemoryImageSlot;
 use pool_limits::{GrowFault, ResourceLimiter, Trap, Unlimited};
-use pool_pages::{MemoryTunables, MemoryType, PageCalls, Pages};
+use pool_pages::{PageCalls, Pages};
+use pool_types::{MemoryTunables, MemoryType};
 
 /// A memory of an instance.
 #[derive(Drop)]

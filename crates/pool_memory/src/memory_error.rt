@@ -1,5 +1,5 @@
 use pool_limits::LimiterError;
-use pool_pages::Unsupported;
+use pool_types::Unsupported;
 
 /// Why a memory isn't made.
 #[derive(Clone, Copy, Debug, PartialEq, Eq)]

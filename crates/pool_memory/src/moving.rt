@@ -8,7 +8,8 @@ ghost use Rattle.pool_memory.specs.Moving.{IsMadeFor, IsRefusedFor, IsMadeRegion
 
 use crate::region_layout::RegionLayout;
 use pool_images::MemoryImageSlot;
-use pool_pages::{DecommitBehavior, MakeFault, PageFault, PageMaker, Pages, RegionName};
+use pool_pages::{MakeFault, PageFault, PageMaker, Pages, RegionName};
+use pool_types::DecommitBehavior;
 use std::alloc::Global;
 
 /// A slot in a region that is made for it, with `size` bytes that can be reached: one making, and one call on the region

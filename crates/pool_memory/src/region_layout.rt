@@ -1,9 +1,9 @@
 ghost use Rattle.std.specs.Prelude.{◌≡◌, ◌+◌, ◌^◌, ◌<◌, nat_le, if◌then◌else◌};
 ghost use Rattle.std.specs.Option.{SomeIff};
-ghost use Rattle.pool_pages.specs.Count.{count, rounded_up};
+ghost use Rattle.pool_types.specs.Count.{count, rounded_up};
 ghost use Rattle.pool_memory.specs.Layouts.{Layout, layout_len, first_room, guard_before, first_layout, moved_layout};
 
-use pool_pages::{HostAlignedByteCount, MemoryTunables, PageSize};
+use pool_types::{HostAlignedByteCount, MemoryTunables, PageSize};
 use std::marker::Model;
 
 /// How a region is laid out that a memory has to itself: bytes before the memory, those that it may have without moving,

@@ -1,5 +1,5 @@
 ghost use Rattle.std.specs.Prelude.{◌≡◌, ◌+◌, ◌≤◌, length, slice_range, IfSome, IfErr, OnOk};
-ghost use Rattle.pool_pages.specs.Count.{rounded_up};
+ghost use Rattle.pool_types.specs.Count.{rounded_up};
 ghost use Rattle.pool_images.specs.Slots.{IsInUse, IsSlot};
 ghost use Rattle.pool_memory.specs.Growing.{GrowsTo, IsUngrown};
 ghost use Rattle.pool_memory.specs.Static.{CanHold, linear_of, static_capacity, made_static};
@@ -7,7 +7,8 @@ ghost use Rattle.pool_memory.specs.Static.{CanHold, linear_of, static_capacity, 
 use crate::linear_memory::RuntimeLinearMemory;
 use pool_images::{MemoryImage, MemoryImageSlot};
 use pool_limits::GrowError;
-use pool_pages::{MemoryTunables, MemoryType, PageCalls, PageFault, Pages, Unsupported};
+use pool_pages::{PageCalls, PageFault, Pages};
+use pool_types::{MemoryTunables, MemoryType, Unsupported};
 use std::marker::Model;
 use std::sync::Arc;
 

@@ -1,13 +1,10 @@
 -- What the calls on dense pages make of their columns: pages whose columns have these values are those of a region
 -- again, and are what the call is to leave.
 use Rattle.std.proofs.Common.{◌≡◌, ℕ, ◌+◌, ◌-◌, ◌*◌, ◌/◌, ◌%◌, ◌<◌, ◌≤◌, Bool, true, false, List, ◌++◌, length, drop, replicate, refl, sym, ap, subst, ◌∙◌, arith, slice_range}
-use Rattle.std.proofs.Math.Nat.{zero-div, zero-mod}
-use Rattle.std.proofs.lemmas.List.{length-replicate, length-append, drop-replicate}
+use Rattle.pool_pages.proofs.Imports.{zero-div, zero-mod, length-replicate, length-append, drop-replicate, IsPageSize, whole}
 use Rattle.pool_pages.specs.Contents.{Contents, put, put_all, touched, decommitted, written, IsShaped}
-use Rattle.pool_pages.specs.Count.{IsPageSize}
 use Rattle.pool_pages.specs.Dense.{dense}
 use Rattle.pool_pages.specs.MakerTold.{fresh}
-use Rattle.pool_pages.proofs.Multiples.{whole}
 use Rattle.pool_pages.proofs.PageNumbers.{marks_fit}
 use Rattle.pool_pages.proofs.Puts.{length-put, length-range}
 use Rattle.pool_pages.proofs.Shapes.{access_shaped, colour_shaped, replaced_shaped, copied_shaped, decommitted_shaped, written_shaped}

@@ -1,8 +1,7 @@
 -- What a list of failing calls says of a call, by what the region behind it says.
 use Rattle.std.proofs.Common.{◌≡◌, ℕ, Bool, true, false, not, List, [], ◌∷◌, Option, Some, None, refl, sym, ◌∙◌, ◌==◌, ◌||◌}
-use Rattle.std.specs.List.{list_any}
-use Rattle.std.specs.Option.{IfSome}
-use Rattle.pool_pages.specs.Told.{risen, joined_plan}
+use Rattle.pool_pages.proofs.Imports.{list_any, IfSome, risen}
+use Rattle.pool_pages.specs.Told.{joined_plan}
 use Rattle.pool_pages.specs.FailingTold.{lets_through, if_empty}
 
 -- the plan lets a call of this length through, after so many calls

@@ -1,8 +1,6 @@
 -- What a maker with a list of failures makes, and what it tells of a making, by what the maker behind it does.
 use Rattle.std.proofs.Common.{◌≡◌, ℕ, Bool, true, false, List, [], ◌∷◌, Option, Some, None, refl, sym, ap, ◌∙◌}
-use Rattle.std.proofs.lemmas.List.Sums.{fold-append}
-use Rattle.std.specs.Option.{IfSome}
-use Rattle.pool_pages.specs.Count.{Count}
+use Rattle.pool_pages.proofs.Imports.{fold-append, IfSome, Count, DecommitBehavior}
 use Rattle.pool_pages.specs.Told.{Told, joined_plan}
 use Rattle.pool_pages.specs.MakerTold.{MakerTold, Planned, calls_of, part_of, made_region, no_calls}
 use Rattle.pool_pages.specs.FailingTold.{failing_told, if_empty, no_counts}
@@ -10,7 +8,6 @@ use Rattle.pool_pages.specs.FaultPlans.{failing_maker, layers_before}
 use Rattle.pool_pages.specs.MakeFaults.{RaisesFaults, RaisesBehind}
 use Rattle.pool_pages.specs.declared.maker.MakeFault.{MakeFault}
 use Rattle.pool_pages.specs.declared.pages.RegionName.{RegionName}
-use Rattle.pool_pages.specs.declared.pages.DecommitBehavior.{DecommitBehavior}
 use Rattle.pool_pages.specs.declared.pages.PageCalls.{PageCalls}
 use Rattle.pool_pages.specs.declared.call_counts.CallCounts.{CallCounts}
 

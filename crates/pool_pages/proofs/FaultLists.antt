@@ -1,9 +1,6 @@
 -- What a list of planned failures lists, entry by entry.
 use Rattle.std.proofs.Common.{◌≡◌, ℕ, Bool, false, List, [], ◌∷◌, ◌||◌, ◌==◌, ◌++◌, ◌+◌, ◌<◌, length, take, get_or, Option, Some, None, refl, ap, sym, ◌∙◌}
-use Rattle.std.proofs.lemmas.List.Elements.{filter_map-append}
-use Rattle.std.proofs.lemmas.List.{take_more}
-use Rattle.std.specs.List.{filter_map, cons_option, list_any}
-use Rattle.std.specs.Option.{option_and_then, option_map_or}
+use Rattle.pool_pages.proofs.Imports.{filter_map-append, take_more, filter_map, cons_option, list_any, option_and_then, option_map_or}
 use Rattle.pool_pages.specs.MakerTold.{calls_of, call_of, fails_making, is_of_images, fails_images}
 use Rattle.pool_pages.specs.declared.pages.RegionName.{RegionName}
 use Rattle.pool_pages.specs.declared.fault_plan.Fault.{Fault}

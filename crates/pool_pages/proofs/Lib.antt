@@ -1,14 +1,14 @@
-pub mod ConfigRules
 pub mod DenseCalls
 pub mod FailingCalls
 pub mod FailingMakers
 pub mod FaultLists
-pub mod Multiples
+mod Imports
 pub mod PageChanges
 pub mod PageNumbers
 pub mod PageRuns
 pub mod Prefixes
 pub mod Puts
 pub mod Shapes
+pub mod Small
 pub mod SortedFaults
 pub mod ZeroingCalls

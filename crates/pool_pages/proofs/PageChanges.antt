@@ -1,12 +1,9 @@
 -- Each call on pages changes exactly the pages of its range.
 use Rattle.std.proofs.Common.{◌≡◌, ℕ, ◌+◌, ◌-◌, ◌*◌, ◌/◌, ◌<◌, ◌≤◌, ◌⊎◌, Bool, true, false, List, length, min, get_or, take, drop, replicate, refl, sym, ap, ◌∙◌, arith, inl, inr, slice_range}
-use Rattle.std.proofs.Math.Nat.{mul-le-mul_right, mul-le-mul_left, div-mul-le_self, lt-mul-div-succ}
-use Rattle.std.proofs.lemmas.List.{length-replicate, take-replicate, drop-replicate, same_lists}
-use Rattle.std.proofs.lemmas.Bool.{cases_lt}
+use Rattle.pool_pages.proofs.Imports.{mul-le-mul_right, mul-le-mul_left, div-mul-le_self, lt-mul-div-succ, length-replicate, take-replicate, drop-replicate, same_lists, cases_lt, page_below}
 use Rattle.pool_pages.specs.Contents.{Contents, Page, page_bytes, page_origin, page_at, IsIn, IsShaped, put, put_all, touched}
 use Rattle.pool_pages.specs.Dense.{zeroed}
 use Rattle.pool_pages.specs.PageLaws.{IsPages, ChangesExactly, image_part, IsTouched, ExposeChangesItsPages, HideChangesItsPages, MapChangesItsPages, CopyChangesItsPages, EraseChangesItsPages, RemapChangesItsPages, RecolourChangesItsPages, DecommitChangesItsPages, WriteChangesItsPages, RestoreChangesItsPages}
-use Rattle.pool_pages.proofs.Multiples.{page_below}
 use Rattle.pool_pages.proofs.PageNumbers.{page_before, page_from, page_above, page_inside, touched_some, touched_above, touched_fit}
 use Rattle.pool_pages.proofs.Puts.{length-put, length-range, get_or-range, get_or-put_below, get_or-put_in, get_or-put_above, put_range, range_range}
 use Rattle.pool_pages.proofs.Shapes.{get_or-put_all_in, get_or-put_all_out, untouched, pages_fit, column_inside, column_outside}

@@ -1,10 +1,7 @@
 -- Pages by number: where those of a range of whole pages lie, and those that bytes touch.
 use Rattle.std.proofs.Common.{◌≡◌, ℕ, ◌+◌, ◌-◌, ◌*◌, ◌/◌, ◌%◌, ◌<◌, ◌≤◌, ◌==◌, false, ◌≢◌, refl, arith, inl, inr}
-use Rattle.std.proofs.Math.Nat.{mul-le-mul_left, mod-add-div', lt-mul-div-succ, div-mul-le_self}
-use Rattle.std.proofs.lemmas.Bool.{cases_lt, cases_eq, ne_eqb}
-use Rattle.std.proofs.lemmas.Nat.{le-div}
+use Rattle.pool_pages.proofs.Imports.{mul-le-mul_left, mod-add-div', lt-mul-div-succ, div-mul-le_self, cases_lt, cases_eq, ne_eqb, le-div, whole, page_within}
 use Rattle.pool_pages.specs.Contents.{touched}
-use Rattle.pool_pages.proofs.Multiples.{whole, page_within}
 
 -- a page before that of a place lies below the place whole
 pub page_before : (page start k : ℕ) → k < start / page → k * page + page ≤ start

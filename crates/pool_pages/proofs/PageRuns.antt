@@ -1,8 +1,6 @@
 -- Pages set one after the other to their part of a column.
 use Rattle.std.proofs.Common.{◌≡◌, ℕ, ◌+◌, ◌-◌, ◌*◌, ◌<◌, ◌≤◌, Bool, true, false, List, [], ◌∷◌, ◌++◌, length, get_or, set, take, drop, replicate, suc, sym, ap, ◌∙◌, arith, inl, inr, slice_range}
-use Rattle.std.proofs.Math.Nat.{mul-le-mul_right}
-use Rattle.std.proofs.lemmas.List.{length-replicate, length-append, get_or_append_left, get_or-append_right, replicate_more, set_split, same_lists}
-use Rattle.std.proofs.lemmas.Bool.{cases_lt}
+use Rattle.pool_pages.proofs.Imports.{mul-le-mul_right, length-replicate, length-append, get_or_append_left, get_or-append_right, replicate_more, set_split, same_lists, cases_lt}
 use Rattle.pool_pages.specs.Contents.{put, put_all}
 use Rattle.pool_pages.proofs.Puts.{length-put, length-range, get_or-range, range-put_above, get_or-put_above, put-put, put_range, put_empty}
 

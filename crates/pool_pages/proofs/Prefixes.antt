@@ -1,7 +1,6 @@
 -- Columns of which a prefix is kept, past which they are zeros.
 use Rattle.std.proofs.Common.{◌≡◌, ℕ, ◌+◌, ◌-◌, ◌<◌, ◌≤◌, List, [], ◌∷◌, ◌++◌, length, get_or, take, drop, replicate, min, max, refl, sym, ap, ◌∙◌, arith, inl, inr, slice_range}
-use Rattle.std.proofs.lemmas.List.{length-append, length-replicate, length-take, length-drop, take_all, take-append-le, take-append-drop, get_or_append_left, get_or-append_right, get_or-take, get_or-replicate, get_or_past, get_or_default, same_lists}
-use Rattle.std.proofs.lemmas.Bool.{cases_lt}
+use Rattle.pool_pages.proofs.Imports.{length-append, length-replicate, length-take, length-drop, take_all, take-append-le, take-append-drop, get_or_append_left, get_or-append_right, get_or-take, get_or-replicate, get_or_past, get_or_default, same_lists, cases_lt}
 use Rattle.pool_pages.specs.Contents.{put, put_all}
 use Rattle.pool_pages.specs.Dense.{with_zeros, IsPrefix}
 use Rattle.pool_pages.proofs.Puts.{length-put, get_or-put_below, get_or-put_in, get_or-put_above, length-range, get_or-range, put-put}

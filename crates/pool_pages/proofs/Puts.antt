@@ -1,9 +1,7 @@
 -- Lists with others put into them, and ranges of lists: elements, lengths, and what a range shows of a change.
 use Rattle.std.proofs.Common.{◌≡◌, ℕ, ◌+◌, ◌-◌, ◌*◌, ◌/◌, ◌%◌, ◌<◌, ◌≤◌, List, [], ◌++◌, length, get_or, take, drop, refl, sym, ap, ◌∙◌, arith, inl, inr, slice_range}
-use Rattle.std.proofs.lemmas.List.{length-take, length-drop, length-append, length-take-le, take-append-drop, get_or_append_left, get_or-append_right, get_or-take, get_or-drop, same_lists, take_all}
-use Rattle.std.proofs.lemmas.Bool.{cases_lt}
+use Rattle.pool_pages.proofs.Imports.{length-take, length-drop, length-append, length-take-le, take-append-drop, get_or_append_left, get_or-append_right, get_or-take, get_or-drop, same_lists, take_all, cases_lt, page_of, page_within}
 use Rattle.pool_pages.specs.Contents.{put}
-use Rattle.pool_pages.proofs.Multiples.{page_of, page_within}
 
 module _ {X : Type 0} where
   pub length-put : (i : ℕ) (ys xs : List X) → i + length ys ≤ length xs → length (put i ys xs) ≡ length xs

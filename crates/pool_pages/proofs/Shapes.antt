@@ -1,7 +1,6 @@
 -- What each call leaves of a region is the columns of a region again.
 use Rattle.std.proofs.Common.{◌≡◌, ℕ, ◌+◌, ◌-◌, ◌*◌, ◌/◌, ◌%◌, ◌<◌, ◌≤◌, ◌⊎◌, Bool, true, false, List, [], length, get_or, replicate, refl, sym, ap, ◌∙◌, arith, inl, inr, slice_range}
-use Rattle.std.proofs.lemmas.List.{length-replicate, get_or-replicate, nil_from_length}
-use Rattle.std.proofs.lemmas.Bool.{cases_lt, cases_eq}
+use Rattle.pool_pages.proofs.Imports.{length-replicate, get_or-replicate, nil_from_length, cases_lt, cases_eq}
 use Rattle.pool_pages.specs.Contents.{Contents, put, put_all, touched, decommitted, written, page_bytes, page_origin, IsShaped}
 use Rattle.pool_pages.proofs.PageNumbers.{page_before, page_from, page_above, page_inside, marks_fit, touched_fit, touched_above}
 use Rattle.pool_pages.proofs.Puts.{length-put, get_or-put_below, get_or-put_in, get_or-put_above, length-range, range-put_below, range-put_above, range-put_in, put_empty, put_range}

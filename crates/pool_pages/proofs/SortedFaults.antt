@@ -1,13 +1,6 @@
 -- What a list of faults lists for a region or a module is among its entries of that number.
 use Rattle.std.proofs.Common.{◌≡◌, ℕ, ◌+◌, ◌-◌, ◌<◌, ◌≤◌, Bool, true, false, not, ◌&&◌, ◌||◌, ◌==◌, List, [], ◌∷◌, ◌++◌, length, get_or, take, drop, suc, Option, Some, None, refl, sym, ap, ◌∙◌, arith, slice_range, ltb, leb, if◌then◌else◌}
-use Rattle.std.proofs.lemmas.List.{length-take, length-drop, get_or-take, get_or-drop, take-append-drop, append-nil}
-use Rattle.std.proofs.lemmas.List.Elements.{filter-append, filter_agree}
-use Rattle.std.proofs.lemmas.Bool.{ne_eqb, ltb-true, leb-false}
-use Rattle.std.proofs.lemmas.Bool.Decides.{nat_tests}
-use Rattle.std.specs.Ordering.{nat_cmp, is_lt}
-use Rattle.std.specs.List.{filter, filter_map, cons_option, list_any}
-use Rattle.std.specs.List.Sorted.{IsStableByKey}
-use Rattle.std.specs.Option.{option_and_then, option_map_or}
+use Rattle.pool_pages.proofs.Imports.{length-take, length-drop, get_or-take, get_or-drop, take-append-drop, append-nil, filter-append, filter_agree, ne_eqb, ltb-true, leb-false, nat_tests, nat_cmp, is_lt, filter, filter_map, cons_option, list_any, IsStableByKey, option_and_then, option_map_or}
 use Rattle.pool_pages.specs.FaultPlans.{planned_as, planned_call, plans_images}
 use Rattle.pool_pages.specs.MakerTold.{on_images, call_of, is_of_images}
 use Rattle.pool_pages.specs.SortedFaults.{has_number, number_of}

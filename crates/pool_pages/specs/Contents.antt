@@ -23,14 +23,15 @@ put_all i n x xs = put i (replicate n x) xs
 abbrev pub touched : ℕ → ℕ → ℕ → ℕ
 touched page start n = if n == 0 then 0 else (start + n - 1) / page + 1 - start / page
 
--- the pages can be reached, or not
+-- The pages of a range can be reached; their bytes stay.
 abbrev pub exposed : ℕ → ℕ → Contents → Contents
 exposed start len c = record c { accessible = put_all (start / c.page) (len / c.page) true c.accessible }
 
+-- The pages of a range can no longer be reached; their bytes stay.
 abbrev pub hidden : ℕ → ℕ → Contents → Contents
 hidden start len c = record c { accessible = put_all (start / c.page) (len / c.page) false c.accessible }
 
--- the pages can be reached, have no colour, and hold the image, which they go back to
+-- The pages can be reached, are clean and without colour, and hold the image, which becomes their origin.
 abbrev pub image_mapped : ℕ → List ℕ → Contents → Contents
 image_mapped start image c = record c {
   bytes = put start image c.bytes;
@@ -40,7 +41,8 @@ image_mapped start image c = record c {
   colour = put_all (start / c.page) (length image / c.page) 0 c.colour;
 }
 
--- the same where pages go back to zeros: the image is as if it had been written
+-- Where pages go back to zeros the image is as if it had been written: the origin stays, and the pages are dirty,
+-- without colour and within reach.
 abbrev pub image_copied : ℕ → List ℕ → Contents → Contents
 image_copied start image c = record c {
   bytes = put start image c.bytes;
@@ -49,7 +51,7 @@ image_copied start image c = record c {
   colour = put_all (start / c.page) (length image / c.page) 0 c.colour;
 }
 
--- the pages can't be reached, have no colour, and hold zeros, which they go back to
+-- The pages can't be reached, are clean and without colour, and hold zeros, which become their origin.
 abbrev pub erased : ℕ → ℕ → Contents → Contents
 erased start len c = record c {
   bytes = put_all start len 0 c.bytes;
@@ -59,7 +61,7 @@ erased start len c = record c {
   colour = put_all (start / c.page) (len / c.page) 0 c.colour;
 }
 
--- the same, but that the pages can be reached
+-- The pages can be reached, are clean and without colour, and hold zeros, which become their origin.
 abbrev pub remapped : ℕ → ℕ → Contents → Contents
 remapped start len c = record (erased start len c) { accessible = put_all (start / c.page) (len / c.page) true c.accessible }
 
@@ -67,28 +69,30 @@ remapped start len c = record (erased start len c) { accessible = put_all (start
 abbrev pub recoloured : ℕ → ℕ → ℕ → Contents → Contents
 recoloured start len colour c = record c { colour = put_all (start / c.page) (len / c.page) colour c.colour }
 
--- the pages hold what they go back to
+-- The pages hold their origin and are clean.
 abbrev pub decommitted : ℕ → ℕ → Contents → Contents
 decommitted start len c = record c {
   bytes = put start (slice_range c.origin start (start + len)) c.bytes;
   dirty = put_all (start / c.page) (len / c.page) false c.dirty;
 }
 
--- the bytes are written
+-- The bytes are written, and each page that they touch is dirty.
 abbrev pub written : ℕ → List ℕ → Contents → Contents
 written start new c = record c {
   bytes = put start new c.bytes;
   dirty = put_all (start / c.page) (touched c.page start (length new)) true c.dirty;
 }
 
--- the bytes of a range are set to what they go back to, as a write sets them
+-- The bytes of a range are set to their origin as by a write: touched pages are dirty, and no page call is made or
+-- counted.
 abbrev pub put_back : ℕ → ℕ → Contents → Contents
 put_back start len c = written start (slice_range c.origin start (start + len)) c
 
--- the bytes of page k, and what it goes back to
+-- The bytes of page k.
 abbrev pub page_bytes : ℕ → Contents → List ℕ
 page_bytes k c = slice_range c.bytes (k * c.page) (k * c.page + c.page)
 
+-- What page k goes back to when it is decommitted: its part of the long column of origins.
 abbrev pub page_origin : ℕ → Contents → List ℕ
 page_origin k c = slice_range c.origin (k * c.page) (k * c.page + c.page)
 
@@ -115,6 +119,7 @@ pub record Page : Type 0 where
   pub dirty : Bool
   pub colour : ℕ
 
+-- All that page k is: a page outside the region counts as out of reach and dirty, with colour 0.
 abbrev pub page_at : ℕ → Contents → Page
 page_at k c = record {
   accessible = slice_index_or c.accessible k false;

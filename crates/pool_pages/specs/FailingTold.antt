@@ -1,13 +1,15 @@
 -- What a region tells before which a list of calls stands that fail.
 use Rattle.std.specs.Prelude.{◌≡◌, ℕ, ◌<◌, ◌≤◌, List, [], ◌∷◌, Bool, false, not, ◌==◌, ◌||◌, if◌then◌else◌}
 use Rattle.std.specs.List.{list_any}
-use Rattle.pool_pages.specs.Told.{Told, risen, joined_plan}
+use Rattle.pool_pages.specs.Told.{Told, joined_plan}
+use Rattle.pool_types.specs.Rising.{risen}
 use Rattle.pool_pages.specs.MakerTold.{no_calls}
 use Rattle.pool_pages.specs.declared.pages.PageCalls.{PageCalls}
 use Rattle.pool_pages.specs.declared.call_counts.CallCounts.{CallCounts}
 use Rattle.pool_pages.specs.declared.call_counts.CallKind.{CallKind}
 use Rattle.pool_pages.specs.declared.call_counts.CallKind.TheVariants.{Expose, Hide, MapImage, RemapZeros, Erase, Recolour, Decommit}
 
+-- What a list of failures has counted before the first call: nothing.
 abbrev pub no_counts : CallCounts
 no_counts = record { made = 0; calls = no_calls; faults = 0 }
 

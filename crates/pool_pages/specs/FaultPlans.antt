@@ -18,9 +18,11 @@ planned_as Stack slot call = Some (on_region (of_stack slot) call)
 planned_as OnDemand slot call = Some (on_region (of_on_demand slot) call)
 planned_as Image slot call = if call == 0 then Some (on_images slot) else None
 
+-- What one entry of an input's list of faults plans, if its kind can be planned.
 abbrev pub planned_of : Fault → Option Planned
 planned_of fault = planned_as fault.kind fault.slot fault.call
 
+-- All that an input's list of faults plans, in the list's order.
 abbrev pub planned_faults : List Fault → List Planned
 planned_faults faults = filter_map planned_of faults
 

@@ -1,11 +1,5 @@
-pub mod Breakdown
-pub mod ByteCountTexts
 pub mod CallSums
-pub mod Config
-pub mod ConfigLimits
-pub mod ConfigTexts
 pub mod Contents
-pub mod Count
 pub mod Dense
 pub mod FailingTold
 pub mod FaultPlans
@@ -14,10 +8,6 @@ pub mod MadeRegions
 pub mod MakeFaults
 pub mod MakerTold
 pub mod MemoryTold
-pub mod MemoryTypes
-pub mod Numerals
 pub mod PageLaws
-pub mod SettingsRules
 pub mod SortedFaults
 pub mod Told
-pub mod UnsupportedTexts

@@ -3,6 +3,7 @@ use Rattle.pool_pages.specs.Told.{Told}
 use Rattle.pool_pages.specs.declared.made_region.MadeRegion.{MadeRegion}
 use Rattle.pool_pages.specs.declared.made_region.MadeRegion.TheVariants.{Memory, Zeroing}
 
+-- What a region in memory tells, whichever of the two behaviours it has.
 abbrev pub made_told : MadeRegion → Told
 made_told (Memory region) = region
 made_told (Zeroing region) = region

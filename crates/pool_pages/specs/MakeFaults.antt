@@ -1,6 +1,6 @@
 -- What a failed making does to the count of faults.
 use Rattle.std.specs.Prelude.{◌≡◌, ℕ, Bool, true, false}
-use Rattle.pool_pages.specs.Told.{Rose}
+use Rattle.pool_types.specs.Rising.{Rose}
 use Rattle.pool_pages.specs.declared.maker.MakeFault.{MakeFault}
 use Rattle.pool_pages.specs.declared.maker.MakeFault.TheVariants.{Memory, PageFault}
 

@@ -1,13 +1,13 @@
 -- What a maker of regions tells of itself, and the regions that it makes.
 use Rattle.std.specs.Prelude.{ℕ, ◌+◌, ◌-◌, ◌^◌, ◌/◌, ◌==◌, List, [], ◌∷◌, ◌++◌, fold, min, replicate, Bool, true, false, if◌then◌else◌, Option, Some, None}
 use Rattle.std.specs.List.{list_any, filter_map}
-use Rattle.pool_pages.specs.Count.{Count}
+use Rattle.pool_types.specs.Count.{Count}
 use Rattle.pool_pages.specs.Contents.{Contents}
 use Rattle.pool_pages.specs.Told.{Told, joined_plan}
 use Rattle.pool_pages.specs.declared.pages.PageCalls.{PageCalls}
 use Rattle.pool_pages.specs.declared.pages.RegionName.{RegionName}
 use Rattle.pool_pages.specs.declared.pages.RegionName.TheVariants.{Memory, Table, Stack, OnDemand}
-use Rattle.pool_pages.specs.declared.pages.DecommitBehavior.{DecommitBehavior}
+use Rattle.pool_types.specs.declared.decommit_behavior.DecommitBehavior.{DecommitBehavior}
 
 -- a call that fails: call n on a region, its making being call 0, or each making of an image of a module
 pub data Planned : Type 0 where
@@ -28,7 +28,7 @@ pub record MakerTold : Type 0 where
   pub next : ℕ
   pub faults : ℕ
 
--- the names are one
+-- The two names are of one region.
 abbrev pub same_name : RegionName → RegionName → Bool
 same_name (Memory m) (Memory n) = m == n
 same_name (Table m) (Table n) = m == n
@@ -50,11 +50,13 @@ abbrev pub layered_plan : RegionName → List (List Planned) → Option (List �
 layered_plan name [] = None
 layered_plan name (last ∷ before) = fold (λ plan layer. joined_plan plan (calls_of name layer)) (Some (calls_of name last)) before
 
--- the same: its part of the maker's plan, where that is told
+-- What a region of this name tells of its calls that fail: its part of the maker's plan where that is told, else of the
+-- plans behind one another.
 abbrev pub part_of : RegionName → Option (List Planned) → List (List Planned) → Option (List ℕ)
 part_of name (Some plan) layers = Some (calls_of name plan)
 part_of name None layers = layered_plan name layers
 
+-- The numbers of the calls that fail on the region of this name, where the maker tells its plan.
 abbrev pub plan_for : RegionName → MakerTold → Option (List ℕ)
 plan_for name maker = part_of name maker.plan maker.layers
 
@@ -86,7 +88,7 @@ fresh page accessible len = record {
   colour = replicate (len / page) 0;
 }
 
--- a region as made
+-- What a region tells as it is made: zeros, so much within reach, no calls, and its part of the maker's plan.
 abbrev pub made_region : RegionName → DecommitBehavior → Count → Count → MakerTold → Told
 made_region name behaviour accessible len maker = record {
   name = name;

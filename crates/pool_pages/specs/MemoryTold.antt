@@ -5,7 +5,7 @@ use Rattle.pool_pages.specs.Told.{Told}
 use Rattle.pool_pages.specs.MakerTold.{MakerTold}
 use Rattle.pool_pages.specs.declared.pages.PageCalls.{PageCalls}
 use Rattle.pool_pages.specs.declared.pages.RegionName.{RegionName}
-use Rattle.pool_pages.specs.declared.pages.DecommitBehavior.{DecommitBehavior}
+use Rattle.pool_types.specs.declared.decommit_behavior.DecommitBehavior.{DecommitBehavior}
 
 -- a region in memory: `made` calls were made on it so far
 abbrev pub memory_told : RegionName → DecommitBehavior → Contents → PageCalls → ℕ → Told

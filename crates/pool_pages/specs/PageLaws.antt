@@ -19,27 +19,35 @@ pub record ChangesExactly (start len : ℕ) (f : ℕ → Page → Page) (old new
 abbrev pub image_part : ℕ → List ℕ → ℕ → ℕ → List ℕ
 image_part start image page k = slice_range image (k * page - start) (k * page - start + page)
 
+-- Exposing a range makes each of its pages reachable and changes nothing else.
 abbrev pub ExposeChangesItsPages : Type 0
 ExposeChangesItsPages = (n start len : ℕ) (c : Contents) → IsPages n start len c → ChangesExactly start len (λ k p. record p { accessible = true }) c (exposed start len c)
 
+-- Hiding a range makes each of its pages unreachable and changes nothing else.
 abbrev pub HideChangesItsPages : Type 0
 HideChangesItsPages = (n start len : ℕ) (c : Contents) → IsPages n start len c → ChangesExactly start len (λ k p. record p { accessible = false }) c (hidden start len c)
 
+-- Mapping an image gives each page its part of the image as bytes and as origin: reachable, clean, without colour.
 abbrev pub MapChangesItsPages : Type 0
 MapChangesItsPages = (n start : ℕ) (image : List ℕ) (c : Contents) → IsPages n start (length image) c → ChangesExactly start (length image) (λ k p. record { accessible = true; bytes = image_part start image c.page k; origin = image_part start image c.page k; dirty = false; colour = 0 }) c (image_mapped start image c)
 
+-- Copying an image gives each page its part of the image as bytes alone: the origin stays, and the page is dirty.
 abbrev pub CopyChangesItsPages : Type 0
 CopyChangesItsPages = (n start : ℕ) (image : List ℕ) (c : Contents) → IsPages n start (length image) c → ChangesExactly start (length image) (λ k p. record { accessible = true; bytes = image_part start image c.page k; origin = p.origin; dirty = true; colour = 0 }) c (image_copied start image c)
 
+-- Erasing a range leaves zeros as bytes and as origin in each page, clean, without colour and out of reach.
 abbrev pub EraseChangesItsPages : Type 0
 EraseChangesItsPages = (n start len : ℕ) (c : Contents) → IsPages n start len c → ChangesExactly start len (λ k p. record { accessible = false; bytes = replicate c.page 0; origin = replicate c.page 0; dirty = false; colour = 0 }) c (erased start len c)
 
+-- Remapping a range leaves zeros as bytes and as origin in each page, clean, without colour and reachable.
 abbrev pub RemapChangesItsPages : Type 0
 RemapChangesItsPages = (n start len : ℕ) (c : Contents) → IsPages n start len c → ChangesExactly start len (λ k p. record { accessible = true; bytes = replicate c.page 0; origin = replicate c.page 0; dirty = false; colour = 0 }) c (remapped start len c)
 
+-- Recolouring a range gives each of its pages the colour and changes nothing else.
 abbrev pub RecolourChangesItsPages : Type 0
 RecolourChangesItsPages = (n start len colour : ℕ) (c : Contents) → IsPages n start len c → ChangesExactly start len (λ k p. record p { colour = colour }) c (recoloured start len colour c)
 
+-- Decommitting a range sets each of its pages back to its origin, clean, and changes nothing else.
 abbrev pub DecommitChangesItsPages : Type 0
 DecommitChangesItsPages = (n start len : ℕ) (c : Contents) → IsPages n start len c → ChangesExactly start len (λ k p. record p { bytes = p.origin; dirty = false }) c (decommitted start len c)
 
@@ -61,6 +69,7 @@ pub record WritesExactly (start : ℕ) (new : List ℕ) (old after : Contents) :
   pub within : (k : ℕ) → IsTouched start (length new) old.page k → page_at k after ≡ page_written start new old.page k (page_at k old)
   pub others : (k : ℕ) → k < length old.accessible → (IsTouched start (length new) old.page k → ⊥) → page_at k after ≡ page_at k old
 
+-- A write inside the region changes only the pages that it touches, which become dirty.
 abbrev pub WriteChangesItsPages : Type 0
 WriteChangesItsPages = (n start : ℕ) (new : List ℕ) (c : Contents) → 0 < c.page → IsShaped c.page n c → start + length new ≤ n → WritesExactly start new c (written start new c)
 
@@ -76,5 +85,6 @@ pub record RestoresExactly (start len : ℕ) (old after : Contents) : Type 0 whe
   pub within : (k : ℕ) → IsTouched start len old.page k → page_at k after ≡ page_put_back start len old.page k (page_at k old)
   pub others : (k : ℕ) → k < length old.accessible → (IsTouched start len old.page k → ⊥) → page_at k after ≡ page_at k old
 
+-- Putting bytes back to their origin changes only the pages that it touches, which become dirty.
 abbrev pub RestoreChangesItsPages : Type 0
 RestoreChangesItsPages = (n start len : ℕ) (c : Contents) → 0 < c.page → IsShaped c.page n c → start + len ≤ n → RestoresExactly start len c (put_back start len c)

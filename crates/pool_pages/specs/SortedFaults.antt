@@ -10,6 +10,7 @@ use Rattle.pool_pages.specs.declared.fault_plan.Fault.{Fault}
 abbrev pub has_number : ℕ → Fault → Bool
 has_number number fault = number == fault.slot
 
+-- The number of a region within its kind.
 abbrev pub number_of : RegionName → ℕ
 number_of (Memory n) = n
 number_of (Table n) = n

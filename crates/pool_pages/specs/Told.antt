@@ -1,12 +1,13 @@
 -- What a region tells of itself, and what a call does to that.
-use Rattle.std.specs.Prelude.{◌≡◌, ℕ, ◌+◌, ◌-◌, ◌^◌, ◌<◌, ◌≤◌, ◌⊎◌, ◌==◌, ◌||◌, List, [], ◌∷◌, length, min, Bool, not, if◌then◌else◌, Option, Some, None, IsSome, IfSome, option_map}
+use Rattle.std.specs.Prelude.{◌≡◌, ℕ, ◌+◌, ◌-◌, ◌<◌, ◌≤◌, ◌⊎◌, ◌==◌, ◌||◌, List, [], ◌∷◌, length, Bool, not, if◌then◌else◌, Option, Some, None, IsSome, IfSome, option_map}
 use Rattle.std.specs.List.{list_any}
-use Rattle.pool_pages.specs.Count.{Count}
+use Rattle.pool_types.specs.Count.{Count}
 use Rattle.pool_pages.specs.Contents.{Contents, IsShaped, page_at, IsIn, exposed, hidden, image_mapped, image_copied, erased, remapped, recoloured, decommitted, written, put_back}
 use Rattle.pool_pages.specs.declared.pages.PageCalls.{PageCalls}
 use Rattle.pool_pages.specs.declared.pages.RegionName.{RegionName}
-use Rattle.pool_pages.specs.declared.pages.DecommitBehavior.{DecommitBehavior}
-use Rattle.pool_pages.specs.declared.pages.DecommitBehavior.TheVariants.{Zero, RestoreOriginalMapping}
+use Rattle.pool_types.specs.declared.decommit_behavior.DecommitBehavior.{DecommitBehavior}
+use Rattle.pool_types.specs.declared.decommit_behavior.DecommitBehavior.TheVariants.{Zero, RestoreOriginalMapping}
+use Rattle.pool_types.specs.Rising.{risen, Rose}
 
 -- Its name, page, length in bytes and behaviour. What it holds, and the numbers of its calls that fail, where it
 -- tells them. How many calls it was asked for so far, how many of each kind, and how often one failed.
@@ -21,14 +22,6 @@ pub record Told : Type 0 where
   pub calls : PageCalls
   pub faults : ℕ
 
--- one more, for a count that stands still at the end of its type
-abbrev pub risen : ℕ → ℕ
-risen n = min (n + 1) (2 ^ 64 - 1)
-
--- the count rose, or stands at the end of its type
-abbrev pub Rose : ℕ → ℕ → Type 0
-Rose old new = risen old ≤ new
-
 -- a call on a range of pages: which count it raises, and what it changes
 pub record PageCall : Type 0 where
   pub start : ℕ
@@ -36,6 +29,7 @@ pub record PageCall : Type 0 where
   pub raise : PageCalls → PageCalls
   pub change : Contents → Contents
 
+-- The call that makes pages reachable.
 abbrev pub exposing : ℕ → ℕ → PageCall
 exposing start len = record {
   start = start;
@@ -44,6 +38,7 @@ exposing start len = record {
   change = exposed start len;
 }
 
+-- The call that makes pages unreachable.
 abbrev pub hiding : ℕ → ℕ → PageCall
 hiding start len = record {
   start = start;
@@ -57,6 +52,7 @@ abbrev pub mapped : DecommitBehavior → ℕ → List ℕ → Contents → Conte
 mapped RestoreOriginalMapping start image c = image_mapped start image c
 mapped Zero start image c = image_copied start image c
 
+-- The call that maps an image, or copies it where regions go back to zeros.
 abbrev pub mapping : DecommitBehavior → ℕ → List ℕ → PageCall
 mapping behaviour start image = record {
   start = start;
@@ -65,6 +61,7 @@ mapping behaviour start image = record {
   change = mapped behaviour start image;
 }
 
+-- The call that leaves zeros which can't be reached.
 abbrev pub erasing : ℕ → ℕ → PageCall
 erasing start len = record {
   start = start;
@@ -73,6 +70,7 @@ erasing start len = record {
   change = erased start len;
 }
 
+-- The call that leaves zeros which can be reached.
 abbrev pub remapping : ℕ → ℕ → PageCall
 remapping start len = record {
   start = start;
@@ -81,6 +79,7 @@ remapping start len = record {
   change = remapped start len;
 }
 
+-- The call that gives pages the colour of a protection key.
 abbrev pub recolouring : ℕ → ℕ → ℕ → PageCall
 recolouring start len colour = record {
   start = start;
@@ -89,6 +88,7 @@ recolouring start len colour = record {
   change = recoloured start len colour;
 }
 
+-- The call that sets pages back to their origin.
 abbrev pub decommitting : ℕ → ℕ → PageCall
 decommitting start len = record {
   start = start;

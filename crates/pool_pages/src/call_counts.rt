@@ -1,5 +1,5 @@
 ghost use Rattle.std.specs.Prelude.{◌≡◌};
-ghost use Rattle.pool_pages.specs.Told.{risen};
+ghost use Rattle.pool_types.specs.Rising.{risen};
 ghost use Rattle.pool_pages.specs.CallSums.{added};
 ghost use Rattle.pool_pages.specs.MakerTold.{no_calls};
 ghost use Rattle.pool_pages.specs.FailingTold.{no_counts, one_more_call, counts_after_call};

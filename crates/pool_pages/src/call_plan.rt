@@ -2,7 +2,7 @@ ghost use Rattle.std.specs.Prelude.{◌≡◌, ◌==◌, ℕ, ◌<◌, ◌≤◌
 ghost use Rattle.std.specs.List.{list_any};
 ghost use Rattle.pool_pages.specs.FailingTold.{HasNone};
 
-use crate::plain_list::PlainList;
+use pool_types::PlainList;
 use std::marker::Model;
 
 /// The numbers of a region's calls that fail, and the next of them: until a call reaches it, the list isn't

@@ -1,12 +1,12 @@
 ghost use Rattle.std.specs.Prelude.{◌≡◌, ℕ, ◌+◌, ◌-◌, ◌*◌, ◌/◌, ◌%◌, ◌^◌, ◌<◌, ◌≤◌, List, length, replicate, slice_range, slice_index_or, slice_set, true, false, IfOk, Bool, IsTrue, ◌↔◌};
 ghost use Rattle.pool_pages.specs.Contents.{IsShaped, put, put_all, touched, image_mapped, image_copied, erased, remapped, recoloured, decommitted, written, put_back};
 ghost use Rattle.pool_pages.specs.Dense.{zeroed};
-ghost use Rattle.pool_pages.specs.Count.{IsPageSize};
+ghost use Rattle.pool_types.specs.Count.{IsPageSize};
 ghost use Rattle.pool_pages.specs.MakerTold.{fresh};
 
-use crate::byte_count::PageSize;
 use crate::column::Column;
 use crate::column_edits::{fill_range, set_marks};
+use pool_types::PageSize;
 use std::alloc::{AllocError, Global};
 use std::marker::Model;
 

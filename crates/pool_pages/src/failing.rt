@@ -2,12 +2,11 @@ ghost use Rattle.std.specs.Prelude.{◌≡◌};
 ghost use Rattle.pool_pages.specs.Told.{TellsShaped};
 ghost use Rattle.pool_pages.specs.FailingTold.{failing_told, lets_through, no_counts, counts_after_call};
 
-use crate::byte_count::{HostAlignedByteCount, PageSize};
 use crate::call_counts::{CallCounts, CallKind, risen};
 use crate::call_plan::CallPlan;
 use crate::image_data::ImageData;
-use crate::pages::{DecommitBehavior, PageCalls, PageFault, Pages, RegionName};
-use crate::plain_list::PlainList;
+use crate::pages::{PageCalls, PageFault, Pages, RegionName};
+use pool_types::{DecommitBehavior, HostAlignedByteCount, PageSize, PlainList};
 
 /// A region with a list of the numbers of its calls that fail.
 ///

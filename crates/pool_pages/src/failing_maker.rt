@@ -2,13 +2,13 @@ ghost use Rattle.std.specs.Prelude.{◌≡◌, ◌==◌};
 ghost use Rattle.std.specs.List.{list_any};
 ghost use Rattle.pool_pages.specs.FaultPlans.{failing_maker, planned_faults};
 
-use crate::byte_count::{HostAlignedByteCount, PageSize};
 use crate::call_counts::risen;
 use crate::failing::Failing;
 use crate::fault_index::FaultIndex;
 use crate::fault_plan::Fault;
 use crate::maker::{MakeFault, PageMaker, next_after};
-use crate::pages::{DecommitBehavior, RegionName};
+use crate::pages::RegionName;
+use pool_types::{DecommitBehavior, HostAlignedByteCount, PageSize};
 use std::alloc::Global;
 
 /// A maker with a list of the makings, and of the calls on its regions, that fail.

@@ -6,7 +6,7 @@ ghost use Rattle.pool_pages.specs.SortedFaults.{IsByNumber, has_number, number_o
 
 use crate::fault_plan::{Fault, calls_on, lists_images};
 use crate::pages::RegionName;
-use crate::plain_list::PlainList;
+use pool_types::PlainList;
 use std::alloc::{AllocError, Global};
 use std::marker::Model;
 

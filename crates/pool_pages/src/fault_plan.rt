@@ -3,7 +3,7 @@ ghost use Rattle.std.specs.List.{filter_map, list_any};
 ghost use Rattle.pool_pages.specs.FaultPlans.{planned_call, plans_images};
 
 use crate::pages::RegionName;
-use crate::plain_list::PlainList;
+use pool_types::PlainList;
 use std::alloc::{AllocError, Global};
 
 /// What a planned failure is on: regions of a kind, or the images of a module.

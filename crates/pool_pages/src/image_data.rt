@@ -1,8 +1,7 @@
 ghost use Rattle.std.specs.Prelude.{◌≡◌, ℕ, ◌%◌, List, length};
 ghost use Rattle.pool_pages.specs.ImageBytes.{ImageBytes};
 
-use crate::byte_count::PageSize;
-use crate::plain_list::ByteList;
+use pool_types::{ByteList, PageSize};
 use std::marker::Model;
 
 /// The bytes of an image, a whole number of pages long.

@@ -1,45 +1,46 @@
-//! Pages, byte counts and the types of a module: what every layer of the pool stands on.
+//! Regions of pages, and what makes them: the line between the pool and the system.
+//!
+//! Read the trait `Pages` first: a region whose pages are exposed, hidden, mapped, erased and decommitted by calls that
+//! may fail. Then `PageMaker`, which makes regions, and the backing of images (`ImageData`). `MemoryPages` makes
+//! regions in memory, each a `MadeRegion` of one of two behaviours: a decommit brings the image back (`MemoryRegion`),
+//! or zeros (`ZeroingRegion`). `FailingMaker` and `Failing` put a list of planned failures (`Fault`) before another
+//! maker or region.
+//!
+//! From Wasmtime: `vm/mmap.rs`. It stands on `pool_types` alone, and doesn't know what a region is for.
+//!
+//! ```rust
+//! let mut maker = MemoryPages::new(page);
+//! let mut region = maker.make(alloc, RegionName::Memory(0), behaviour, accessible, len)?;
+//! region.expose(start, size)?;
+//! ```
 #![tactic(auto)]
 
-mod bad_config;
-mod breakdown;
-mod byte_count;
-mod byte_count_errors;
-mod byte_count_forms;
+// What a region is
+mod page_laws;
+mod pages;
+mod region;
+
+// What makes regions, and images
+mod image_data;
+mod maker;
+mod memory_pages;
+
+// Regions in memory
 mod call_counts;
-mod call_plan;
 mod column;
 mod column_edits;
-mod config;
 mod dense_pages;
+mod made_region;
+mod memory_region;
+mod zeroing_region;
+
+// Planned failures
+mod call_plan;
 mod failing;
 mod failing_maker;
 mod fault_index;
 mod fault_plan;
-mod greatest_values;
-mod image_data;
-mod made_region;
-mod maker;
-mod memory_pages;
-mod memory_region;
-mod module_types;
-mod numerals;
-mod offered;
-mod page_laws;
-mod pages;
-mod plain_list;
-mod region;
-mod settings_rules;
-mod table_type;
-mod text;
-mod unsupported;
-mod zeroing_region;
 
-pub use bad_config::{BadConfig, ConfigField, PairedTunable};
-pub use byte_count::{HostAlignedByteCount, PageSize};
-pub use byte_count_errors::{ByteCountNotAligned, ByteCountOutOfBounds};
-pub use byte_count_forms::{CompareBytes, byte_counts_agree};
-pub use config::{Enabled, InstanceLimits, PoolingAllocationConfig};
 pub use failing::Failing;
 pub use failing_maker::FailingMaker;
 pub use fault_plan::{Fault, FaultKind};
@@ -48,16 +49,7 @@ pub use made_region::MadeRegion;
 pub use maker::{MakeFault, PageMaker};
 pub use memory_pages::MemoryPages;
 pub use memory_region::MemoryRegion;
-pub use module_types::{
-    CompiledModuleId, ComponentInfo, DefinedMemoryIndex, DefinedTableIndex, ImageDecl, IndexType,
-    Limits, MemoryDecl, MemoryKind, MemoryTunables, MemoryType, ModuleInfo, Part, Tunables,
-};
-pub use offered::Offered;
 pub use page_laws::calls_change_their_pages;
-pub use pages::{DecommitBehavior, PageCalls, PageFault, Pages, RegionName};
-pub use plain_list::{ByteList, PlainList};
+pub use pages::{PageCalls, PageFault, Pages, RegionName};
 pub use region::PageRegion;
-pub use table_type::{TableElementType, TableType};
-pub use text::Text;
-pub use unsupported::Unsupported;
 pub use zeroing_region::ZeroingRegion;

@@ -1,10 +1,10 @@
 ghost use Rattle.pool_pages.specs.MadeRegions.{made_told};
 
-use crate::byte_count::{HostAlignedByteCount, PageSize};
 use crate::image_data::ImageData;
 use crate::memory_region::MemoryRegion;
-use crate::pages::{DecommitBehavior, PageCalls, PageFault, Pages, RegionName};
+use crate::pages::{PageCalls, PageFault, Pages, RegionName};
 use crate::zeroing_region::ZeroingRegion;
+use pool_types::{DecommitBehavior, HostAlignedByteCount, PageSize};
 
 /// A region in memory of either behaviour.
 #[derive(Drop)]

@@ -3,8 +3,8 @@ ghost use Rattle.std.specs.Borrow.{GName};
 ghost use Rattle.pool_pages.specs.MakeFaults.{RaisesFaults, RaisesBehind};
 ghost use Rattle.pool_pages.specs.MakerTold.{MakerTold, made_region, next_after, fails_making, fails_images};
 
-use crate::byte_count::{HostAlignedByteCount, PageSize};
-use crate::pages::{DecommitBehavior, Pages, RegionName};
+use crate::pages::{Pages, RegionName};
+use pool_types::{DecommitBehavior, HostAlignedByteCount, PageSize};
 use std::alloc::Global;
 
 /// Why a region or an image can't be made.

@@ -3,13 +3,13 @@ ghost use Rattle.pool_pages.specs.MadeRegions.{made_told};
 ghost use Rattle.pool_pages.specs.MakerTold.{no_calls};
 ghost use Rattle.pool_pages.specs.MemoryTold.{memory_maker, memory_told};
 
-use crate::byte_count::{HostAlignedByteCount, PageSize};
 use crate::dense_pages::DensePages;
 use crate::made_region::MadeRegion;
 use crate::maker::{MakeFault, PageMaker, next_after};
 use crate::memory_region::MemoryRegion;
-use crate::pages::{DecommitBehavior, RegionName};
+use crate::pages::RegionName;
 use crate::zeroing_region::ZeroingRegion;
+use pool_types::{DecommitBehavior, HostAlignedByteCount, PageSize};
 use std::alloc::Global;
 use std::marker::Model;
 

@@ -2,13 +2,13 @@ ghost use Rattle.std.specs.Prelude.{◌≡◌, [], Some, length};
 ghost use Rattle.pool_pages.specs.Told.{IsRange, mapping, succeeded, zeroing, TellsShaped};
 ghost use Rattle.pool_pages.specs.MemoryTold.{memory_told};
 ghost use Rattle.pool_pages.specs.MakerTold.{no_calls};
-ghost use Rattle.pool_pages.specs.Count.{count};
+ghost use Rattle.pool_types.specs.Count.{count};
 
-use crate::byte_count::{HostAlignedByteCount, PageSize};
 use crate::call_counts::risen;
 use crate::dense_pages::DensePages;
 use crate::image_data::ImageData;
-use crate::pages::{DecommitBehavior, PageCalls, PageFault, Pages, RegionName};
+use crate::pages::{PageCalls, PageFault, Pages, RegionName};
+use pool_types::{DecommitBehavior, HostAlignedByteCount, PageSize};
 use std::marker::Model;
 
 /// A region in memory, which is taken when it is made: no call fails, and none takes memory.
@@ -26,7 +26,7 @@ pub struct MemoryRegion {
 impl Model for MemoryRegion {
     ghost use Rattle.pool_pages.specs.Told.{Told};
     ghost use Rattle.pool_pages.specs.MemoryTold.{memory_told};
-    ghost use Rattle.pool_pages.specs.declared.pages.DecommitBehavior.TheVariants.{RestoreOriginalMapping};
+    ghost use Rattle.pool_types.specs.declared.decommit_behavior.DecommitBehavior.TheVariants.{RestoreOriginalMapping};
 
     ghost Value = { Told };
 

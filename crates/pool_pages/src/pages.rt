@@ -1,10 +1,10 @@
 ghost use Rattle.std.specs.Prelude.{◌≡◌, ℕ, ◌+◌, ◌/◌, ◌<◌, ◌≤◌, true, List, length, replicate, slice_range, slice_index_or, is_ok, OnOk, OnErr, IfSome, IsTrue, ◌↔◌};
-ghost use Rattle.pool_pages.specs.Count.{count, IsPageSize};
+ghost use Rattle.pool_types.specs.Count.{count, IsPageSize};
 ghost use Rattle.pool_pages.specs.Contents.{CanReach, HasNoOtherImage};
 ghost use Rattle.pool_pages.specs.Told.{Told, IsRange, Faulted, succeeded, TellsShaped, overwritten, restored, passes, exposing, hiding, mapping, remapping, erasing, recolouring, decommitting};
 
-use crate::byte_count::{HostAlignedByteCount, PageSize};
 use crate::image_data::ImageData;
+use pool_types::{DecommitBehavior, HostAlignedByteCount, PageSize};
 
 /// What a region is for. The number is that of its slot, or of its making where it is made on demand.
 #[derive(Clone, Copy, Debug, PartialEq, Eq)]
@@ -13,13 +13,6 @@ pub enum RegionName {
     Table(u32),
     Stack(u32),
     OnDemand(u32),
-}
-
-/// What a decommit leaves on a page: zeros, or what its image has there.
-#[derive(Clone, Copy, Debug, PartialEq, Eq)]
-pub enum DecommitBehavior {
-    Zero,
-    RestoreOriginalMapping,
 }
 
 /// How many calls of each kind were made on a region, those that failed included. A count stands

@@ -1,11 +1,11 @@
 ghost use Rattle.std.specs.Prelude.{◌≡◌, ℕ, ◌+◌, ◌/◌, ◌<◌, ◌≤◌, true, List, length, replicate, slice_range, slice_index_or, is_ok, OnOk, OnErr, IfSome, IsTrue, ◌↔◌};
-ghost use Rattle.pool_pages.specs.Count.{count, IsPageSize};
+ghost use Rattle.pool_types.specs.Count.{count, IsPageSize};
 ghost use Rattle.pool_pages.specs.Contents.{CanReach, HasNoOtherImage};
 ghost use Rattle.pool_pages.specs.Told.{Told, IsRange, Faulted, succeeded, TellsShaped, overwritten, restored, passes, exposing, hiding, mapping, remapping, erasing, recolouring, decommitting};
 
-use crate::byte_count::{HostAlignedByteCount, PageSize};
 use crate::image_data::ImageData;
-use crate::pages::{DecommitBehavior, PageCalls, PageFault, Pages, RegionName};
+use crate::pages::{PageCalls, PageFault, Pages, RegionName};
+use pool_types::{DecommitBehavior, HostAlignedByteCount, PageSize};
 use std::marker::Model;
 
 /// A region as the layers above own it: contracts see it as what it tells, as plain data.

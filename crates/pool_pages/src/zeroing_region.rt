@@ -3,11 +3,11 @@ ghost use Rattle.pool_pages.specs.Told.{zeroing};
 ghost use Rattle.pool_pages.specs.MemoryTold.{memory_told};
 ghost use Rattle.pool_pages.specs.MakerTold.{no_calls};
 
-use crate::byte_count::{HostAlignedByteCount, PageSize};
 use crate::dense_pages::DensePages;
 use crate::image_data::ImageData;
 use crate::memory_region::MemoryRegion;
-use crate::pages::{DecommitBehavior, PageCalls, PageFault, Pages, RegionName};
+use crate::pages::{PageCalls, PageFault, Pages, RegionName};
+use pool_types::{DecommitBehavior, HostAlignedByteCount, PageSize};
 use std::marker::Model;
 
 /// A region in memory whose pages all go back to zeros: an image is as if it had been written, and a decommit

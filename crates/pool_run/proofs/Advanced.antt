@@ -1,27 +1,9 @@
 -- How far a turn takes a party: its call goes on, and has fewer steps left, or it ends, or the next one begins.
-use Rattle.std.proofs.Common.{◌≡◌, ℕ, ◌+◌, ◌<◌, ◌≤◌, Bool, true, false, List, length, get_or, Option, Some, None, refl, sym, ap, ◌∙◌, subst, inl, inr, arith}
-use Rattle.std.specs.Prelude.{◌&&◌, not, nat_lt, is_some, IfSome, slice_get, slice_set, slice_index_or}
-use Rattle.std.proofs.lemmas.Bool.{lt-ltb, le-ltb, cases_lt}
-use Rattle.std.proofs.lemmas.Option.{slice_get_within, slice_get-get_or}
-use Rattle.pool_pages.specs.MakerTold.{MakerTold}
-use Rattle.pool_index.specs.Shard.{one_if}
+use Rattle.std.proofs.Common.{◌≡◌, ℕ, ◌+◌, ◌<◌, ◌≤◌, Bool, true, false, List, length, get_or, Option, Some, None, refl, sym, ap, ◌∙◌, subst, inl, inr, arith, ◌&&◌, not, nat_lt, is_some, IfSome, slice_get, slice_set, slice_index_or}
+use Rattle.pool_run.proofs.Imports.{lt-ltb, le-ltb, cases_lt, slice_get_within, slice_get-get_or, MakerTold, one_if, ListedHeaps, PlainHeap, objects_in, bound_of, steps_left, IsIdle, begun_call, After, is_idle, PoolCore, Frame, Grant, ModuleAsked, Outcome, idle_left, at_rest, begun_bounded, ListedStore, stage_of}
 use Rattle.pool_slots.specs.declared.errors.AllocError.TheVariants as alloc
-use Rattle.pool_slots.specs.declared.listed_heaps.ListedHeaps.{ListedHeaps}
-use Rattle.pool_slots.specs.declared.listed_heaps.PlainHeap.{PlainHeap}
-use Rattle.pool_alloc.specs.Objects.{objects_in}
-use Rattle.pool_alloc.specs.Bounds.{bound_of, steps_left}
-use Rattle.pool_alloc.specs.Calls.{IsIdle, begun_call}
-use Rattle.pool_alloc.specs.Turns.{After}
-use Rattle.pool_alloc.specs.Stepping.{is_idle}
-use Rattle.pool_alloc.specs.declared.pool_core.PoolCore.{PoolCore}
 use Rattle.pool_alloc.specs.declared.frame.Call.TheVariants as call
-use Rattle.pool_alloc.specs.declared.frame.Frame.{Frame}
-use Rattle.pool_alloc.specs.declared.frame.Grant.{Grant}
-use Rattle.pool_alloc.specs.Asked.{ModuleAsked}
-use Rattle.pool_alloc.specs.declared.frame.Outcome.{Outcome}
 use Rattle.pool_alloc.specs.declared.frame.Outcome.TheVariants as answer
-use Rattle.pool_alloc.proofs.BegunCalls.{idle_left, at_rest, begun_bounded}
-use Rattle.pool_table.specs.declared.gc_store.ListedStore.{ListedStore}
 use Rattle.pool_run.specs.Rooms.{World}
 use Rattle.pool_run.specs.Progress.{begun_by, begins_by, bound_asked, bound_returned, bound_purged, bound_begun, bound_keyed, bound_by}
 use Rattle.pool_run.specs.Ties.{CanTurn}
@@ -38,7 +20,6 @@ use Rattle.pool_run.specs.Acts.{Act, requests, on_memory, on_table, drops, purge
 use Rattle.pool_run.proofs.Opened.{idle_is, IsStep, drops_opened, module_opened, plain_opened}
 use Rattle.pool_run.proofs.StageSteps.{is_none, none_idle, is_key}
 use Rattle.pool_run.proofs.Stepped.{IsStepped, stepped}
-use Rattle.pool_alloc.specs.Stages.{stage_of}
 use Rattle.pool_run.specs.RunsMade.{is_drawing}
 
 -- what counts as a call under way

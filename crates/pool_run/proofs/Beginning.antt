@@ -1,26 +1,11 @@
 -- The first step of a command, and each turn, as the party sees it.
-use Rattle.std.proofs.Common.{◌≡◌, ℕ, ◌+◌, ◌<◌, ◌≤◌, Bool, true, false, List, [], length, map, Option, Some, None, refl, sym, ap, ◌∙◌, subst, inl, inr, arith}
-use Rattle.std.specs.Prelude.{IfSome, IsSome, option_map, slice_get, slice_set, slice_index_or}
-use Rattle.std.proofs.lemmas.List.{map-set}
-use Rattle.std.proofs.lemmas.Option.{slice_get_within}
+use Rattle.std.proofs.Common.{◌≡◌, ℕ, ◌+◌, ◌<◌, ◌≤◌, Bool, true, false, List, [], length, map, Option, Some, None, refl, sym, ap, ◌∙◌, subst, inl, inr, arith, IfSome, IsSome, option_map, slice_get, slice_set, slice_index_or}
+use Rattle.pool_run.proofs.Imports.{map-set, slice_get_within, PlainHeap, objects_in, IsIdle, begun_call, is_idle, PoolCore, Frame, ModuleAsked, Grant, Phase, Stage, no_call, stage_at, stage_of, LeasedTable, instance, component, stack, heap, ListedStore, LeasedStack, option_and_then}
 use Rattle.pool_slots.specs.declared.errors.AllocError.TheVariants as alloc
-use Rattle.pool_slots.specs.declared.listed_heaps.PlainHeap.{PlainHeap}
-use Rattle.pool_alloc.specs.Objects.{objects_in}
-use Rattle.pool_alloc.specs.Calls.{IsIdle, begun_call}
-use Rattle.pool_alloc.specs.Stepping.{is_idle}
-use Rattle.pool_alloc.specs.declared.pool_core.PoolCore.{PoolCore}
 use Rattle.pool_alloc.specs.declared.frame.Call.TheVariants as call
-use Rattle.pool_alloc.specs.declared.frame.Frame.{Frame}
-use Rattle.pool_alloc.specs.Asked.{ModuleAsked}
-use Rattle.pool_alloc.specs.declared.frame.Grant.{Grant}
-use Rattle.pool_alloc.specs.declared.frame.Phase.{Phase}
-use Rattle.pool_alloc.specs.Stages.{Stage, no_call, stage_at, stage_of}
 use Rattle.pool_run.specs.PartyRules.{rule_of}
 use Rattle.pool_run.specs.Private.{private_stacks, PrivateMemory, PrivateState, PrivateGrant, instance_grant, Grants, grant_at, request_of, MovesBytes, Moves, Drops, private_memories, private_tables, with_table}
 use Rattle.pool_run.specs.PrivateTables.{Host, PrivateTable, StoredTable, TableMoves}
-use Rattle.pool_alloc.specs.TableLeases.{LeasedTable}
-use Rattle.pool_alloc.specs.declared.frame.Grant.TheVariants.{Instance as instance, Component as component, Stack as stack, Heap as heap}
-use Rattle.pool_table.specs.declared.gc_store.ListedStore.{ListedStore}
 use Rattle.pool_run.specs.Rooms.{World, TellsOfPool, TellsMove}
 use Rattle.pool_run.specs.Turns.{Turned, stored_as, one_step, with_reply, private_memory, private_table, LeaseMoves, MovesTable, private_grant, grants_of, host_of_party, Turns, memory_leases, table_leases, Opening, replies, makes_step, drop_opening, OpensRequest, OpensPurge, OpensAct, OpensNext, OpensAt, Leaves, private_stack, StackLeaseMoves, MovesLeasedBytes, stack_leases, OpensWanted}
 use Rattle.pool_run.specs.Ties.{seen_by_party, TiedAs, IsPrivate, CanTurn, IsAlone}
@@ -40,8 +25,6 @@ use Rattle.pool_run.proofs.Opened.{idle_is, IsStep, still_alone, drops_opened, m
 use Rattle.pool_run.proofs.SlotKinds.{tables_seen_of, stacks_seen_of}
 use Rattle.pool_run.proofs.StackMoves.{stack_op_seen}
 use Rattle.pool_run.specs.PrivateStacks.{StackMoves}
-use Rattle.pool_alloc.specs.StackLeases.{LeasedStack}
-use Rattle.std.specs.Option.{option_and_then}
 use Rattle.pool_run.proofs.Operations.{SeesMove, op_seen, named_moves, named_tells, memories_seen}
 use Rattle.pool_run.proofs.Named.{AreSeen, none_seen, on_seen}
 use Rattle.pool_run.proofs.Sounds.{lease_held, stack_held}

@@ -1,24 +1,13 @@
 -- What frames and queues keep between turns: at the start, and after each turn.
-use Rattle.std.proofs.Common.{◌≡◌, ◌≢◌, ℕ, zero, suc, ◌+◌, ◌<◌, ◌≤◌, true, false, List, [], ◌∷◌, length, Option, Some, None, refl, sym, ap, ◌∙◌, subst, arith, All}
-use Rattle.std.specs.Prelude.{slice_get, slice_set}
-use Rattle.std.proofs.lemmas.Bool.{not-true, not-false}
-use Rattle.std.proofs.lemmas.List.{length-set, get_or-set_same}
-use Rattle.std.proofs.lemmas.List.Elements.{All-set, All-get_or}
-use Rattle.std.proofs.lemmas.Option.{slice_get_within, slice_get-get_or, get_or_from_slice_get}
-use Rattle.pool_index.specs.Shard.{one_if}
-use Rattle.pool_alloc.specs.Stepping.{IsSameSize, is_idle}
-use Rattle.pool_alloc.specs.declared.pool_core.PoolCore.{PoolCore}
-use Rattle.pool_alloc.specs.Asked.{ModuleAsked}
-use Rattle.pool_alloc.proofs.BegunCalls.{steps_left_same}
+use Rattle.std.proofs.Common.{◌≡◌, ◌≢◌, ℕ, zero, suc, ◌+◌, ◌<◌, ◌≤◌, true, false, List, [], ◌∷◌, length, Option, Some, None, refl, sym, ap, ◌∙◌, subst, arith, All, slice_get, slice_set}
+use Rattle.pool_run.proofs.Imports.{not-true, not-false, length-set, get_or-set_same, All-set, All-get_or, slice_get_within, slice_get-get_or, get_or_from_slice_get, one_if, IsSameSize, is_idle, PoolCore, ModuleAsked, steps_left_same, stage_of, PlainHeap}
 use Rattle.pool_run.specs.Folds.{RunState, with_turn}
 use Rattle.pool_run.specs.Progress.{is_busy, begins_by, calls_begun, begins_call, turns_left, bound_by, bound_next, Advances}
-use Rattle.pool_alloc.specs.Stages.{stage_of}
 use Rattle.pool_run.specs.RunsMade.{is_drawing}
 use Rattle.pool_run.specs.Turns.{Turned}
 use Rattle.pool_run.specs.declared.command.Command.{Command}
 use Rattle.pool_run.specs.declared.running_party.RunningParty.{RunningParty}
 use Rattle.pool_run.proofs.Advanced.{IsReady, HasAdvanced}
-use Rattle.pool_slots.specs.declared.listed_heaps.PlainHeap.{PlainHeap}
 
 -- the elements in other places stay
 pub set_other : {X : Type 0} (xs : List X) (i k : ℕ) (x : X) → k ≢ i → slice_get (slice_set xs i x) k ≡ slice_get xs k

@@ -1,15 +1,11 @@
 -- What an input that can be run so far has: modules of memories whose sizes can be computed.
 use Rattle.std.proofs.Common.{◌≡◌, ◌≤◌, true}
-use Rattle.std.specs.List.{list_all}
-use Rattle.std.proofs.lemmas.Bool.{leb-true}
-use Rattle.pool_pages.specs.declared.module_types.MemoryDecl.{MemoryDecl}
-use Rattle.pool_pages.specs.declared.module_types.ModuleInfo.{ModuleInfo}
+use Rattle.pool_run.proofs.Imports.{list_all, leb-true, second_true, MemoryDecl, ModuleInfo}
 use Rattle.pool_run.specs.Built.{is_built, is_built_offer, is_built_memory, is_built_module}
 use Rattle.pool_run.specs.declared.input.Input.{Input}
-use Rattle.pool_run.proofs.Tests.{second}
 
 pub built_modules : (input : Input) → is_built input ≡ true → list_all is_built_module input.modules ≡ true
-built_modules input built = second (is_built_offer input.offered) _ built
+built_modules input built = second_true (is_built_offer input.offered) _ built
 
 pub built_memories : (m : ModuleInfo) → is_built_module m ≡ true → list_all is_built_memory m.memories ≡ true
 built_memories m built = built

@@ -1,23 +1,8 @@
 -- The bytes of a memory as the party sees them: as it begins, and once they are written.
-use Rattle.std.proofs.Common.{◌≡◌, ℕ, ◌+◌, ◌≤◌, List, length, take, replicate, Option, Some, None, Bool, refl, sym, ap, ◌∙◌, subst, arith, if◌then◌else◌, is_some}
-use Rattle.std.specs.Prelude.{IfSome, option_map, slice_range}
-use Rattle.std.proofs.lemmas.List.{same_lists, places, take-replicate}
-use Rattle.pool_pages.specs.Contents.{Contents, put, written}
-use Rattle.pool_pages.specs.MemoryTypes.{minimum_byte_size}
-use Rattle.pool_pages.specs.declared.module_types.MemoryDecl.{MemoryDecl}
-use Rattle.pool_pages.specs.declared.pages.RegionName.TheVariants.{Memory as memory_region, OnDemand}
-use Rattle.pool_pages.specs.declared.module_types.MemoryType.{MemoryType}
-use Rattle.pool_images.specs.Images.{Image, start}
-use Rattle.pool_images.specs.Slots.{SlotIdentity, FitsInto, IsBegun}
-use Rattle.pool_memory.specs.Linear.{Storage, in_slot, stored, slot_in, first_bytes, storage_written}
-use Rattle.pool_memory.specs.Making.{maximum_asked}
-use Rattle.pool_memory.specs.Memories.{slot_of as image_slot_of, memory_written as state_written}
-use Rattle.pool_memory.specs.Static.{static_capacity}
-use Rattle.pool_alloc.specs.Leases.{Lease}
+use Rattle.std.proofs.Common.{◌≡◌, ℕ, ◌+◌, ◌≤◌, List, length, take, replicate, Option, Some, None, Bool, refl, sym, ap, ◌∙◌, subst, arith, if◌then◌else◌, is_some, IfSome, option_map, slice_range}
+use Rattle.pool_run.proofs.Imports.{same_lists, places, take-replicate, Contents, written, minimum_byte_size, MemoryDecl, memory_region, OnDemand, MemoryType, Image, start, SlotIdentity, FitsInto, IsBegun, Storage, in_slot, stored, slot_in, first_bytes, storage_written, maximum_asked, image_slot_of, state_written, static_capacity, Lease, IsNew, IsPoolSlot, Settings, MakerTold}
+use Rattle.pool_pages.specs.Contents.{put}
 use Rattle.pool_run.proofs.HeldSlots.{held_name, held_tells}
-use Rattle.pool_alloc.specs.Sound.{IsNew, IsPoolSlot}
-use Rattle.pool_alloc.specs.declared.pool_core.Settings.{Settings}
-use Rattle.pool_pages.specs.MakerTold.{MakerTold}
 use Rattle.pool_run.specs.Private.{Terms, PrivateMemory, begun_memory, private_written}
 use Rattle.pool_run.specs.Turns.{seen_as, private_memory}
 

@@ -1,19 +1,6 @@
 -- A command on the bytes of a grant, which is taken out of its place and put back; and a command on a stack.
-use Rattle.std.proofs.Common.{◌≡◌, ℕ, zero, suc, ◌+◌, ◌≤◌, true, List, [], ◌∷◌, ◌++◌, take, length, Option, Some, None, refl, sym, ap, ◌∙◌, subst, arith}
-use Rattle.std.specs.Prelude.{IfSome, nat_le, option_map, slice_get, slice_set, slice_index_or, slice_range}
-use Rattle.std.specs.Option.{option_and_then}
-use Rattle.std.proofs.Math.Seq.{take-append_seam}
-use Rattle.std.proofs.lemmas.Bool.{leb-true}
-use Rattle.std.proofs.lemmas.List.{set-get_or, same_lists, places}
-use Rattle.pool_limits.specs.Growth.{GrowthRule}
-use Rattle.pool_pages.specs.Contents.{Contents}
-use Rattle.pool_images.specs.Slots.{Slot}
-use Rattle.pool_slots.specs.PlainSlots.{StackState}
-use Rattle.pool_alloc.specs.Leases.{Lease}
-use Rattle.pool_alloc.specs.HeapLeases.{LeasedHeap}
-use Rattle.pool_alloc.specs.StackLeases.{LeasedStack}
-use Rattle.pool_alloc.specs.declared.frame.Grant.{Grant}
-use Rattle.pool_alloc.specs.declared.frame.Grant.TheVariants.{Instance as instance, Component as component, Stack as stack, Heap as heap}
+use Rattle.std.proofs.Common.{◌≡◌, ℕ, zero, suc, ◌+◌, ◌≤◌, true, List, [], ◌∷◌, ◌++◌, take, length, Option, Some, None, refl, sym, ap, ◌∙◌, subst, arith, IfSome, nat_le, option_map, slice_get, slice_set, slice_index_or, slice_range}
+use Rattle.pool_run.proofs.Imports.{option_and_then, take-append_seam, leb-true, set-get_or, same_lists, places, GrowthRule, Contents, Slot, StackState, Lease, LeasedHeap, LeasedStack, Grant, instance, component, stack, heap, PlainHeap}
 use Rattle.pool_run.specs.Acts.{MemoryOp}
 use Rattle.pool_run.specs.AtOnce.{MovesGrantBytes, MovesOnly, MovesTakenBytes}
 use Rattle.pool_run.specs.Objects.{MovesNamed, object_at, with_object}
@@ -23,7 +10,6 @@ use Rattle.pool_run.specs.declared.reply.Reply.{Reply}
 use Rattle.pool_run.specs.declared.reply.Reply.TheVariants.{Bytes, Refused}
 use Rattle.pool_run.specs.declared.reply.Refusal.TheVariants.{NoSuchGrant}
 use Rattle.pool_run.proofs.Named.{taken_moved, put_back}
-use Rattle.pool_slots.specs.declared.listed_heaps.PlainHeap.{PlainHeap}
 
 module _ {P : Type 0} (op : MemoryOp) (rule : GrowthRule) (of k : ℕ) where
   abbrev granted_stack : LeasedStack → Grant P PlainHeap
@@ -67,14 +53,6 @@ module _ {P : Type 0} (op : MemoryOp) (rule : GrowthRule) (of k : ℕ) where
   bytes_back live new reply component changed put is = put_back memory_leases (LeaseMoves op rule) of k live new reply component changed put is
   bytes_back live new reply (heap lease memory) changed put is = put_back memory_leases (LeaseMoves op rule) of k live new reply (heap lease memory) changed put (heap_moved k lease memory is.0 reply changed is.1 is.2)
   bytes_back live new reply (stack lease) changed put is = put_back stack_leases (StackLeaseMoves op) of k live new reply (stack lease) changed put (grant_moved k lease is.0 reply changed is.1 is.2)
-
--- A grant of a stack has one stack.
-pub past_only : {X : Type 0} (Move : X → X → Reply → Type 0) (k : ℕ) (lease : X) → 1 ≤ k → MovesOnly Move k lease (Refused NoSuchGrant) lease
-past_only Move zero lease past = absurd (omega (arith, past))
-past_only Move (suc k) lease past = (refl, refl)
-
-pub first_only : {X : Type 0} (Move : X → X → Reply → Type 0) (k : ℕ) (lease new : X) (reply : Reply) → k ≡ 0 → Move lease new reply → MovesOnly Move k lease reply new
-first_only Move k lease new reply first is = let M : ℕ → Type 0 = λ n. MovesOnly Move n lease reply new in subst M (sym first) (new, is, refl)
 
 -- What is read of it is read of its region.
 range_of : (base size at len : ℕ) (xs : List ℕ) → at + len ≤ size → slice_range (slice_range xs base (base + size)) at (at + len) ≡ slice_range xs (base + at) (base + at + len)

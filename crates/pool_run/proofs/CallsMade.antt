@@ -1,9 +1,6 @@
 -- The calls for modules, as they are made one after another.
 use Rattle.std.proofs.Common.{◌≡◌, ℕ, ◌+◌, ◌<◌, List, [], ◌∷◌, ◌++◌, length, take, get_or, sym, ap, ◌∙◌, arith}
-use Rattle.std.proofs.lemmas.List.{take_more}
-use Rattle.pool_pages.specs.declared.module_types.ModuleInfo.{ModuleInfo}
-use Rattle.pool_pages.specs.declared.module_types.Tunables.{Tunables}
-use Rattle.pool_alloc.specs.Asked.{ModuleAsked}
+use Rattle.pool_run.proofs.Imports.{take_more, ModuleInfo, Tunables, ModuleAsked}
 use Rattle.pool_run.specs.Made.{call_made, calls_made}
 
 -- one more call is for the next module

@@ -1,33 +1,10 @@
 -- A request is refused only for a cause.
-use Rattle.std.proofs.Common.{true, false, Bool, ◌+◌, ◌^◌, ◌≤◌, ◌≡◌, ℕ, zero, suc, ◌<◌, List, [], ◌∷◌, length, Option, Some, None, Result, Ok, Err, refl, sym, ap, ◌∙◌, subst, inl, inr, arith}
-use Rattle.std.specs.Prelude.{IfSome, is_some, slice_get, nat_le, nat_lt, if◌then◌else◌}
-use Rattle.std.specs.Option.{option_or}
-use Rattle.std.proofs.lemmas.Bool.{le-leb}
-use Rattle.std.proofs.lemmas.Option.{same_Some, slice_get_within}
-use Rattle.pool_pages.specs.MemoryTypes.{minimum_byte_size, allow_growth_to}
-use Rattle.pool_alloc.specs.Wants.{MemoryWant, Want, new_memory, new_table, new_stack, new_heap}
-use Rattle.pool_pages.specs.declared.module_types.MemoryType.{MemoryType}
-use Rattle.pool_pages.specs.declared.unsupported.Unsupported.{Unsupported}
-use Rattle.pool_pages.specs.declared.unsupported.Unsupported.TheVariants.{InitialSize, AddressSpace, MemoryMinimum, TableSize}
-use Rattle.pool_images.specs.Slots.{Slot, IsLeft}
-use Rattle.pool_limits.specs.Growth.{memory_answer, table_answer}
-use Rattle.pool_limits.specs.declared.errors.LimiterError.{LimiterError}
-use Rattle.pool_memory.specs.Making.{minimum_asked, maximum_asked, limits_answer}
-use Rattle.pool_memory.specs.Static.{Static, static_capacity}
-use Rattle.pool_memory.specs.declared.memory_error.MemoryError.{MemoryError}
+use Rattle.std.proofs.Common.{true, false, Bool, ◌+◌, ◌^◌, ◌≤◌, ◌≡◌, ℕ, zero, suc, ◌<◌, List, [], ◌∷◌, length, Option, Some, None, Result, Ok, Err, refl, sym, ap, ◌∙◌, subst, inl, inr, arith, IfSome, is_some, slice_get, nat_le, nat_lt, if◌then◌else◌}
+use Rattle.pool_run.proofs.Imports.{option_or, le-leb, same_Some, slice_get_within, minimum_byte_size, allow_growth_to, MemoryWant, Want, new_memory, new_table, new_stack, new_heap, MemoryType, Unsupported, InitialSize, AddressSpace, MemoryMinimum, TableSize, Slot, IsLeft, memory_answer, table_answer, LimiterError, minimum_asked, maximum_asked, limits_answer, Static, static_capacity, MemoryError, AllocError, MemoryStripe, Tables, CoreInstances, IsPoolSlot, made_of, made_of_limits, LeasedTable, table_refused, made_unless, type_maximum, TableType, Settings}
 use Rattle.pool_memory.specs.declared.memory_error.MemoryError.TheVariants as unmade
-use Rattle.pool_slots.specs.declared.errors.AllocError.{AllocError}
 use Rattle.pool_slots.specs.declared.errors.AllocError.TheVariants as alloc
-use Rattle.pool_slots.specs.declared.errors.ConcurrencyKind.TheVariants.{MemoryStripe, Tables, CoreInstances}
-use Rattle.pool_alloc.specs.Sound.{IsPoolSlot}
-use Rattle.pool_alloc.specs.Own.{made_of, made_of_limits}
-use Rattle.pool_alloc.specs.TableLeases.{LeasedTable}
-use Rattle.pool_alloc.specs.TableSteps.{table_refused, made_unless}
-use Rattle.pool_table.specs.Tables.{type_maximum}
-use Rattle.pool_pages.specs.declared.table_type.TableType.{TableType}
 use Rattle.pool_run.proofs.Wants.{memory_at, table_at}
 use Rattle.pool_run.proofs.HeldSlots.{held_plan}
-use Rattle.pool_alloc.specs.declared.pool_core.Settings.{Settings}
 use Rattle.pool_run.specs.Private.{Grants, Terms, stripe_slots, Request, wants_of, refused_by, own_refusal, first_refusal, slots_asked, limit_for, is_memory, no_memory, no_instance, no_slot, page_fault, IsGiven, IsRefused, table_room}
 use Rattle.pool_run.specs.Rooms.{World, live_count, table_count, instance_count, SomeMayFault, IsForRoom}
 use Rattle.pool_run.specs.Ties.{HasNoRefusal, HasCause}

@@ -1,20 +1,6 @@
 -- A call that ends leaves nothing of itself in its frame.
-use Rattle.std.proofs.Common.{◌≡◌, ℕ, Bool, true, false, List, [], ◌∷◌, refl, sym, ap, ◌∙◌, is_some}
-use Rattle.std.specs.Prelude.{nat_lt, if◌then◌else◌}
-use Rattle.pool_alloc.specs.Objects.{objects_in, objects_wanted}
-use Rattle.pool_alloc.specs.declared.frame.Asked.{Asked}
-use Rattle.pool_alloc.specs.declared.frame.Asked.TheVariants.{Nothing as nothing_asked, Module as module_asked, Stack as stack_asked, Heap as heap_asked}
-use Rattle.pool_alloc.specs.Leases.{Lease}
-use Rattle.pool_alloc.specs.TableLeases.{LeasedTable}
-use Rattle.pool_alloc.specs.Stepping.{is_idle}
-use Rattle.pool_alloc.specs.Turns.{Turn, goes, ends, next, flush, search, stays, Row, Left, failing, all_returned, returned_next, granted_next, next_by, is_flushed, after, stepped}
-use Rattle.pool_alloc.specs.declared.frame.Ending.{Ending}
-use Rattle.pool_alloc.specs.declared.frame.Ending.TheVariants.{Granted as granted, Returned as returned, Refused as refused}
-use Rattle.pool_alloc.specs.declared.frame.Frame.{Frame}
-use Rattle.pool_alloc.specs.declared.frame.Phase.{Phase}
-use Rattle.pool_alloc.specs.declared.frame.Phase.TheVariants.{Idle}
-use Rattle.pool_alloc.specs.declared.pool_core.PoolCore.{PoolCore}
-use Rattle.pool_slots.specs.declared.listed_heaps.PlainHeap.{PlainHeap}
+use Rattle.std.proofs.Common.{◌≡◌, ℕ, Bool, true, false, List, [], ◌∷◌, refl, sym, ap, ◌∙◌, is_some, nat_lt, if◌then◌else◌}
+use Rattle.pool_run.proofs.Imports.{objects_in, objects_wanted, Asked, nothing_asked, module_asked, stack_asked, heap_asked, Lease, LeasedTable, is_idle, Turn, goes, ends, next, flush, search, stays, Row, Left, failing, all_returned, returned_next, granted_next, next_by, is_flushed, after, stepped, Ending, granted, returned, refused, Frame, Phase, Idle, PoolCore, PlainHeap}
 
 -- nothing is left of a call
 pub record IsClear (asked : Asked) (ending : Ending) (queues : ℕ) : Type 0 where

@@ -1,33 +1,8 @@
 -- No counter of a run comes to its end: there are no more instances and components than commands, and no more memories than
 -- slots.
-use Rattle.std.proofs.Common.{◌≡◌, ℕ, ◌+◌, ◌^◌, ◌<◌, ◌≤◌, List, length, Option, Some, None, refl, inl, inr, arith}
-use Rattle.std.specs.Prelude.{sum_by, ◌-◌}
-use Rattle.std.proofs.lemmas.Bool.{cases_eq}
-use Rattle.std.proofs.lemmas.List.Sums.{sum_by-le-sum_by}
-use Rattle.pool_pages.specs.MakerTold.{MakerTold}
-use Rattle.pool_slots.specs.SlotNames.{of_kind}
-use Rattle.pool_slots.specs.Plans.{cell_place}
-use Rattle.pool_slots.specs.declared.plan.Plan.{Plan}
-use Rattle.pool_slots.specs.declared.slot_name.SlotName.{SlotName}
-use Rattle.pool_slots.specs.declared.listed_heaps.PlainHeap.{PlainHeap}
-use Rattle.pool_alloc.specs.Leases.{Lease, memory_slot, slot_taken}
-use Rattle.pool_alloc.specs.Places.{instances_for, phase_stacks, phase_heaps, taken_count, right_to, instance_count, phase_count, phase_instances, phase_components, phase_memories, phase_tables}
-use Rattle.pool_alloc.specs.Sound.{IsPoolPlan, IsSlotName}
-use Rattle.pool_alloc.specs.Stepping.{grant_stacks, grant_heaps, CanCount, grant_count, grant_instances, grant_components, grant_memories, grant_tables}
-use Rattle.pool_alloc.specs.Steps.{memory_slots}
-use Rattle.pool_alloc.specs.StackLeases.{LeasedStack, stack_slot}
-use Rattle.pool_alloc.specs.declared.frame.Asked.{Asked}
-use Rattle.pool_alloc.specs.declared.frame.Asked.TheVariants.{Stack as stack_asked, Heap as heap_asked}
-use Rattle.pool_alloc.specs.TableLeases.{LeasedTable, table_slot}
-use Rattle.pool_alloc.specs.declared.pool_core.PoolCore.{PoolCore}
-use Rattle.pool_alloc.specs.declared.frame.Grant.{Grant}
-use Rattle.pool_alloc.specs.declared.frame.Grant.TheVariants.{Instance as instance, Component as component, Stack as stack, Heap as heap}
+use Rattle.std.proofs.Common.{◌≡◌, ℕ, ◌+◌, ◌^◌, ◌<◌, ◌≤◌, List, length, Option, Some, None, refl, inl, inr, arith, sum_by, ◌-◌}
+use Rattle.pool_run.proofs.Imports.{cases_eq, sum_by-le-sum_by, MakerTold, of_kind, cell_place, Plan, SlotName, PlainHeap, Lease, memory_slot, slot_taken, instances_for, phase_stacks, phase_heaps, taken_count, right_to, instance_count, phase_count, phase_instances, phase_components, phase_memories, phase_tables, IsPoolPlan, IsSlotName, grant_stacks, grant_heaps, CanCount, grant_count, grant_instances, grant_components, grant_memories, grant_tables, memory_slots, LeasedStack, stack_slot, Asked, stack_asked, heap_asked, LeasedTable, table_slot, PoolCore, Grant, instance, component, stack, heap, Phase, Idle, UncountObject, UncountComponent, UncountHeap, PutHeap, FreeHeap, InstanceLease, below, below_sum, below_most, cell_inside}
 use Rattle.pool_alloc.specs.declared.frame.Object.TheVariants as object
-use Rattle.pool_alloc.specs.declared.frame.Phase.{Phase}
-use Rattle.pool_alloc.specs.declared.frame.Phase.TheVariants.{Idle, UncountObject, UncountComponent, UncountHeap, PutHeap, FreeHeap}
-use Rattle.pool_alloc.specs.declared.lease.InstanceLease.{InstanceLease}
-use Rattle.pool_alloc.proofs.Below.{below, below_sum, below_most}
-use Rattle.pool_alloc.proofs.PlanPlaces.{cell_inside}
 use Rattle.pool_run.specs.Ties.{granted_to, held_by_party, IsRunning}
 use Rattle.pool_run.specs.Turns.{stack_of, leases_of, tables_of}
 use Rattle.pool_run.specs.declared.running_party.RunningParty.{RunningParty}

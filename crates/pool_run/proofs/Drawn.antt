@@ -1,18 +1,7 @@
 -- A party's stripe is the one that its key gave it: it draws it in its first turn, before any command, and keeps it.
-use Rattle.std.proofs.Common.{◌≡◌, ◌≤◌, ℕ, Bool, true, false, List, [], ◌∷◌, length, arith, Option, Some, None, refl, sym, ap, ◌∙◌, subst, inl, inr, ◌⊎◌}
-use Rattle.std.specs.Prelude.{not, is_some, slice_get, slice_index_or}
-use Rattle.std.proofs.lemmas.Bool.{cases_Bool}
-use Rattle.pool_pages.specs.MakerTold.{MakerTold}
-use Rattle.pool_alloc.specs.Asked.{ModuleAsked}
-use Rattle.pool_alloc.specs.Calls.{IsIdle}
-use Rattle.pool_alloc.specs.Stages.{Stage, no_call, stage_of}
-use Rattle.pool_alloc.specs.Stepping.{is_idle}
-use Rattle.pool_alloc.specs.Turns.{After}
-use Rattle.pool_alloc.specs.declared.frame.Frame.{Frame}
-use Rattle.pool_alloc.specs.declared.frame.Grant.{Grant}
-use Rattle.pool_alloc.specs.declared.frame.Outcome.{Outcome}
+use Rattle.std.proofs.Common.{◌≡◌, ◌≤◌, ℕ, Bool, true, false, List, [], ◌∷◌, length, arith, Option, Some, None, refl, sym, ap, ◌∙◌, subst, inl, inr, ◌⊎◌, not, is_some, slice_get, slice_index_or}
+use Rattle.pool_run.proofs.Imports.{cases_Bool, not_both, MakerTold, ModuleAsked, IsIdle, Stage, no_call, stage_of, is_idle, After, Frame, Grant, Outcome, PoolCore, PlainHeap}
 use Rattle.pool_alloc.specs.declared.frame.Outcome.TheVariants as answer
-use Rattle.pool_alloc.specs.declared.pool_core.PoolCore.{PoolCore}
 use Rattle.pool_run.specs.Acts.{Act, requests, on_memory, on_table, drops, purges, releases, act_of, Wanted, an_instance, a_component, a_stack, a_heap}
 use Rattle.pool_run.specs.Private.{Grants}
 use Rattle.pool_run.specs.Rooms.{World}
@@ -24,13 +13,12 @@ use Rattle.pool_run.specs.declared.command.Command.{Command}
 use Rattle.pool_run.specs.declared.reply.Reply.{Reply}
 use Rattle.pool_run.specs.declared.running_party.RunningParty.{RunningParty}
 use Rattle.pool_run.proofs.Opened.{IsOpened, IsStep, opened}
-use Rattle.pool_run.proofs.Parties.{not_both, can_step, returned_stage}
+use Rattle.pool_run.proofs.Parties.{can_step, returned_stage}
 use Rattle.pool_run.proofs.Reserving.{answered_frame}
 use Rattle.pool_run.proofs.StageSteps.{is_key}
 use Rattle.pool_run.proofs.Stepped.{IsStepped, stepped}
 use Rattle.pool_run.proofs.Stripes.{step_stripe}
 use Rattle.pool_run.proofs.Turning.{SeesTurn}
-use Rattle.pool_slots.specs.declared.listed_heaps.PlainHeap.{PlainHeap}
 
 module _ {P : Type 0} where
   -- the turn drew the party's stripe, and replied to nothing

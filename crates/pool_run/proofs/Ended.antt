@@ -1,9 +1,6 @@
 -- No party comes or goes, and where nobody has anything left each command has its reply.
-use Rattle.std.proofs.Common.{◌≡◌, ℕ, ◌+◌, ◌<◌, ◌≤◌, List, [], ◌∷◌, length, Option, Some, None, ap, ◌∙◌, subst, arith}
-use Rattle.std.specs.Prelude.{IfSome, slice_get, slice_index_or}
-use Rattle.std.proofs.lemmas.List.{length-set}
-use Rattle.std.proofs.lemmas.Option.{slice_get-get_or}
-use Rattle.pool_alloc.specs.Asked.{ModuleAsked}
+use Rattle.std.proofs.Common.{◌≡◌, ℕ, ◌+◌, ◌<◌, ◌≤◌, List, [], ◌∷◌, length, Option, Some, None, ap, ◌∙◌, subst, arith, IfSome, slice_get, slice_index_or}
+use Rattle.pool_run.proofs.Imports.{length-set, slice_get-get_or, ModuleAsked}
 use Rattle.pool_run.specs.Private.{PrivateState, StepsBy, with_grants, no_grants}
 use Rattle.pool_run.specs.Rooms.{World, PooledStep}
 use Rattle.pool_run.specs.Folds.{RunState, commands_of, replies_to, party_by_party, TurnsIf, Folds, HasNothingLeft, IsFinished, Runs, seen_by, IsRunTo, IsUnderWay}

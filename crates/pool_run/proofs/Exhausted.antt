@@ -1,17 +1,7 @@
 -- The slots of a kind that a grant and live grants have: where the pool has none left and the party is alone, all are with
 -- these; and there are no more of these than slots.
-use Rattle.std.proofs.Common.{◌≡◌, ℕ, ◌+◌, ◌*◌, ◌<◌, ◌≤◌, List, [], ◌∷◌, length, map, Option, Some, None, refl, sym, ap, ◌∙◌, arith}
-use Rattle.std.specs.Prelude.{sum_by}
-use Rattle.std.proofs.lemmas.List.{length-map}
-use Rattle.std.proofs.lemmas.List.Sums.{sum_by-cons}
-use Rattle.pool_slots.specs.declared.slot_name.RegionNumbers.{RegionNumbers}
-use Rattle.pool_slots.specs.declared.slot_name.SlotName.{SlotName}
-use Rattle.pool_slots.specs.declared.listed_heaps.PlainHeap.{PlainHeap}
-use Rattle.pool_alloc.specs.Places.{right_to, slot_count}
-use Rattle.pool_alloc.specs.Stepping.{grant_count, grant_instances, grant_components}
-use Rattle.pool_alloc.specs.declared.frame.Grant.{Grant}
-use Rattle.pool_alloc.specs.declared.frame.Grant.TheVariants.{Instance as instance, Component as component, Stack as stack, Heap as heap}
-use Rattle.pool_alloc.proofs.Below.{below}
+use Rattle.std.proofs.Common.{◌≡◌, ℕ, ◌+◌, ◌*◌, ◌<◌, ◌≤◌, List, [], ◌∷◌, length, map, Option, Some, None, refl, sym, ap, ◌∙◌, arith, sum_by}
+use Rattle.pool_run.proofs.Imports.{length-map, sum_by-cons, RegionNumbers, SlotName, PlainHeap, right_to, slot_count, grant_count, grant_instances, grant_components, Grant, instance, component, stack, heap, below}
 use Rattle.pool_run.specs.Private.{PrivateGrant, Grants}
 use Rattle.pool_run.specs.Rooms as rooms
 use Rattle.pool_run.specs.Rooms.{instances_in, components_in, component_count}

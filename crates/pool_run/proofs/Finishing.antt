@@ -1,12 +1,6 @@
 -- A run that is finished: party by party, turns until it has nothing left.
-use Rattle.std.proofs.Common.{◌≡◌, ◌≢◌, ℕ, zero, suc, ◌+◌, ◌<◌, ◌≤◌, Bool, true, false, List, [], ◌∷◌, ◌++◌, length, replicate, Option, Some, None, refl, sym, ap, ◌∙◌, subst, inl, inr, arith, append_assoc, add-zero}
-use Rattle.std.specs.Prelude.{◌&&◌, not, nat_lt, IfSome, IsSome, slice_get}
-use Rattle.std.proofs.lemmas.Bool.{lt-ltb, not-true, not-false, cases_lt}
-use Rattle.std.proofs.lemmas.List.{append-nil, length_push, replicate-append-replicate}
-use Rattle.std.proofs.lemmas.Option.{slice_get_past}
-use Rattle.pool_index.specs.Shard.{one_if}
-use Rattle.pool_alloc.specs.Stepping.{is_idle}
-use Rattle.pool_alloc.specs.Asked.{ModuleAsked}
+use Rattle.std.proofs.Common.{◌≡◌, ◌≢◌, ℕ, zero, suc, ◌+◌, ◌<◌, ◌≤◌, Bool, true, false, List, [], ◌∷◌, ◌++◌, length, replicate, Option, Some, None, refl, sym, ap, ◌∙◌, subst, inl, inr, arith, append_assoc, add-zero, ◌&&◌, not, nat_lt, IfSome, IsSome, slice_get}
+use Rattle.pool_run.proofs.Imports.{lt-ltb, not-true, not-false, cases_lt, append-nil, length_push, replicate-append-replicate, slice_get_past, one_at_most, is_there, one_if, is_idle, ModuleAsked}
 use Rattle.pool_run.specs.Folds.{RunState, commands_of, party_by_party, TurnsIf, TurnsOf, Folds, HasNothingLeft, FinishesRun}
 use Rattle.pool_run.specs.Progress.{is_busy, commands_done, calls_begun, begins_call, TurnsSome}
 use Rattle.pool_run.specs.declared.command.Command.{Command}
@@ -14,15 +8,6 @@ use Rattle.pool_run.specs.declared.running_party.RunningParty.{RunningParty}
 use Rattle.pool_run.proofs.Between.{set_other}
 use Rattle.pool_run.proofs.Folding.{folds_on}
 use Rattle.pool_run.proofs.RunMade.{repeated}
-
-is_there : {X : Type 0} (xs : List X) (i : ℕ) → i < length xs → IsSome (slice_get xs i)
-is_there [] i below = absurd (omega arith)
-is_there (x ∷ xs) zero below = refl
-is_there (x ∷ xs) (suc i) below = is_there xs i (omega arith)
-
-one_at_most : (b : Bool) → one_if b ≤ 1
-one_at_most true = omega arith
-one_at_most false = omega arith
 
 -- the turns of one party more
 party_by_party-push : (i n : ℕ) (counts : List ℕ) → party_by_party i (counts ++ n ∷ []) ≡ party_by_party i counts ++ replicate n (i + length counts)

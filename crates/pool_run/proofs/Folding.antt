@@ -1,21 +1,8 @@
 -- A run of several parties stays what it is through all its turns, so the replies to each party are a private run.
-use Rattle.std.proofs.Common.{◌≡◌, ℕ, ◌<◌, true, List, [], ◌∷◌, ◌++◌, length, map, Option, Some, None, refl, sym, ap, ◌∙◌, subst, inl, inr, arith}
-use Rattle.std.specs.Prelude.{slice_get, slice_set, slice_index_or}
-use Rattle.std.proofs.lemmas.Bool.{cases_eq}
-use Rattle.std.proofs.lemmas.List.{length-set, map-set, get_or-map, set-get_or, get_or-set_same, get_or-set_other}
-use Rattle.std.proofs.lemmas.Option.{slice_get_within, get_or_from_slice_get}
-use Rattle.pool_alloc.specs.Stepping.{IsSameSize}
-use Rattle.pool_alloc.specs.declared.pool_core.PoolCore.{PoolCore}
-use Rattle.pool_alloc.specs.declared.pool_core.Settings.{Settings}
-use Rattle.pool_alloc.specs.Asked.{ModuleAsked}
-use Rattle.pool_alloc.proofs.Telling.{told_weaker}
+use Rattle.std.proofs.Common.{◌≡◌, ℕ, ◌<◌, true, List, [], ◌∷◌, ◌++◌, length, map, Option, Some, None, refl, sym, ap, ◌∙◌, subst, inl, inr, arith, slice_get, slice_set, slice_index_or}
+use Rattle.pool_run.proofs.Imports.{cases_eq, length-set, map-set, get_or-map, set-get_or, get_or-set_same, get_or-set_other, slice_get_within, get_or_from_slice_get, told_weaker, IsSameSize, PoolCore, Settings, ModuleAsked, table_kind, stack_kind, heap_kind, allocator_of, has_number, Plan, PlainHeap}
 use Rattle.pool_run.specs.PrivateStacks.{StackTerms}
 use Rattle.pool_run.specs.PrivateTables.{Host}
-use Rattle.pool_hall.specs.declared.unit_name.SlotKind.TheVariants.{Table as table_kind, Stack as stack_kind, Heap as heap_kind}
-use Rattle.pool_alloc.specs.Steps.{allocator_of}
-use Rattle.pool_slots.specs.Plans.{has_number}
-use Rattle.pool_slots.specs.declared.plan.Plan.{Plan}
-use Rattle.pool_slots.specs.declared.listed_heaps.PlainHeap.{PlainHeap}
 use Rattle.pool_run.specs.Private.{IsPrivateRun, no_grants}
 use Rattle.pool_run.specs.Rooms.{World, open_host, under, in_stripe, world_at, IsPooledRun}
 use Rattle.pool_run.specs.Turns.{Turned, Turns, with_reply, host_of_party}

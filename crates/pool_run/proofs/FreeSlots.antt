@@ -1,18 +1,6 @@
 -- The slots of a grant are slots of the pool, which differ, and no live grant of the party has one.
-use Rattle.std.proofs.Common.{◌≡◌, ◌≢◌, ℕ, zero, suc, ◌+◌, ◌<◌, ◌≤◌, List, [], ◌∷◌, length, map, get_or, Option, Some, None, refl, sym, ap, ◌∙◌, subst, inl, inr, arith, All}
-use Rattle.std.specs.Prelude.{IfSome, sum_by, option_map, slice_index_or}
-use Rattle.std.proofs.lemmas.Bool.{cases_eq}
-use Rattle.std.proofs.lemmas.List.{length-map, get_or-map}
-use Rattle.std.proofs.lemmas.List.Elements.{All-map}
-use Rattle.std.proofs.lemmas.List.Sums.{sum_by-cons, get_or-le-sum_by}
-use Rattle.pool_slots.specs.declared.slot_name.RegionNumbers.{RegionNumbers}
-use Rattle.pool_slots.specs.declared.slot_name.SlotName.{SlotName}
-use Rattle.pool_slots.specs.declared.listed_heaps.PlainHeap.{PlainHeap}
-use Rattle.pool_alloc.specs.Places.{right_to, both_count, slot_count}
-use Rattle.pool_alloc.specs.Stepping.{grant_count}
-use Rattle.pool_alloc.specs.declared.frame.Grant.{Grant}
-use Rattle.pool_alloc.proofs.SlotCounts.{slot_once}
-use Rattle.pool_alloc.proofs.Wholes.{two_of_sum}
+use Rattle.std.proofs.Common.{◌≡◌, ◌≢◌, ℕ, zero, suc, ◌+◌, ◌<◌, ◌≤◌, List, [], ◌∷◌, length, map, get_or, Option, Some, None, refl, sym, ap, ◌∙◌, subst, inl, inr, arith, All, IfSome, sum_by, option_map, slice_index_or}
+use Rattle.pool_run.proofs.Imports.{cases_eq, length-map, get_or-map, All-map, sum_by-cons, get_or-le-sum_by, RegionNumbers, SlotName, PlainHeap, right_to, both_count, slot_count, grant_count, Grant, slot_once, two_of_sum}
 use Rattle.pool_run.specs.Private.{PrivateGrant, Grants, grant_at}
 use Rattle.pool_run.specs.Rooms.{AllDiffer, AreFreeSlots}
 use Rattle.pool_run.specs.Turns.{private_grant, grants_of}

@@ -1,14 +1,11 @@
 -- A party's live grants as it sees them; and one more reply of a private run.
-use Rattle.std.proofs.Common.{◌≡◌, ℕ, zero, suc, ◌+◌, List, [], ◌∷◌, ◌++◌, length, map, Option, Some, None, refl, sym, ap, ◌∙◌, subst, arith}
-use Rattle.std.specs.Prelude.{option_map, slice_get, slice_set, slice_index_or}
-use Rattle.std.proofs.lemmas.List.{map-set}
-use Rattle.pool_alloc.specs.declared.frame.Grant.{Grant}
+use Rattle.std.proofs.Common.{◌≡◌, ℕ, zero, suc, ◌+◌, List, [], ◌∷◌, ◌++◌, length, map, Option, Some, None, refl, sym, ap, ◌∙◌, subst, arith, option_map, slice_get, slice_set, slice_index_or}
+use Rattle.pool_run.proofs.Imports.{map-set, Grant, PlainHeap}
 use Rattle.pool_run.specs.Private.{Grants, grant_at, PrivateState, PrivateStep, StepsBy, with_grants, no_grants, IsPrivateRun}
 use Rattle.pool_run.specs.Rooms.{World, PooledStep, IsPooledRun}
 use Rattle.pool_run.specs.Turns.{private_grant, grants_of}
 use Rattle.pool_run.specs.declared.command.Command.{Command}
 use Rattle.pool_run.specs.declared.reply.Reply.{Reply}
-use Rattle.pool_slots.specs.declared.listed_heaps.PlainHeap.{PlainHeap}
 
 -- a party with these grants, which called its store and its maker of heaps so often
 abbrev pub state_of : Grants → ℕ → ℕ → PrivateState

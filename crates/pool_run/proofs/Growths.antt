@@ -1,19 +1,7 @@
 -- A growth that a limiter decided by its rule ends as the rule alone says, and leaves the memory so.
-use Rattle.std.proofs.Common.{◌≡◌, ℕ, ◌≤◌, Bool, true, false, Option, Some, None, Result, Ok, Err, ◌⊎◌, inl, inr, refl, sym, ap, ◌∙◌, subst}
-use Rattle.std.specs.Prelude.{◌==◌, ◌||◌, ◌&&◌, not, nat_lt, if◌then◌else◌}
-use Rattle.std.proofs.lemmas.Bool.{ltb-false}
-use Rattle.pool_pages.specs.MemoryTypes.{allow_growth_to}
-use Rattle.pool_limits.specs.Growth.{GrowthRule, always, limited_by, memory_answer, memory_failure}
-use Rattle.pool_limits.specs.LimiterTold.{LimiterTold}
-use Rattle.pool_limits.specs.Growing.{GrowthGiven, is_want_of_memory, report_result, result_by, pages_result, answer_result}
-use Rattle.pool_limits.specs.declared.errors.GrowError.{GrowError}
+use Rattle.std.proofs.Common.{◌≡◌, ℕ, ◌≤◌, Bool, true, false, Option, Some, None, Result, Ok, Err, ◌⊎◌, inl, inr, refl, sym, ap, ◌∙◌, subst, ◌==◌, ◌||◌, ◌&&◌, not, nat_lt, if◌then◌else◌}
+use Rattle.pool_run.proofs.Imports.{ltb-false, allow_growth_to, GrowthRule, always, limited_by, memory_answer, memory_failure, LimiterTold, GrowthGiven, is_want_of_memory, report_result, result_by, pages_result, answer_result, GrowError, GrowFault, LimiterError, FailsInPlace, grown_size, exceeds, past_room, IsGrowth, PagesLeave, AnswerLeaves, LeavesBy, Storage, in_slot, stored, Linear, maximum_asked, MemoryState}
 use Rattle.pool_limits.specs.declared.errors.GrowError.TheVariants.{PageFault}
-use Rattle.pool_limits.specs.declared.errors.GrowFault.{GrowFault}
-use Rattle.pool_limits.specs.declared.errors.LimiterError.{LimiterError}
-use Rattle.pool_memory.specs.Growing.{FailsInPlace, grown_size, exceeds, past_room, IsGrowth, PagesLeave, AnswerLeaves, LeavesBy}
-use Rattle.pool_memory.specs.Linear.{Storage, in_slot, stored, Linear}
-use Rattle.pool_memory.specs.Making.{maximum_asked}
-use Rattle.pool_memory.specs.Memories.{MemoryState}
 use Rattle.pool_run.specs.AtOnce.{growth_reply}
 use Rattle.pool_run.specs.Private.{PrivateMemory, GrowthEnd, as_it_was, could_not, has_grown, growth, size_wanted, reported, if_allowed}
 use Rattle.pool_run.specs.Turns.{seen_as, GrowthLeaves, MemoryGrows}

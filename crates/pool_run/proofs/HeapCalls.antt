@@ -1,35 +1,9 @@
 -- How a step leaves the maker of heaps of its party: only the making of a heap calls it, which its list lets or doesn't.
-use Rattle.std.proofs.Common.{◌≡◌, ℕ, ◌⊎◌, inl, inr, List, Bool, true, false, Option, Some, None, Result, Ok, Err, refl, sym, ap, ◌∙◌, subst}
-use Rattle.std.specs.Prelude.{not, IfErr, MatchResult}
-use Rattle.std.proofs.lemmas.Option.{same_Some}
-use Rattle.pool_pages.specs.MakerTold.{MakerTold}
-use Rattle.pool_pages.specs.Told.{risen}
-use Rattle.pool_limits.specs.Growth.{GrowthRule}
-use Rattle.pool_slots.specs.HeapsTold.{HeapsTold, fails_next}
+use Rattle.std.proofs.Common.{◌≡◌, ℕ, ◌⊎◌, inl, inr, List, true, false, Option, Some, None, Result, Ok, Err, refl, sym, ap, ◌∙◌, subst, not, IfErr, MatchResult}
+use Rattle.pool_run.proofs.Imports.{same_Some, MakerTold, risen, GrowthRule, HeapsTold, fails_next, HeapMakeFault, ListedHeaps, PlainHeap, Plan, MakesOf, objects_in, row_of, make_heap_row, IsFrame, IsShapedAt, Stage, asks, seeks_heap, counts_heap, refusing, stage_by, stage_at, stage_of, StepGiven, heaps_wanted, After, stepped, Asked, heap_asked, Ending, Frame, Outcome, Phase, Idle, MakeHeap, TakenSlot, PoolCore, Settings}
 use Rattle.pool_slots.specs.declared.errors.AllocError.TheVariants as refusal
-use Rattle.pool_slots.specs.declared.heap_maker.HeapMakeFault.{HeapMakeFault}
 use Rattle.pool_slots.specs.declared.heap_maker.HeapMakeFault.TheVariants.{Memory, HeapFault}
-use Rattle.pool_slots.specs.declared.listed_heaps.ListedHeaps.{ListedHeaps}
-use Rattle.pool_slots.specs.declared.listed_heaps.PlainHeap.{PlainHeap}
-use Rattle.pool_slots.specs.declared.plan.Plan.{Plan}
-use Rattle.pool_alloc.specs.Answers.{MakesOf}
-use Rattle.pool_alloc.specs.Objects.{objects_in}
-use Rattle.pool_alloc.specs.Rows.{row_of, make_heap_row}
-use Rattle.pool_alloc.specs.Sound.{IsFrame, IsShapedAt}
-use Rattle.pool_alloc.specs.Stages.{Stage, asks, seeks_heap, counts_heap, refusing, stage_by, stage_at, stage_of}
-use Rattle.pool_alloc.specs.Steps.{StepGiven, heaps_wanted}
-use Rattle.pool_alloc.specs.Turns.{After, stepped}
-use Rattle.pool_alloc.specs.declared.frame.Asked.{Asked}
-use Rattle.pool_alloc.specs.declared.frame.Asked.TheVariants.{Heap as heap_asked}
-use Rattle.pool_alloc.specs.declared.frame.Ending.{Ending}
 use Rattle.pool_alloc.specs.declared.frame.Ending.TheVariants as ending
-use Rattle.pool_alloc.specs.declared.frame.Frame.{Frame}
-use Rattle.pool_alloc.specs.declared.frame.Outcome.{Outcome}
-use Rattle.pool_alloc.specs.declared.frame.Phase.{Phase}
-use Rattle.pool_alloc.specs.declared.frame.Phase.TheVariants.{Idle, MakeHeap}
-use Rattle.pool_alloc.specs.declared.frame.TakenSlot.{TakenSlot}
-use Rattle.pool_alloc.specs.declared.pool_core.PoolCore.{PoolCore}
-use Rattle.pool_alloc.specs.declared.pool_core.Settings.{Settings}
 use Rattle.pool_run.specs.PrivateTables.{goes_through}
 use Rattle.pool_run.specs.Turns.{heaps_told, StepsUnder}
 
@@ -39,11 +13,6 @@ heap_stage (heap_asked ty) ending.Granted n is one = refl
 heap_stage (heap_asked ty) ending.Returned n is one = absurd cc
 heap_stage (heap_asked ty) (ending.Refused e) n is one = absurd cc
 heap_stage _ e n is one = absurd cc
-
--- what is not so, where it is said to be
-no_fault : (b : Bool) → not b ≡ true → b ≡ false
-no_fault true is = absurd cc
-no_fault false is = refl
 
 module _ {P : Type 0} where
   plan_kept : (old new : HeapsTold) (g : StepGiven PlainHeap) (phase : Phase P PlainHeap) → MakesOf old new g phase → new.plan ≡ old.plan

@@ -1,25 +1,17 @@
 -- The maker of heaps fails where its list says, and nowhere else.
-use Rattle.std.proofs.Common.{◌≡◌, ℕ, zero, suc, ◌+◌, ◌-◌, ◌^◌, ◌<◌, ◌≤◌, inl, inr, ◌==◌, List, [], ◌∷◌, length, take, Bool, true, false, Option, Some, None, refl, sym, ap, ◌∙◌, subst, arith}
-use Rattle.std.specs.Prelude.{not}
-use Rattle.std.specs.List.{list_any}
-use Rattle.std.proofs.lemmas.List.Sums.{sum_by-cons}
-use Rattle.pool_pages.specs.Told.{risen}
-use Rattle.pool_index.specs.Shard.{one_if}
-use Rattle.pool_slots.specs.declared.errors.AllocError.{AllocError}
+use Rattle.std.proofs.Common.{◌≡◌, ℕ, zero, suc, ◌+◌, ◌-◌, ◌^◌, ◌<◌, ◌≤◌, inl, inr, ◌==◌, List, [], ◌∷◌, length, take, Bool, true, false, Option, Some, None, refl, sym, ap, ◌∙◌, subst, arith, not}
+use Rattle.pool_run.proofs.Imports.{list_any, sum_by-cons, one_at_most, risen, one_if, AllocError, Limits}
 use Rattle.pool_slots.specs.declared.errors.AllocError.TheVariants.{HeapFault}
-use Rattle.pool_pages.specs.declared.module_types.Limits.{Limits}
 use Rattle.pool_run.specs.Acts.{Act, requests, on_memory, on_table, drops, purges, releases, act_of, an_instance, a_component, a_stack, a_heap, heap_type}
-use Rattle.pool_run.specs.HeapFaults.{asks_heap, is_heap_fault, heaps_asked, heaps_failed, listed_to, FewHeapFaults, HeapFaultsAreListed, HeapFaultsAreListedOnDemand}
+use Rattle.pool_run.specs.HeapFaults.{asks_heap, is_heap_fault, heaps_asked, heaps_failed, listed_to, FewHeapFaults, HeapFaultsAreListed}
 use Rattle.pool_run.specs.Objects.{MovesNamed}
-use Rattle.pool_run.specs.OnDemand.{request_on_demand, MakesHeap, TableMovesOnDemand, ActsOnDemand, StepOnDemand}
 use Rattle.pool_run.specs.Private.{Terms, Moves, request_of, PrivateState, PrivateStep, StepsBy, CountsRefused, CountsGranted, AsksForHeap, Grants, grant_at, table_at, with_table, with_grants, no_grants}
 use Rattle.pool_run.specs.PrivateTables.{StoredTable, TableMoves, goes_through}
 use Rattle.pool_run.specs.declared.command.Command.{Command}
 use Rattle.pool_run.specs.declared.reply.Reply.{Reply}
 use Rattle.pool_run.specs.declared.reply.Reply.TheVariants.{Refused, Heap}
 use Rattle.pool_run.specs.declared.reply.Refusal.TheVariants.{Alloc}
-use Rattle.pool_run.proofs.OnDemandStepsBy.{meeting_by}
-use Rattle.pool_run.proofs.OtherReplies.{IsOther, bytes_other, bytes_other_on_demand, table_named_other, table_named_other_on_demand, drop_other, purged_other, released_other, instance_other, component_other, stack_asked_other, made_other, component_made_other, stack_made_other}
+use Rattle.pool_run.proofs.OtherReplies.{IsOther, bytes_other, table_named_other, drop_other, purged_other, released_other, instance_other, component_other, stack_asked_other}
 
 not_through : (b : Bool) → not b ≡ false → one_if b ≡ 1
 not_through true is = refl
@@ -45,10 +37,10 @@ listed_up listed n m up =
     subst (λ (x : ℕ). listed_to listed n ≤ listed_to listed x) is (listed_more listed n (m - n))
 
 -- What a command leaves of the calls: at most one more, and its failure is listed.
-record Leaves (unmade : List ℕ) (asked failed before after : ℕ) : Type 0 where
-  listed : failed + listed_to unmade before ≤ listed_to unmade after
-  up : before ≤ after
-  few : after ≤ before + asked
+pub record Leaves (unmade : List ℕ) (asked failed before after : ℕ) : Type 0 where
+  pub listed : failed + listed_to unmade before ≤ listed_to unmade after
+  pub up : before ≤ after
+  pub few : after ≤ before + asked
 
 same_leaves : (unmade : List ℕ) (asked before after : ℕ) → after ≡ before → Leaves unmade asked 0 before after
 same_leaves unmade asked before after same =
@@ -58,7 +50,7 @@ same_leaves unmade asked before after same =
 risen_one : (n : ℕ) → n + 1 < 2 ^ 64 → risen n ≡ n + 1
 risen_one n small = omega (arith, small)
 
-granted_leaves : (unmade : List ℕ) (before after : ℕ) → before + 1 < 2 ^ 64 → CountsGranted unmade before after → Leaves unmade 1 0 before after
+pub granted_leaves : (unmade : List ℕ) (before after : ℕ) → before + 1 < 2 ^ 64 → CountsGranted unmade before after → Leaves unmade 1 0 before after
 granted_leaves unmade before after small (inl same) = same_leaves unmade 1 before after same
 granted_leaves unmade before after small (inr rose) =
     let L : ℕ → Type 0 = λ x. Leaves unmade 1 0 before x in
@@ -74,24 +66,24 @@ fault_leaves unmade before after small is =
     let listed : one_if (Any (before + 1)) ≡ 1 = not_through (Any (before + 1)) through in
     subst L (sym (is.1 ∙ one)) (record { listed = omega (arith, listed, listed_next unmade before); up = omega arith; few = omega arith })
 
-refused_leaves : (unmade : List ℕ) (e : AllocError) (before after : ℕ) → before + 1 < 2 ^ 64 → CountsRefused unmade e before after → Leaves unmade 1 (one_if (is_heap_fault (Refused (Alloc e)))) before after
+pub refused_leaves : (unmade : List ℕ) (e : AllocError) (before after : ℕ) → before + 1 < 2 ^ 64 → CountsRefused unmade e before after → Leaves unmade 1 (one_if (is_heap_fault (Refused (Alloc e)))) before after
 refused_leaves unmade HeapFault before after small counts = fault_leaves unmade before after small counts
 refused_leaves unmade _ before after small counts = same_leaves unmade 1 before after counts
 
 -- Steps by these of commands leave so.
-abbrev StepsLeave : List ℕ → (ℕ → PrivateState → Command → Reply → PrivateState → Type 0) → Type 0
+abbrev pub StepsLeave : List ℕ → (ℕ → PrivateState → Command → Reply → PrivateState → Type 0) → Type 0
 StepsLeave unmade Step = (n : ℕ) (s new : PrivateState) (command : Command) (reply : Reply) → s.heaps + 1 < 2 ^ 64 → Step n s command reply new → Leaves unmade (one_if (asks_heap (act_of command))) (one_if (is_heap_fault reply)) s.heaps new.heaps
 
 -- A command that doesn't ask for a heap makes none.
-other_leaves : (unmade : List ℕ) (s new : PrivateState) (reply : Reply) → IsOther reply → new.heaps ≡ s.heaps → Leaves unmade 0 (one_if (is_heap_fault reply)) s.heaps new.heaps
+pub other_leaves : (unmade : List ℕ) (s new : PrivateState) (reply : Reply) → IsOther reply → new.heaps ≡ s.heaps → Leaves unmade 0 (one_if (is_heap_fault reply)) s.heaps new.heaps
 other_leaves unmade s new reply other same =
     let L : Bool → Type 0 = λ b. Leaves unmade 0 (one_if b) s.heaps new.heaps in
     subst L (sym other) (same_leaves unmade 0 s.heaps new.heaps same)
 
-same_heaps : (s new : PrivateState) (grants : Grants) → new ≡ record s { grants = grants } → new.heaps ≡ s.heaps
+pub same_heaps : (s new : PrivateState) (grants : Grants) → new ≡ record s { grants = grants } → new.heaps ≡ s.heaps
 same_heaps s new grants is = ap (λ (y : PrivateState). y.heaps) is
 
-table_leaves : (of k : ℕ) (Move : StoredTable → StoredTable → Reply → Type 0) (x : Option StoredTable) (s new : PrivateState) (reply : Reply) → MovesNamed Move x (with_table of k) s reply new → new.heaps ≡ s.heaps
+pub table_leaves : (of k : ℕ) (Move : StoredTable → StoredTable → Reply → Type 0) (x : Option StoredTable) (s new : PrivateState) (reply : Reply) → MovesNamed Move x (with_table of k) s reply new → new.heaps ≡ s.heaps
 table_leaves of k Move None s new reply moves = ap (λ (y : PrivateState). y.heaps) moves.1
 table_leaves of k Move (Some t) s new reply moves = ap (λ (y : PrivateState). y.heaps) moves.2
 
@@ -111,27 +103,6 @@ act_leaves t n (on_table of k op) s new reply small is = other_leaves t.host.unm
 act_leaves t n (drops of) s new reply small is = other_leaves t.host.unmade s new reply (drop_other (grant_at s.grants of) of s.grants is.0 reply is.1) (same_heaps s new is.0 is.2)
 act_leaves t n (purges number) s new reply small is = other_leaves t.host.unmade s new reply (purged_other reply is.0) (ap (λ (y : PrivateState). y.heaps) is.1)
 act_leaves t n releases s new reply small is = other_leaves t.host.unmade s new reply (released_other reply is.0) (ap (λ (y : PrivateState). y.heaps) is.1)
-
--- and on demand, where each heap that is granted is made
-heap_leaves_on_demand : (t : Terms) (n : ℕ) (limits : Limits) (s new : PrivateState) (reply : Reply) → s.heaps + 1 < 2 ^ 64 → MakesHeap t n (heap_type limits) s reply new → Leaves t.host.unmade 1 (one_if (is_heap_fault reply)) s.heaps new.heaps
-heap_leaves_on_demand t n limits s new (Heap slot memory) small makes = granted_leaves t.host.unmade s.heaps new.heaps small (inr (makes.0.made, ap (λ (y : PrivateState). y.heaps) makes.1.1.1))
-heap_leaves_on_demand t n limits s new (Refused (Alloc e)) small makes = refused_leaves t.host.unmade e s.heaps new.heaps small makes.1.0
-heap_leaves_on_demand t n limits s new _ small makes = absurd makes
-
-act_leaves_on_demand : (t : Terms) (n : ℕ) (act : Act) (s new : PrivateState) (reply : Reply) → s.heaps + 1 < 2 ^ 64 → ActsOnDemand t n s act reply new → Leaves t.host.unmade (one_if (asks_heap act)) (one_if (is_heap_fault reply)) s.heaps new.heaps
-act_leaves_on_demand t n (requests (an_instance number)) s new reply small is = other_leaves t.host.unmade s new reply (made_other t n (request_on_demand t number) s.grants is.0 reply is.1) (same_heaps s new is.0 is.2)
-act_leaves_on_demand t n (requests (a_component info)) s new reply small is = other_leaves t.host.unmade s new reply (component_made_other n s.grants is.0 reply is.1) (same_heaps s new is.0 is.2)
-act_leaves_on_demand t n (requests a_stack) s new reply small is = other_leaves t.host.unmade s new reply (stack_made_other t n s.grants is.0 reply is.1) (same_heaps s new is.0 is.2)
-act_leaves_on_demand t n (requests (a_heap limits)) s new reply small is = heap_leaves_on_demand t n limits s new reply small is
-act_leaves_on_demand t n (on_memory of k op) s new reply small is = other_leaves t.host.unmade s new reply (bytes_other_on_demand op t.host.rule (grant_at s.grants of) of k s.grants is.0 reply is.1) (same_heaps s new is.0 is.2)
-act_leaves_on_demand t n (on_table of k op) s new reply small is = other_leaves t.host.unmade s new reply (table_named_other_on_demand op t.host of k s new reply is) (table_leaves of k (TableMovesOnDemand op t.host) (table_at of k s) s new reply is)
-act_leaves_on_demand t n (drops of) s new reply small is = other_leaves t.host.unmade s new reply (drop_other (grant_at s.grants of) of s.grants is.0 reply is.1) (same_heaps s new is.0 is.2)
-act_leaves_on_demand t n (purges number) s new reply small is = other_leaves t.host.unmade s new reply (ap is_heap_fault is.0) (ap (λ (y : PrivateState). y.heaps) is.1)
-act_leaves_on_demand t n releases s new reply small is = other_leaves t.host.unmade s new reply (ap is_heap_fault is.0) (ap (λ (y : PrivateState). y.heaps) is.1)
-
-one_at_most : (b : Bool) → one_if b ≤ 1
-one_at_most true = omega arith
-one_at_most false = omega arith
 
 none_left : (listed : List ℕ) (n k : ℕ) → 0 + listed_to listed n ≤ listed_to listed (n + k)
 none_left listed n k = omega (arith, listed_more listed n k)
@@ -156,7 +127,7 @@ module _ (unmade : List ℕ) (Step : ℕ → PrivateState → Command → Reply 
       let all : heaps_failed (take (suc k) (reply ∷ replies)) + listed_to unmade s.heaps ≤ listed_to unmade (s.heaps + (one_if (asks_heap act) + more)) = omega (arith, rest, here.listed, up, failed) in
       subst (λ (x : ℕ). heaps_failed (take (suc k) (reply ∷ replies)) + listed_to unmade s.heaps ≤ listed_to unmade (s.heaps + x)) (sym asked) all
 
-  run_leaves : (commands : List Command) (replies : List Reply) (end : PrivateState) → length commands < 2 ^ 64 → StepsBy Step 0 commands replies (with_grants (no_grants commands)) end → FewHeapFaults unmade commands replies
+  pub run_leaves : (commands : List Command) (replies : List Reply) (end : PrivateState) → length commands < 2 ^ 64 → StepsBy Step 0 commands replies (with_grants (no_grants commands)) end → FewHeapFaults unmade commands replies
   run_leaves commands replies end small run n =
       let asked : ℕ = heaps_asked (take n commands) in
       let all = steps_leave 0 commands replies (with_grants (no_grants commands)) end n (omega (arith, small)) run in
@@ -165,8 +136,3 @@ module _ (unmade : List ℕ) (Step : ℕ → PrivateState → Command → Reply 
 
 pub heap_faults_listed : HeapFaultsAreListed
 heap_faults_listed t commands replies small run = run_leaves t.host.unmade (PrivateStep t) (λ n s new command reply room step. act_leaves t n (act_of command) s new reply room step) commands replies run.0 small run.1
-
-pub heap_faults_listed_on_demand : HeapFaultsAreListedOnDemand
-heap_faults_listed_on_demand t commands replies met small run =
-    run_leaves t.host.unmade (StepOnDemand t) (λ n s new command reply room step. act_leaves_on_demand t n (act_of command) s new reply room step) commands replies run.0 small
-    (meeting_by t 0 commands replies (with_grants (no_grants commands)) met run.0 run.1)

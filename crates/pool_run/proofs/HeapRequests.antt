@@ -1,47 +1,8 @@
 -- A request for a heap: why it is refused, and what is granted.
-use Rattle.std.proofs.Common.{◌≡◌, ℕ, ◌+◌, ◌*◌, ◌<◌, ◌≤◌, inl, inr, List, [], ◌∷◌, length, Bool, true, false, Option, Some, None, Result, Ok, Err, refl, sym, ap, ◌∙◌, subst, arith}
-use Rattle.std.specs.Prelude.{sum_by, not, nat_lt, if◌then◌else◌, option_map, slice_get, slice_index_or}
-use Rattle.std.proofs.lemmas.Bool.{cases_lt, lt-ltb, le-ltb}
-use Rattle.pool_hall.specs.declared.unit_name.SlotKind.{SlotKind}
-use Rattle.pool_hall.specs.declared.unit_name.SlotKind.TheVariants.{Memory as memory_kind, Heap as heap_kind}
-use Rattle.pool_pages.specs.declared.module_types.MemoryDecl.{MemoryDecl}
-use Rattle.pool_pages.specs.declared.module_types.MemoryType.{MemoryType}
-use Rattle.pool_pages.specs.declared.unsupported.Unsupported.{Unsupported}
-use Rattle.pool_limits.specs.Growth.{memory_answer}
-use Rattle.pool_memory.specs.Making.{minimum_asked, maximum_asked}
-use Rattle.pool_memory.specs.Memories.{MemoryState}
-use Rattle.pool_slots.specs.HeapsTold.{HeapsTold}
-use Rattle.pool_slots.specs.Plans.{has_number}
-use Rattle.pool_slots.specs.declared.errors.AllocError.{AllocError}
+use Rattle.std.proofs.Common.{◌≡◌, ℕ, ◌+◌, ◌*◌, ◌<◌, ◌≤◌, inl, inr, List, [], ◌∷◌, length, Bool, true, false, Option, Some, None, Result, Ok, Err, refl, sym, ap, ◌∙◌, subst, arith, sum_by, not, nat_lt, if◌then◌else◌, option_map, slice_get, slice_index_or}
+use Rattle.pool_run.proofs.Imports.{cases_lt, lt-ltb, le-ltb, SlotKind, memory_kind, heap_kind, MemoryDecl, MemoryType, Unsupported, memory_answer, minimum_asked, maximum_asked, MemoryState, HeapsTold, has_number, AllocError, MemoryStripe, GcHeaps, HeapMakeFault, ListedHeaps, PlainHeap, Allocator, SlotName, AsksForMemory, IsHeapOf, LeasedHeap, Lease, memory_slot, made_for, heap_refusal_of, PartyTold, MakesHeap, right_to, slot_count, heap_refused, type_refused, IsMemoryNext, IsHeapNext, IsSupported, FindsNone, IsPageFaulted, Makes, SeeksHeap, FailsHeap, IsHeapUntested, IsHeapTested, IsUntested, Follows, Raises, seeks_heap, memories_wanted, images_wanted, heaps_wanted, kind_by, kind_next, memory_slots, stripe_allocator, allocator_of, allocator_for, plain_decl, grant_count, limit_of, MemoryWant, new_memory, Asked, heap_asked, Frame, Grant, instance, heap, PoolCore, Settings}
 use Rattle.pool_slots.specs.declared.errors.AllocError.TheVariants as refusal
-use Rattle.pool_slots.specs.declared.errors.ConcurrencyKind.TheVariants.{MemoryStripe, GcHeaps}
-use Rattle.pool_slots.specs.declared.heap_maker.HeapMakeFault.{HeapMakeFault}
 use Rattle.pool_slots.specs.declared.heap_maker.HeapMakeFault.TheVariants.{HeapFault}
-use Rattle.pool_slots.specs.declared.listed_heaps.ListedHeaps.{ListedHeaps}
-use Rattle.pool_slots.specs.declared.listed_heaps.PlainHeap.{PlainHeap}
-use Rattle.pool_slots.specs.declared.plan.Allocator.{Allocator}
-use Rattle.pool_slots.specs.declared.slot_name.SlotName.{SlotName}
-use Rattle.pool_alloc.specs.Answers.{AsksForMemory}
-use Rattle.pool_alloc.specs.Calls.{IsHeapOf}
-use Rattle.pool_alloc.specs.HeapLeases.{LeasedHeap}
-use Rattle.pool_alloc.specs.Leases.{Lease, memory_slot}
-use Rattle.pool_alloc.specs.Own.{made_for, heap_refusal as heap_refusal_of}
-use Rattle.pool_alloc.specs.PartyTold.{PartyTold, MakesHeap}
-use Rattle.pool_alloc.specs.Places.{right_to, slot_count}
-use Rattle.pool_alloc.specs.Refusals.{heap_refused, type_refused}
-use Rattle.pool_alloc.specs.Sound.{IsMemoryNext, IsHeapNext, IsSupported}
-use Rattle.pool_alloc.specs.Stages.{FindsNone, IsPageFaulted, Makes, SeeksHeap, FailsHeap, IsHeapUntested, IsHeapTested, IsUntested, Follows, Raises, seeks_heap}
-use Rattle.pool_alloc.specs.Steps.{memories_wanted, images_wanted, heaps_wanted, kind_by, kind_next, memory_slots, stripe_allocator, allocator_of, allocator_for, plain_decl}
-use Rattle.pool_alloc.specs.Stepping.{grant_count}
-use Rattle.pool_alloc.specs.Turns.{limit_of}
-use Rattle.pool_alloc.specs.Wants.{MemoryWant, new_memory}
-use Rattle.pool_alloc.specs.declared.frame.Asked.{Asked}
-use Rattle.pool_alloc.specs.declared.frame.Asked.TheVariants.{Heap as heap_asked}
-use Rattle.pool_alloc.specs.declared.frame.Frame.{Frame}
-use Rattle.pool_alloc.specs.declared.frame.Grant.{Grant}
-use Rattle.pool_alloc.specs.declared.frame.Grant.TheVariants.{Instance as instance, Heap as heap}
-use Rattle.pool_alloc.specs.declared.pool_core.PoolCore.{PoolCore}
-use Rattle.pool_alloc.specs.declared.pool_core.Settings.{Settings}
 use Rattle.pool_run.specs.Private.{Grants, Terms, heap_grant, begun_memory, own_refusal, stripe_slots, heap_memory, heap_barred, heap_refusal, HeapRefusal, RefusesHeap, CountsRefused}
 use Rattle.pool_run.specs.PrivateTables.{goes_through}
 use Rattle.pool_run.specs.Rooms.{World, live_count, heap_count, IsForHeapRoom}
@@ -58,19 +19,6 @@ use Rattle.pool_run.proofs.SlotsMade.{made_slot}
 -- what a heap's memory has of one is such
 own_is : (t : Terms) (ty : MemoryType) (e : AllocError) → heap_refusal t ty ≡ Some e → IsOwn e
 own_is t ty e is = answer_own (memory_answer (Some t.host.rule) (Ok true) (minimum_asked ty) (maximum_asked ty)) ty e is
-
--- it is none for room, and none of the maker
-own_for_room : (w : World) (told : Grants) (e : AllocError) → IsOwn e → IsForHeapRoom w told e
-own_for_room w told (refusal.Unsupported rule) own = tt
-own_for_room w told (refusal.LimiterDenied table least) own = tt
-own_for_room w told (refusal.LimiterFault x) own = tt
-own_for_room w told _ own = absurd own
-
-own_counts : (unmade : List ℕ) (calls after : ℕ) (e : AllocError) → IsOwn e → after ≡ calls → CountsRefused unmade e calls after
-own_counts unmade calls after (refusal.Unsupported rule) own same = same
-own_counts unmade calls after (refusal.LimiterDenied table least) own same = same
-own_counts unmade calls after (refusal.LimiterFault x) own same = same
-own_counts unmade calls after _ own same = absurd own
 
 -- A refusal of a heap, before a maker is asked, with what that tells of room and of the calls on the maker.
 pub record RefusesNow (w : World) (told : Grants) (ty : MemoryType) (e : AllocError) (calls after : ℕ) : Type 0 where

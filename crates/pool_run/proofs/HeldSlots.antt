@@ -1,19 +1,7 @@
 -- What the slot of a memory keeps of the region that was made for it, whatever colour that has.
-use Rattle.std.proofs.Common.{◌≡◌, ℕ, Option, Some, None, refl, ap, ◌∙◌, true, false, Bool}
-use Rattle.std.specs.Prelude.{is_some, if◌then◌else◌}
-use Rattle.pool_pages.specs.Count.{count, rounded_up}
-use Rattle.pool_pages.specs.MakerTold.{MakerTold, made_region, plan_for}
-use Rattle.pool_pages.specs.Told.{Told}
+use Rattle.std.proofs.Common.{◌≡◌, ℕ, Option, Some, None, refl, ap, ◌∙◌, is_some}
+use Rattle.pool_run.proofs.Imports.{told_if, count, rounded_up, MakerTold, made_region, plan_for, Told, Slot, SlotIdentity, coloured, told_same, stripe_colour, IsPoolSlot, Settings}
 use Rattle.pool_pages.specs.declared.pages.RegionName.TheVariants.{Memory}
-use Rattle.pool_images.specs.Slots.{Slot, SlotIdentity, coloured}
-use Rattle.pool_images.proofs.Identity.{told_same}
-use Rattle.pool_slots.specs.Colourings.{stripe_colour}
-use Rattle.pool_alloc.specs.Sound.{IsPoolSlot}
-use Rattle.pool_alloc.specs.declared.pool_core.Settings.{Settings}
-
-pub told_if : {X : Type 0} (b : Bool) (x : X) → is_some (if b then Some x else None) ≡ b
-told_if true x = refl
-told_if false x = refl
 
 coloured_name : (colour : Option ℕ) (start len : ℕ) (t : Told) → (coloured colour start len t).name ≡ t.name
 coloured_name None start len t = refl

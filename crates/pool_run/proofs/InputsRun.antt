@@ -1,20 +1,6 @@
 -- A run of an input: the program's conditions follow from those of the input, and its end from its turns.
-use Rattle.std.proofs.Common.{◌≡◌, ℕ, ◌+◌, ◌*◌, ◌^◌, ◌<◌, ◌≤◌, zero, suc, List, [], ◌∷◌, ◌++◌, length, map, get_or, replicate, refl, sym, ap, ◌∙◌, subst, arith, Option, None, Bool, true, false}
-use Rattle.std.specs.Prelude.{slice_get, slice_index_or}
-use Rattle.std.proofs.lemmas.Bool.{eqb-true, ltb-true}
-use Rattle.std.proofs.lemmas.List.{length-map, length-replicate}
-use Rattle.std.proofs.lemmas.List.Sums.{sum_by-cons}
-use Rattle.std.proofs.lemmas.Option.{slice_get-get_or}
-use Rattle.pool_pages.specs.MakerTold.{MakerTold}
-use Rattle.pool_pages.specs.declared.module_types.ModuleInfo.{ModuleInfo}
-use Rattle.pool_pages.specs.declared.module_types.Tunables.{Tunables}
-use Rattle.pool_alloc.specs.Sound.{IsCore}
-use Rattle.pool_alloc.specs.Sums.{metrics_of}
-use Rattle.pool_alloc.specs.Whole.{IsUntouched}
-use Rattle.pool_alloc.specs.declared.frame.Grant.{Grant}
-use Rattle.pool_alloc.specs.Asked.{ModuleAsked}
-use Rattle.pool_alloc.specs.declared.pool_core.PoolCore.{PoolCore}
-use Rattle.pool_alloc.specs.declared.pool_core.Settings.{Settings}
+use Rattle.std.proofs.Common.{◌≡◌, ℕ, ◌+◌, ◌*◌, ◌^◌, ◌<◌, ◌≤◌, zero, suc, List, [], ◌∷◌, ◌++◌, length, map, get_or, replicate, refl, sym, ap, ◌∙◌, subst, arith, Option, None, Bool, true, false, slice_get, slice_index_or}
+use Rattle.pool_run.proofs.Imports.{eqb-true, ltb-true, length-map, length-replicate, sum_by-cons, slice_get-get_or, first_true, second_true, MakerTold, ModuleInfo, Tunables, IsCore, metrics_of, IsUntouched, Grant, ModuleAsked, PoolCore, Settings, made_untouched, PlainHeap}
 use Rattle.pool_run.specs.Built.{is_built}
 use Rattle.pool_run.specs.Agreeing.{IsRunnable}
 use Rattle.pool_run.specs.Folds.{RunParts, RunState, IsUnderWay, commands_of, replies_to, told_state}
@@ -43,13 +29,10 @@ use Rattle.pool_run.proofs.Ended.{folds_count, run_count, all_replied}
 use Rattle.pool_run.proofs.Folding.{folds_under_way, run_under_way, replies_pooled, replies_private}
 use Rattle.pool_run.proofs.RunMade.{are_made}
 use Rattle.pool_run.proofs.Started.{run_started}
-use Rattle.pool_run.proofs.Tests.{first, second}
 use Rattle.pool_run.proofs.Valid.{valid_parties, valid_home, few_commands, valid_commands, valid_entry}
 use Rattle.pool_run.proofs.BuiltInputs.{built_modules}
-use Rattle.pool_alloc.proofs.MadePools.{made_untouched}
 use Rattle.pool_run.proofs.MadeRuns.{core_sound}
 use Rattle.pool_run.proofs.WorldsMade.{is_world, are_calls_for}
-use Rattle.pool_slots.specs.declared.listed_heaps.PlainHeap.{PlainHeap}
 
 -- Each command names a module that there is.
 names : (modules : List ModuleInfo) (earlier : List Command) (act : Act) → is_valid_act modules earlier act ≡ true → NamesModule (length modules) act
@@ -63,8 +46,8 @@ names modules earlier releases valid = tt
 
 pub all_name : (modules : List ModuleInfo) (earlier commands : List Command) → are_valid_after modules earlier commands ≡ true → NameModules (length modules) commands
 all_name modules earlier [] valid k = tt
-all_name modules earlier (c ∷ cs) valid zero = names modules earlier (act_of c) (first _ _ valid)
-all_name modules earlier (c ∷ cs) valid (suc k) = all_name modules (earlier ++ c ∷ []) cs (second (is_valid_act modules earlier (act_of c)) _ valid) k
+all_name modules earlier (c ∷ cs) valid zero = names modules earlier (act_of c) (first_true _ _ valid)
+all_name modules earlier (c ∷ cs) valid (suc k) = all_name modules (earlier ++ c ∷ []) cs (second_true (is_valid_act modules earlier (act_of c)) _ valid) k
 
 pub parties_name : (input : Input) (parties : List Party) (modules : ℕ) → parties ≡ input.parties → modules ≡ length input.modules → is_valid input ≡ true → (i : ℕ) (d : Party) → i < length parties → NameModules modules (slice_index_or parties i d).commands
 parties_name input parties modules same count valid i d below =

@@ -1,17 +1,6 @@
 -- What a change of a lease is as a move of its memory.
-use Rattle.std.proofs.Common.{◌≡◌, ℕ, ◌+◌, ◌<◌, Bool, true, false, List, length, Option, Some, Result, Ok, Err, sym, ap, ◌∙◌, subst}
-use Rattle.std.proofs.lemmas.List.{set-get_or}
-use Rattle.std.proofs.lemmas.Option.{get_or_from_slice_get, slice_get-get_or}
-use Rattle.std.specs.Prelude.{nat_le, slice_get, slice_set, slice_index_or, if◌then◌else◌, OnOk, OnErr}
-use Rattle.pool_limits.specs.Exchanges.{Exchange}
-use Rattle.pool_limits.specs.LimiterTold.{LimiterTold}
-use Rattle.pool_limits.specs.Growth.{GrowthRule}
-use Rattle.pool_limits.specs.declared.errors.GrowFault.{GrowFault}
-use Rattle.pool_limits.specs.declared.errors.Trap.{Trap}
-use Rattle.pool_limits.specs.declared.errors.Trap.TheVariants.{MemoryOutOfBounds}
-use Rattle.pool_memory.specs.Memories.{MemoryState, memory_written}
-use Rattle.pool_alloc.specs.Leases.{Lease, IsWritten, IsChanged, IsGrown}
-use Rattle.pool_alloc.specs.Reserved.{Reserved}
+use Rattle.std.proofs.Common.{◌≡◌, ℕ, ◌+◌, ◌<◌, Bool, true, false, List, length, Option, Some, Result, Ok, Err, sym, ap, ◌∙◌, subst, nat_le, slice_get, slice_set, slice_index_or, if◌then◌else◌, OnOk, OnErr}
+use Rattle.pool_run.proofs.Imports.{set-get_or, get_or_from_slice_get, slice_get-get_or, Exchange, LimiterTold, GrowthRule, GrowFault, Trap, MemoryOutOfBounds, MemoryState, memory_written, Lease, IsWritten, IsChanged, IsGrown, Reserved}
 use Rattle.pool_run.specs.AtOnce.{GrowsUnder, write_reply, growth_reply}
 use Rattle.pool_run.specs.Turns.{MemoryWrites, MemoryGrows, MovesLease}
 use Rattle.pool_run.specs.declared.reply.Reply.{Reply}

@@ -1,6 +1,4 @@
 pub mod Advanced
-pub mod AlikeBytes
-pub mod AlikeTables
 pub mod Beginning
 pub mod Between
 pub mod BuiltInputs
@@ -23,6 +21,7 @@ pub mod HeapCalls
 pub mod HeapFaults
 pub mod HeapRequests
 pub mod HeldSlots
+mod Imports
 pub mod InputsRun
 pub mod LeaseChanges
 pub mod Limits
@@ -31,21 +30,6 @@ pub mod MadeRuns
 pub mod Makings
 pub mod Moves
 pub mod Named
-pub mod OnDemandAlike
-pub mod OnDemandFolding
-pub mod OnDemandGrants
-pub mod OnDemandGrowing
-pub mod OnDemandHeaps
-pub mod OnDemandLive
-pub mod OnDemandMade
-pub mod OnDemandMoves
-pub mod OnDemandPaid
-pub mod OnDemandParties
-pub mod OnDemandRefused
-pub mod OnDemandRequests
-pub mod OnDemandStarted
-pub mod OnDemandStepsBy
-pub mod OnDemandTables
 pub mod Opened
 pub mod Operations
 pub mod OtherReplies
@@ -67,15 +51,10 @@ pub mod SameSlots
 pub mod SameSteps
 pub mod SameTables
 pub mod SameTurns
-pub mod SharedCounts
-pub mod SharedGrowth
-pub mod SharedMade
-pub mod SharedMoves
 pub mod SlotKinds
 pub mod SlotsBelow
 pub mod SlotsMade
 pub mod Sounds
-pub mod Spending
 pub mod StackMoves
 pub mod StackRequests
 pub mod StageSteps

@@ -1,16 +1,6 @@
 -- No turn of a party takes more instances or components than there may be: a request is admitted only where fewer are counted.
-use Rattle.std.proofs.Common.{ℕ, ◌+◌, ◌<◌, ◌≤◌, List, length, Option, Some, None, sym, ap, subst, inl, inr, arith}
-use Rattle.std.specs.Prelude.{sum_by, slice_set, slice_index_or}
-use Rattle.std.proofs.lemmas.Bool.{cases_lt}
-use Rattle.std.proofs.lemmas.List.{set_past, get_or_past}
-use Rattle.std.proofs.lemmas.List.Sums.{sum_by-set}
-use Rattle.pool_alloc.specs.Objects.{objects_in}
-use Rattle.pool_alloc.specs.Stepping.{count_granted, grant_instances, grant_components}
-use Rattle.pool_alloc.specs.declared.pool_core.PoolCore.{PoolCore}
-use Rattle.pool_alloc.specs.declared.frame.Frame.{Frame}
-use Rattle.pool_alloc.specs.declared.frame.Grant.{Grant}
-use Rattle.pool_alloc.specs.Asked.{ModuleAsked}
-use Rattle.pool_alloc.specs.declared.frame.Outcome.{Outcome}
+use Rattle.std.proofs.Common.{ℕ, ◌+◌, ◌<◌, ◌≤◌, List, length, Option, Some, None, sym, ap, subst, inl, inr, arith, sum_by, slice_set, slice_index_or}
+use Rattle.pool_run.proofs.Imports.{cases_lt, set_past, get_or_past, sum_by-set, objects_in, count_granted, grant_instances, grant_components, PoolCore, Frame, Grant, ModuleAsked, Outcome, MakerTold, stage_of, After, ListedHeaps, PlainHeap}
 use Rattle.pool_alloc.specs.declared.frame.Outcome.TheVariants as answer
 use Rattle.pool_run.specs.Limits.{admitted_at, admitted_to, live_components}
 use Rattle.pool_run.specs.Ties.{granted_to, held_by_party, CanTurn}
@@ -20,14 +10,9 @@ use Rattle.pool_run.specs.declared.running_party.RunningParty.{RunningParty}
 use Rattle.pool_run.proofs.Opened.{IsOpened, opened}
 use Rattle.pool_run.specs.Rooms.{World}
 use Rattle.pool_run.specs.Worlds.{AreCallsFor}
-use Rattle.pool_pages.specs.MakerTold.{MakerTold}
-use Rattle.pool_alloc.specs.Stages.{stage_of}
 use Rattle.pool_run.proofs.StageSteps.{admitted_counts, Admits, admits, MayGrant, may_grant}
 use Rattle.pool_run.proofs.Stepped.{IsStepped, stepped}
 use Rattle.pool_run.proofs.Parties.{can_step}
-use Rattle.pool_alloc.specs.Turns.{After}
-use Rattle.pool_slots.specs.declared.listed_heaps.ListedHeaps.{ListedHeaps}
-use Rattle.pool_slots.specs.declared.listed_heaps.PlainHeap.{PlainHeap}
 
 module _ {P : Type 0} where
   -- A party has counted what it is admitted for.

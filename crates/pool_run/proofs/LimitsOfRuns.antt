@@ -1,12 +1,6 @@
 -- A run keeps within the limits on instances and components from its start on, whatever its parties do.
-use Rattle.std.proofs.Common.{◌≡◌, ℕ, ◌+◌, ◌-◌, ◌<◌, ◌≤◌, List, length, ap, arith}
-use Rattle.std.specs.Prelude.{slice_set, slice_index_or, sum_by}
-use Rattle.std.proofs.lemmas.List.Sums.{sum_by-set, sum_by-le-sum_by, get_or-le-sum_by}
-use Rattle.pool_alloc.specs.Stepping.{IsSameSize}
-use Rattle.pool_alloc.specs.Whole.{IsUntouched, IsPartitioned}
-use Rattle.pool_alloc.specs.declared.pool_core.PoolCore.{PoolCore}
-use Rattle.pool_alloc.specs.declared.pool_core.Settings.{Settings}
-use Rattle.pool_alloc.specs.Asked.{ModuleAsked}
+use Rattle.std.proofs.Common.{◌≡◌, ℕ, ◌+◌, ◌-◌, ◌<◌, ◌≤◌, List, length, ap, arith, slice_set, slice_index_or, sum_by}
+use Rattle.pool_run.proofs.Imports.{sum_by-set, sum_by-le-sum_by, get_or-le-sum_by, IsSameSize, IsUntouched, IsPartitioned, PoolCore, Settings, ModuleAsked, PlainHeap}
 use Rattle.pool_run.specs.Limits.{admitted_to, live_instances, live_components, IsWithinCounts}
 use Rattle.pool_run.specs.Rooms.{World}
 use Rattle.pool_run.specs.Ties.{held_by_party, IsRunning, CanTurn}
@@ -17,7 +11,6 @@ use Rattle.pool_run.specs.declared.running_party.RunningParty.{RunningParty}
 use Rattle.pool_run.proofs.Limits.{admitted_held, party_within, MayHave, no_more, one_more, party_components}
 use Rattle.pool_run.proofs.Running.{can_turn}
 use Rattle.pool_run.proofs.Turned.{has_turned}
-use Rattle.pool_slots.specs.declared.listed_heaps.PlainHeap.{PlainHeap}
 
 module _ {P : Type 0} where
   -- All that is admitted is counted, and all components that are live are.

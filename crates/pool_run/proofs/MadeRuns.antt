@@ -1,17 +1,9 @@
 -- The pool of a run as it is made of an input is sound where no rule of the settings is broken.
 use Rattle.std.proofs.Common.{ℕ, sym, subst}
-use Rattle.pool_pages.specs.Count.{IsPageSize}
-use Rattle.pool_pages.specs.MakerTold.{MakerTold}
-use Rattle.pool_pages.specs.SettingsRules.{IsWithinRules}
-use Rattle.pool_pages.proofs.ConfigRules.{within_rules}
-use Rattle.pool_alloc.specs.Made.{IsMadeCore}
-use Rattle.pool_alloc.specs.Sound.{IsCore}
-use Rattle.pool_alloc.specs.declared.pool_core.PoolCore.{PoolCore}
-use Rattle.pool_alloc.proofs.MadePools.{made_core}
+use Rattle.pool_run.proofs.Imports.{IsPageSize, MakerTold, IsWithinRules, within_rules, IsMadeCore, IsCore, PoolCore, made_core, PlainHeap}
 use Rattle.pool_run.specs.Agreeing.{IsRunnable}
 use Rattle.pool_run.specs.declared.input.Input.{Input}
 use Rattle.pool_run.proofs.RulesNamed.{page_sized}
-use Rattle.pool_slots.specs.declared.listed_heaps.PlainHeap.{PlainHeap}
 
 module _ {P : Type 0} where
   pub core_sound : (input : Input) (maker : MakerTold) (c : PoolCore P PlainHeap) → IsRunnable input maker → IsMadeCore maker input.config input.tunables input.offered input.shards c → IsCore maker c

@@ -1,47 +1,13 @@
 -- The makings of an input's regions and images, among those that are listed.
-use Rattle.std.proofs.Common.{◌≡◌, ℕ, zero, suc, ◌+◌, ◌-◌, ◌<◌, ◌≤◌, List, [], ◌∷◌, ◌++◌, length, get_or, map, refl, sym, ap, ◌∙◌, subst, arith, inl, inr, Option, Some, None, Bool, true, false, Result, Err}
-use Rattle.std.specs.Prelude.{◌↔◌, ◌||◌, ◌&&◌, ◌==◌, not, is_some, nat_lt, ◌⊎◌, IfSome, IsSome, slice_get, if◌then◌else◌}
-use Rattle.std.specs.List.{list_all, list_any, range_with_len}
-use Rattle.std.proofs.lemmas.Bool.{cases_eq, cases_lt, cases_Bool, and_parts, eqb-true, ltb-true, lt-ltb, le-ltb}
-use Rattle.std.proofs.lemmas.List.{length-append, get_or_append_left, get_or-append_right}
-use Rattle.std.proofs.lemmas.List.FromFn.{length-map-range_with_len, get_or-map-range_with_len}
-use Rattle.std.proofs.lemmas.List.Folds.{list_any-append}
-use Rattle.pool_pages.specs.MakerTold.{MakerTold, Planned}
-use Rattle.pool_pages.specs.Told.{Told, Rose}
-use Rattle.pool_pages.specs.declared.module_types.ModuleInfo.{ModuleInfo}
-use Rattle.pool_pages.specs.declared.module_types.Tunables.{Tunables}
-use Rattle.pool_pages.specs.MakerTold.{fails_making}
+use Rattle.std.proofs.Common.{◌≡◌, ℕ, zero, suc, ◌+◌, ◌-◌, ◌<◌, ◌≤◌, List, [], ◌∷◌, ◌++◌, length, get_or, map, refl, sym, ap, ◌∙◌, subst, arith, inl, inr, Option, Some, None, Bool, true, false, Result, Err, ◌↔◌, ◌||◌, ◌&&◌, ◌==◌, not, is_some, nat_lt, ◌⊎◌, IfSome, IsSome, slice_get, if◌then◌else◌}
+use Rattle.pool_run.proofs.Imports.{list_all, list_any, range_with_len, cases_eq, cases_lt, cases_Bool, and_parts, eqb-true, ltb-true, lt-ltb, le-ltb, or_left, or_right, or_from, length-append, get_or_append_left, get_or-append_right, length-map-range_with_len, get_or-map-range_with_len, list_any-append, or_false, MakerTold, Planned, fails_making, calls_of, plan_for, Told, Rose, ModuleInfo, Tunables, ImageError, Unsupported, ImageOffset, Image, first_misplaced, ends_in_minimum, makes_listed_images, images_from, rounded_up_above, rounded_up, first_broken_rule, slab_stripes, may_stripe, stripe_colour, fails_first_call, fails_colouring, fails_region, FaultedColouring, nth_region, region_count, region_name, fails_slot, IsSlotGivenUp, stripe_of, PartSettings, QueueKind, OfKinds, slots_of, part_settings, lists_making, fails_slots, GivesUpRegion}
 use Rattle.pool_pages.specs.declared.pages.RegionName.TheVariants.{Memory, Table, Stack}
-use Rattle.pool_images.specs.ImageErrors.{RaisesImageBehind}
-use Rattle.pool_images.specs.declared.memory_image.ImageError.{ImageError}
 use Rattle.pool_images.specs.declared.memory_image.ImageError.TheVariants as unmade
-use Rattle.pool_pages.specs.declared.unsupported.Unsupported.{Unsupported}
-use Rattle.pool_pages.specs.declared.unsupported.Unsupported.TheVariants.{ImageOffset}
-use Rattle.pool_images.specs.Images.{Image, first_misplaced, ends_in_minimum, makes_listed_images, images_from}
-use Rattle.pool_images.proofs.Begun.{rounded_up_above}
-use Rattle.pool_pages.specs.Count.{rounded_up}
-use Rattle.pool_pages.specs.MakerTold.{calls_of, plan_for}
-use Rattle.pool_pages.specs.SettingsRules.{first_broken_rule, slab_stripes, may_stripe}
-use Rattle.pool_slots.specs.Colourings.{stripe_colour, fails_first_call, fails_colouring, fails_region, FaultedColouring}
-use Rattle.pool_slots.specs.PartsMade.{nth_region, region_count, region_name, fails_slot, IsGivenUp as IsSlotGivenUp}
-use Rattle.pool_slots.specs.Slabs.{stripe_of}
-use Rattle.pool_slots.specs.declared.part_maker.PartSettings.{PartSettings}
-use Rattle.pool_slots.specs.declared.queued_range.QueueKind.{QueueKind}
 use Rattle.pool_slots.specs.declared.queued_range.QueueKind.TheVariants as of_queue
-use Rattle.pool_slots.specs.declared.slot_name.OfKinds.{OfKinds}
-use Rattle.pool_alloc.specs.Made.{slots_of, part_settings, lists_making, fails_slots, GivesUpRegion}
 use Rattle.pool_run.proofs.RulesNamed.{page_sized}
 use Rattle.pool_run.specs.Private.{has_images, images_of}
 use Rattle.pool_run.specs.Runs.{Making, region_unmade, region_listed, stripes_of, memory_calls, makings_for, module_listed, images_listed, making_listed, start_listed, IsGivenUp, GivesUp, ModuleFaults, ModulesFault, FaultsInMaking, HasFaultedMaking, with_faults}
 use Rattle.pool_run.specs.declared.input.Input.{Input}
-
-pub or_right : (a b : Bool) → b ≡ true → (a || b) ≡ true
-or_right true b is = refl
-or_right false b is = is
-
-pub or_left : (a b : Bool) → a ≡ true → (a || b) ≡ true
-or_left true b is = refl
-or_left false b is = absurd cc
 
 listed_from : (t : Tunables) (page n : ℕ) (plan : List Planned) (modules : List ModuleInfo) (i : ℕ) (d : ModuleInfo) → i < length modules → module_listed t page (n + i) plan (get_or modules i d) ≡ true → images_listed t page n plan modules ≡ true
 listed_from t page n plan [] i d below is = absurd (omega arith)
@@ -95,44 +61,6 @@ images_fault told input modules page old new same is fault =
           ]);
       planned = images_list input old.plan here.planned;
     }
-
--- A page fault of a making of images comes once all of the module's are tested.
-behind_cause : (listed : Bool) (old new : ℕ) → RaisesImageBehind listed old new unmade.PageFault → (listed ≡ true) ⊎ Rose old new
-behind_cause true old new raises = inl refl
-behind_cause false old new raises = inr raises
-
-all_three : (a : Bool) (o : Option ℕ) (c : Bool) → a ≡ true → o ≡ None → c ≡ true → (a && (not (is_some o) && c)) ≡ true
-all_three a None true first none last = ap (λ (b : Bool). b && true) first
-all_three a None false first none last = absurd cc
-all_three a (Some n) c first none last = absurd cc
-
-both_true : (a b : Bool) → a ≡ true → b ≡ true → (a && b) ≡ true
-both_true true b left right = right
-both_true false b left right = absurd cc
-
-listed_if : (t : Tunables) (page n : ℕ) (m : ModuleInfo) (plan : Option (List Planned)) → has_images t page m.memories ≡ true → IfSome plan (λ p. makes_listed_images (record { 0 = n }) p m.memories ≡ true) → IfSome plan (λ p. module_listed t page n p m ≡ true)
-listed_if t page n m None has listed = tt
-listed_if t page n m (Some p) has listed = both_true (has_images t page m.memories) (makes_listed_images (record { 0 = n }) p m.memories) has listed
-
-pub module_fault : (t : Tunables) (page n : ℕ) (m : ModuleInfo) (old new : MakerTold) → t.memory_init_cow ≡ true → (first_misplaced page m.memories ≡ None) × (list_all (ends_in_minimum page) m.memories ≡ true) → Rose old.faults new.faults → RaisesImageBehind (makes_listed_images (record { 0 = n }) old.listed m.memories) old.behind new.behind unmade.PageFault → IfSome old.plan (λ p. makes_listed_images (record { 0 = n }) p m.memories ≡ true) → ModuleFaults t page n m old new
-module_fault t page n m old new cow tested rose raises listed =
-    let has : has_images t page m.memories ≡ true = all_three t.memory_init_cow (first_misplaced page m.memories) (list_all (ends_in_minimum page) m.memories) cow tested.0 tested.1 in
-    record {
-      rose = rose;
-      cause = elim (behind_cause (makes_listed_images (record { 0 = n }) old.listed m.memories) old.behind new.behind raises) [
-        | inl own ↦ inl (both_true (has_images t page m.memories) (makes_listed_images (record { 0 = n }) old.listed m.memories) has own)
-        | inr behind ↦ inr behind
-      ];
-      planned = listed_if t page n m old.plan has listed;
-    }
-
-or_none : (b : Bool) → (b || false) ≡ b
-or_none true = refl
-or_none false = refl
-
-neither : (a b : Bool) → a ≡ false → b ≡ false → (a || b) ≡ false
-neither true b left right = absurd cc
-neither false b left right = right
 
 any_map : {X Y : Type 0} (test : Y → Bool) (f : X → Y) (xs : List X) → list_any test (map f xs) ≡ list_any (λ x. test (f x)) xs
 any_map test f [] = refl
@@ -217,12 +145,12 @@ first_call len calls some =
     ]
 
 memory_by : (b : Bool) (colour len slot : ℕ) (plan : List Planned) → (b ≡ true → 0 < len) → region_listed plan (record { region = Memory slot; calls = if b then 0 ∷ 1 ∷ [] else 0 ∷ [] }) ≡ fails_region (if b then Some colour else None) len slot plan
-memory_by false colour len slot plan some = or_none (fails_making (Memory slot) plan)
-memory_by true colour len slot plan some = ap (λ (b : Bool). fails_making (Memory slot) plan || b) (or_none (list_any (λ n. n == 1) (calls_of (Memory slot) plan)) ∙ sym (first_call len (calls_of (Memory slot) plan) (some refl)))
+memory_by false colour len slot plan some = or_false (fails_making (Memory slot) plan)
+memory_by true colour len slot plan some = ap (λ (b : Bool). fails_making (Memory slot) plan || b) (or_false (list_any (λ n. n == 1) (calls_of (Memory slot) plan)) ∙ sym (first_call len (calls_of (Memory slot) plan) (some refl)))
 
 -- A stack's region is made by its making and by the first call on it.
 stack_by : (page slot : ℕ) (plan : List Planned) → 0 < page → region_listed plan (record { region = Stack slot; calls = 0 ∷ 1 ∷ [] }) ≡ (fails_making (Stack slot) plan || fails_first_call page (calls_of (Stack slot) plan))
-stack_by page slot plan some = ap (λ (b : Bool). fails_making (Stack slot) plan || b) (or_none (list_any (λ n. n == 1) (calls_of (Stack slot) plan)) ∙ sym (first_call page (calls_of (Stack slot) plan) some))
+stack_by page slot plan some = ap (λ (b : Bool). fails_making (Stack slot) plan || b) (or_false (list_any (λ n. n == 1) (calls_of (Stack slot) plan)) ∙ sym (first_call page (calls_of (Stack slot) plan) some))
 
 fails_if : (none fails : Bool) → (if none then false else fails) ≡ true → fails ≡ true
 fails_if true fails is = absurd cc
@@ -272,7 +200,7 @@ module _ (input : Input) where
       let each : list_any (λ i. region_listed plan (a_memory i)) memories ≡ list_any (λ i. fails_slot k ps of_queue.Memory i plan) memories =
       any_same (λ i. region_listed plan (a_memory i)) (λ i. fails_slot k ps of_queue.Memory i plan) memories (λ i. memory_by (nat_lt 1 k) (stripe_of i k + 1) len i plan (λ more. striped_size input page (ltb-true 1 k more))) in
       let all : list_any (λ i. region_listed plan (a_table i)) tables ≡ list_any (λ i. fails_slot k ps of_queue.Table i plan) tables =
-      any_same (λ i. region_listed plan (a_table i)) (λ i. fails_slot k ps of_queue.Table i plan) tables (λ i. or_none (fails_making (Table i) plan)) in
+      any_same (λ i. region_listed plan (a_table i)) (λ i. fails_slot k ps of_queue.Table i plan) tables (λ i. or_false (fails_making (Table i) plan)) in
       let last : list_any (λ i. region_listed plan (a_stack i)) stacks ≡ list_any (λ i. fails_slot k ps of_queue.Stack i plan) stacks =
       any_same (λ i. region_listed plan (a_stack i)) (λ i. fails_slot k ps of_queue.Stack i plan) stacks (λ i. stack_by input.page i plan page) in
       makings_split (region_listed plan) ∙ ap (λ (b : Bool). (b || list_any (λ i. region_listed plan (a_table i)) tables) || list_any (λ i. region_listed plan (a_stack i)) stacks) each
@@ -416,7 +344,7 @@ none_from t page n plan [] each = refl
 none_from t page n plan (m ∷ ms) each =
     let place : n + 0 ≡ n = omega arith in
     let P : ℕ → Type 0 = λ k. module_listed t page k plan m ≡ false in
-    neither _ _ (subst P place (each 0 (omega arith)))
+    or_from _ _ (subst P place (each 0 (omega arith)))
     (none_from t page (n + 1) plan ms
     (λ k below.
     let Q : ℕ → Type 0 = λ j. IfSome (slice_get ms k) (λ x. module_listed t page j plan x ≡ false) in
@@ -438,7 +366,7 @@ nothing_listed test input modules page None same is regions images = tt
 nothing_listed test input modules page (Some p) same is regions images =
     let Listed : List ModuleInfo → Type 0 = λ ms. images_listed input.tunables page 0 p ms ≡ false in
     let At : ℕ → Type 0 = λ n. images_listed input.tunables n 0 p input.modules ≡ false in
-    neither (list_any (test p) (makings_for input)) (images_listed input.tunables input.page 0 p input.modules) regions (subst At is (subst Listed same images))
+    or_from (list_any (test p) (makings_for input)) (images_listed input.tunables input.page 0 p input.modules) regions (subst At is (subst Listed same images))
 
 -- A fault over the maker with the input's faults is one that the input lists, or one of the maker behind them.
 pub fault_of_run : {P : Type 0} (told : P → Told) (input : Input) (maker left before after : MakerTold) → before ≡ with_faults input maker → FaultsInMaking told input before after → after.behind ≡ left.faults → HasFaultedMaking told input maker left

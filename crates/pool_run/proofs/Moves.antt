@@ -1,25 +1,7 @@
 -- What a move makes of a memory is what it makes of the private one, and the memory stays in its slot.
-use Rattle.std.proofs.Common.{◌≡◌, ℕ, ◌+◌, ◌<◌, ◌≤◌, Bool, true, false, List, length, Option, refl, sym, ap, ◌∙◌, subst, inl, inr}
-use Rattle.std.specs.Prelude.{nat_le, nat_lt, if◌then◌else◌, IfSome}
-use Rattle.std.proofs.lemmas.Bool.{leb-true, leb-false}
-use Rattle.pool_pages.specs.Contents.{written}
-use Rattle.pool_pages.specs.Count.{rounded_up}
-use Rattle.pool_pages.specs.MakerTold.{MakerTold, plan_for}
-use Rattle.pool_pages.specs.declared.pages.RegionName.TheVariants.{Memory as memory_region, OnDemand}
-use Rattle.pool_images.specs.Slots.{Slot, SlotIdentity, identity, raising, raised, limited}
-use Rattle.pool_limits.specs.Growth.{GrowthRule}
-use Rattle.pool_limits.specs.declared.errors.GrowError.{GrowError}
+use Rattle.std.proofs.Common.{◌≡◌, ℕ, ◌+◌, ◌<◌, ◌≤◌, Bool, true, false, List, length, Option, refl, sym, ap, ◌∙◌, subst, inl, inr, nat_le, nat_lt, if◌then◌else◌, IfSome}
+use Rattle.pool_run.proofs.Imports.{leb-true, leb-false, written, rounded_up, MakerTold, plan_for, memory_region, OnDemand, Slot, SlotIdentity, identity, raising, raised, limited, GrowthRule, GrowError, MemoryOutOfBounds, InPlace, FailsInPlace, grown_size, Storage, in_slot, stored, slot_in, storage_written, Linear, MemoryState, bytes_of, slot_of, state_written, Lease, IsLeaseOf, IsPoolSlot, Plan, Settings, told_same, same_called, same_faulted, IsOneSlot, slot_of_one, memory_slots}
 use Rattle.pool_limits.specs.declared.errors.GrowError.TheVariants.{PageFault}
-use Rattle.pool_limits.specs.declared.errors.Trap.TheVariants.{MemoryOutOfBounds}
-use Rattle.pool_memory.specs.Growing.{InPlace, FailsInPlace, grown_size}
-use Rattle.pool_memory.specs.Linear.{Storage, in_slot, stored, slot_in, storage_written, Linear}
-use Rattle.pool_memory.specs.Memories.{MemoryState, bytes_of, slot_of, memory_written as state_written}
-use Rattle.pool_alloc.specs.Leases.{Lease}
-use Rattle.pool_alloc.specs.Sound.{IsLeaseOf, IsPoolSlot}
-use Rattle.pool_slots.specs.declared.plan.Plan.{Plan}
-use Rattle.pool_alloc.specs.declared.pool_core.Settings.{Settings}
-use Rattle.pool_images.proofs.Identity.{told_same, same_called, same_faulted}
-use Rattle.pool_alloc.proofs.SlotIdentity.{IsOneSlot, slot_of_one}
 use Rattle.pool_run.specs.Private.{PrivateMemory, Writes, GrowthEnd, as_it_was, could_not, has_grown, growth, left_of, grown_by}
 use Rattle.pool_run.specs.Turns.{seen_as, private_memory, MemoryWrites, GrowthLeaves, MemoryGrows, MovesLease}
 use Rattle.pool_run.specs.declared.reply.Reply.{Reply}
@@ -27,7 +9,6 @@ use Rattle.pool_run.specs.declared.reply.Reply.TheVariants.{Done, Trap}
 use Rattle.pool_run.proofs.Bytes.{written_seen}
 use Rattle.pool_run.proofs.Growths.{growth_decided}
 use Rattle.pool_run.proofs.HeldSlots.{held_name, held_plan}
-use Rattle.pool_alloc.specs.Steps.{memory_slots}
 
 -- a move leaves the memory in its slot
 abbrev pub KeepsSlot : MakerTold → Settings → Plan → (MemoryState → MemoryState → Reply → Type 0) → Type 0

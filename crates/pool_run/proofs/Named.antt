@@ -1,9 +1,6 @@
 -- A command on an object of a live grant: what it leaves of the grants, and what it is as the party sees it.
-use Rattle.std.proofs.Common.{◌≡◌, ℕ, List, map, Option, Some, None, ◌⊎◌, inl, inr, refl, sym, ap, ◌∙◌, subst}
-use Rattle.std.specs.Prelude.{option_map, slice_get, slice_set, slice_index_or}
-use Rattle.std.specs.Option.{option_and_then}
-use Rattle.std.proofs.lemmas.List.{map-set, set-get_or, set-set}
-use Rattle.std.proofs.lemmas.Option.{slice_get-map}
+use Rattle.std.proofs.Common.{◌≡◌, ℕ, List, map, Option, Some, None, ◌⊎◌, inl, inr, refl, sym, ap, ◌∙◌, subst, option_map, slice_get, slice_set, slice_index_or}
+use Rattle.pool_run.proofs.Imports.{option_and_then, map-set, set-get_or, set-set, slice_get-map}
 use Rattle.pool_run.specs.Objects.{Objects, MovesNamed, object_at, with_object, MovesObject}
 use Rattle.pool_run.specs.declared.reply.Reply.{Reply}
 use Rattle.pool_run.specs.declared.reply.Reply.TheVariants.{Refused}

@@ -1,37 +1,12 @@
 -- What a turn opens with: the party has as much of the pool, and where a call is to make its next step, that can be made.
-use Rattle.pool_alloc.specs.declared.frame.TakenSlot.{TakenSlot}
-use Rattle.std.proofs.Common.{zero, suc, ◌≡◌, ◌≢◌, ℕ, ◌<◌, ◌≤◌, All, Bool, true, false, List, length, get_or, Option, Some, None, refl, sym, ap, ◌∙◌, subst, inl, inr, arith, ◌∷◌, []}
-use Rattle.std.specs.Prelude.{IfSome, slice_get, slice_set, slice_index_or, sum_by}
-use Rattle.std.proofs.lemmas.Option.{slice_get_within, get_or_from_slice_get}
-use Rattle.std.proofs.lemmas.List.Elements.{All-set, All-get_or}
-use Rattle.std.proofs.lemmas.List.{length-set, get_or-set_other}
-use Rattle.std.proofs.lemmas.List.Sums.{sum_by-set}
-use Rattle.pool_pages.specs.MakerTold.{MakerTold}
-use Rattle.pool_alloc.specs.Calls.{IsIdle, IsGrant, begun_call}
-use Rattle.pool_alloc.specs.Objects.{objects_in}
-use Rattle.pool_alloc.specs.PoolTables.{IsTableLease}
-use Rattle.pool_alloc.specs.TableLeases.{LeasedTable, table_taken}
-use Rattle.pool_table.specs.declared.gc_store.ListedStore.{ListedStore}
-use Rattle.pool_alloc.specs.Leases.{Lease, slot_taken}
-use Rattle.pool_alloc.specs.Sound.{IsLeaseOf}
-use Rattle.pool_alloc.specs.Places.{Thing, taken_count}
-use Rattle.pool_alloc.specs.Stepping.{grant_stacks, is_idle, grant_count, grant_instances, grant_components, grant_memories, grant_tables, grant_heaps}
-use Rattle.pool_alloc.specs.declared.pool_core.PoolCore.{PoolCore}
-use Rattle.pool_alloc.specs.declared.frame.Call.{Call}
+use Rattle.std.proofs.Common.{zero, suc, ◌≡◌, ◌≢◌, ℕ, ◌<◌, ◌≤◌, All, Bool, true, false, List, length, get_or, Option, Some, None, refl, sym, ap, ◌∙◌, subst, inl, inr, arith, ◌∷◌, [], IfSome, slice_get, slice_set, slice_index_or, sum_by}
+use Rattle.pool_run.proofs.Imports.{TakenSlot, slice_get_within, get_or_from_slice_get, All-set, All-get_or, length-set, get_or-set_other, sum_by-set, MakerTold, IsIdle, IsGrant, begun_call, objects_in, IsTableLease, LeasedTable, table_taken, ListedStore, Lease, slot_taken, IsLeaseOf, Thing, taken_count, grant_stacks, is_idle, grant_count, grant_instances, grant_components, grant_memories, grant_tables, grant_heaps, PoolCore, Call, Stage, asks, stage_of, admitted, Frame, Grant, instance, component, stack, heap, ModuleAsked, Phase, Idle, IsSearched, IsStackLease, LeasedHeap, LeasedStack, stack_taken, PlainHeap}
 use Rattle.pool_alloc.specs.declared.frame.Call.TheVariants as call
-use Rattle.pool_alloc.specs.Stages.{Stage, asks, stage_of, admitted}
-use Rattle.pool_alloc.specs.declared.frame.Frame.{Frame}
-use Rattle.pool_alloc.specs.declared.frame.Grant.{Grant}
-use Rattle.pool_alloc.specs.declared.frame.Grant.TheVariants.{Instance as instance, Component as component, Stack as stack, Heap as heap}
-use Rattle.pool_alloc.specs.Asked.{ModuleAsked}
-use Rattle.pool_alloc.specs.declared.frame.Phase.{Phase}
-use Rattle.pool_alloc.specs.declared.frame.Phase.TheVariants.{Idle}
 use Rattle.pool_run.specs.Acts.{MemoryOp, TableOp, Act, requests, on_memory, on_table, drops, purges, releases, act_of, Wanted, an_instance, a_component, a_stack, a_heap, heap_type}
 use Rattle.pool_run.specs.Limits.{admitted_at, admitted_to, live_components}
 use Rattle.pool_run.specs.Objects.{MovesObject, object_at}
 use Rattle.pool_run.specs.PartyRules.{rule_of}
 use Rattle.pool_run.specs.Private.{Terms}
-use Rattle.pool_alloc.specs.Searches.{IsSearched}
 use Rattle.pool_run.proofs.Stripes.{begun_stripe}
 use Rattle.pool_run.proofs.StageSteps.{is_none, none_idle}
 use Rattle.pool_run.specs.Turns.{LeaseMoves, MovesTable, leases_of, tables_of, memory_leases, table_leases, with_lease, with_table_lease, Opening, rests, replies, makes_step, drop_opening, IsPlain, asks_grant, OpensRequest, OpensPurge, OpensAct, OpensNext, OpensAt, MovesLeasedBytes, StackLeaseMoves, stack_leases, stack_of, with_stack_lease, OpensWanted}
@@ -45,10 +20,6 @@ use Rattle.pool_run.proofs.Operations.{op_slot, op_keeps}
 use Rattle.pool_run.proofs.Parties.{HaveSame, grant_inside, live_grant, has_call, called_plain, called_module, called_back, returned_searched, returned_stage, plain_lists, begins_plain, brings_nothing, brings_module, brings_grant}
 use Rattle.pool_run.proofs.StackMoves.{stack_op_slot, stack_op_keeps}
 use Rattle.pool_run.proofs.TableKept.{table_kept}
-use Rattle.pool_alloc.specs.PoolStacks.{IsStackLease}
-use Rattle.pool_alloc.specs.HeapLeases.{LeasedHeap}
-use Rattle.pool_alloc.specs.StackLeases.{LeasedStack, stack_taken}
-use Rattle.pool_slots.specs.declared.listed_heaps.PlainHeap.{PlainHeap}
 
 module _ {P : Type 0} where
   pub idle_is : (phase : Phase P PlainHeap) → is_idle phase ≡ true → phase ≡ Idle

@@ -1,18 +1,7 @@
 -- What an operation makes of a memory of a live grant: the lease stays in its slot, and the party sees the operation on
 -- its own memory.
-use Rattle.std.proofs.Common.{◌≡◌, ℕ, Bool, true, false, List, Option, Some, None, refl, sym, ap, subst, inl, inr}
-use Rattle.std.specs.Prelude.{◌==◌, if◌then◌else◌, IfSome, map, replicate}
-use Rattle.std.proofs.lemmas.List.{map-set}
-use Rattle.pool_pages.specs.MakerTold.{MakerTold}
-use Rattle.pool_limits.specs.Growth.{GrowthRule}
-use Rattle.pool_memory.specs.Memories.{MemoryState}
-use Rattle.pool_alloc.specs.Leases.{Lease, slot_taken}
-use Rattle.pool_alloc.specs.Sound.{IsLeaseOf}
-use Rattle.pool_alloc.specs.declared.frame.Grant.{Grant}
-use Rattle.pool_alloc.specs.declared.frame.Grant.TheVariants.{Instance as instance, Component as component, Stack as stack, Heap as heap}
-use Rattle.pool_slots.specs.declared.plan.Plan.{Plan}
-use Rattle.pool_slots.specs.declared.listed_heaps.PlainHeap.{PlainHeap}
-use Rattle.pool_alloc.specs.declared.pool_core.Settings.{Settings}
+use Rattle.std.proofs.Common.{◌≡◌, ℕ, Bool, true, false, List, Option, Some, None, refl, sym, ap, subst, inl, inr, ◌==◌, if◌then◌else◌, IfSome, map, replicate}
+use Rattle.pool_run.proofs.Imports.{map-set, MakerTold, GrowthRule, MemoryState, Lease, slot_taken, IsLeaseOf, Grant, instance, component, stack, heap, Plan, PlainHeap, Settings}
 use Rattle.pool_run.specs.Acts.{MemoryOp, reads, writes, fills, grows, asks_size}
 use Rattle.pool_run.specs.Objects.{MovesNamed}
 use Rattle.pool_run.specs.Private.{heap_grant, PrivateMemory, instance_grant, Writes, MemoryMoves, private_memories, growth}

@@ -1,35 +1,11 @@
 -- Only a request for a heap is answered that the maker of heaps failed.
-use Rattle.std.proofs.Common.{◌≡◌, ℕ, ◌+◌, ◌-◌, ◌*◌, ◌^◌, ◌==◌, ◌||◌, ◌⊎◌, inl, inr, List, [], ◌∷◌, length, replicate, Bool, true, false, Option, Some, None, Result, Ok, Err, refl, sym, ap, subst}
-use Rattle.std.specs.Prelude.{not, nat_lt, if◌then◌else◌, option_map, slice_get, IfSome}
-use Rattle.std.specs.Option.{option_or}
-use Rattle.pool_pages.specs.MemoryTypes.{allow_growth_to}
-use Rattle.pool_pages.specs.Told.{risen}
-use Rattle.pool_pages.specs.declared.module_types.ComponentInfo.{ComponentInfo}
-use Rattle.pool_pages.specs.declared.module_types.MemoryType.{MemoryType}
-use Rattle.pool_pages.specs.declared.table_type.TableType.{TableType}
-use Rattle.pool_pages.specs.declared.unsupported.Unsupported.{Unsupported}
-use Rattle.pool_pages.specs.declared.unsupported.Unsupported.TheVariants.{AddressSpace, TableSize}
-use Rattle.pool_limits.specs.Growth.{GrowthRule, memory_answer, memory_failure, table_answer, table_failure}
-use Rattle.pool_limits.specs.declared.errors.LimiterError.{LimiterError}
-use Rattle.pool_limits.specs.declared.errors.Trap.TheVariants.{TableOutOfBounds}
-use Rattle.pool_memory.specs.Creators.{default_refusal}
-use Rattle.pool_memory.specs.Growing.{exceeds}
-use Rattle.pool_memory.specs.Making.{minimum_asked, maximum_asked, limits_answer}
-use Rattle.pool_slots.specs.declared.errors.AllocError.{AllocError}
+use Rattle.std.proofs.Common.{◌≡◌, ℕ, ◌+◌, ◌-◌, ◌^◌, ◌==◌, ◌||◌, ◌⊎◌, inl, inr, List, [], ◌∷◌, length, replicate, Bool, true, false, Option, Some, None, Result, Ok, Err, refl, sym, ap, subst, not, nat_lt, if◌then◌else◌, slice_get, IfSome}
+use Rattle.pool_run.proofs.Imports.{option_or, allow_growth_to, risen, ComponentInfo, Unsupported, TableSize, GrowthRule, memory_answer, memory_failure, table_answer, table_failure, LimiterError, TableOutOfBounds, exceeds, minimum_asked, maximum_asked, limits_answer, AllocError, Fibers, ElementKind, gc_refs, type_of, type_maximum, component_refused, no_component_left, table_refused, Want, new_memory, new_table, new_stack, new_heap}
 use Rattle.pool_slots.specs.declared.errors.AllocError.TheVariants as refusal
-use Rattle.pool_slots.specs.declared.errors.ConcurrencyKind.TheVariants.{Fibers}
-use Rattle.pool_table.specs.Elements.{ElementKind, gc_refs, element_size, type_of}
 use Rattle.pool_table.specs.Elements as elem
-use Rattle.pool_table.specs.Tables.{type_maximum}
-use Rattle.pool_alloc.specs.OnDemandRefusals as demand
-use Rattle.pool_alloc.specs.Refusals.{component_refused}
-use Rattle.pool_alloc.specs.Rows.{no_component_left}
-use Rattle.pool_alloc.specs.TableSteps.{table_refused}
-use Rattle.pool_alloc.specs.Wants.{Want, new_memory, new_table, new_stack, new_heap}
 use Rattle.pool_run.specs.Acts.{MemoryOp, reads, writes, fills, grows, asks_size, TableOp, gets, sets, lengthens, asks_length}
 use Rattle.pool_run.specs.HeapFaults.{is_heap_fault}
 use Rattle.pool_run.specs.Objects.{MovesNamed, object_at, with_object}
-use Rattle.pool_run.specs.OnDemand.{refusal_on_demand, first_unmade, IsUnmade, Makes, MakesComponent, IsUnmadeStack, MakesStack, FindsNoMemory, MovesOnDemand, TableMovesOnDemand, BytesOnDemand}
 use Rattle.pool_run.specs.Private.{PrivateMemory, PrivateGrant, stack_grant, private_memories, private_stacks, Grants, table_room, own_refusal, first_refusal, wants_of, refused_by, GivenRefusal, no_memory, no_instance, no_slot, page_fault, limit_for, refused_as, Terms, Request, IsRefused, IsCause, Instantiates, IsComponentRefused, AsksForComponent, stack_refusal, AsksForStack, private_written, size_wanted, report, GrowthEnd, as_it_was, could_not, has_grown, if_allowed, reported, growth, MemoryMoves, MovesBytes, Drops, IsPurged, IsReleased, PrivateState, table_at, with_table}
 use Rattle.pool_run.specs.PrivateStacks.{ReadsBytes, WritesBytes, PrivateStack, StackMoves, stack_written}
 use Rattle.pool_run.specs.PrivateTables.{Host, PrivateTable, StoredTable, calls_after, calls_through, IsGot, table_filled, stored_fill, kind_filled, filled_by, table_report, table_growth, TableMoves}
@@ -43,13 +19,13 @@ use Rattle.pool_run.proofs.OwnRefusals.{IsOwn, answer_own}
 abbrev pub IsOther : Reply → Type 0
 IsOther reply = is_heap_fault reply ≡ false
 
-abbrev IsOtherError : AllocError → Type 0
+abbrev pub IsOtherError : AllocError → Type 0
 IsOtherError e = IsOther (Refused (Alloc e))
 
-other_as : (e known : AllocError) → e ≡ known → IsOtherError known → IsOtherError e
+pub other_as : (e known : AllocError) → e ≡ known → IsOtherError known → IsOtherError e
 other_as e known is other = subst IsOtherError (sym is) other
 
-other_reply : (reply known : Reply) → reply ≡ known → IsOther known → IsOther reply
+pub other_reply : (reply known : Reply) → reply ≡ known → IsOther known → IsOther reply
 other_reply reply known is other = subst IsOther (sym is) other
 
 -- bytes
@@ -103,7 +79,7 @@ table_growth_other rule by t =
     (either_other (nat_lt t.maximum (t.size + by)) (as_it_was, table_report rule) (has_grown, Grown (Some t.size)) told refl)))
 
 -- operations on a memory, a stack and a table
-memory_other : (op : MemoryOp) (rule : GrowthRule) (m new : PrivateMemory) (reply : Reply) → MemoryMoves op rule m new reply → IsOther reply
+pub memory_other : (op : MemoryOp) (rule : GrowthRule) (m new : PrivateMemory) (reply : Reply) → MemoryMoves op rule m new reply → IsOther reply
 memory_other (reads at len) rule m new reply is = read_other m.size m.bytes at len reply is.0
 memory_other (writes at bytes) rule m new reply is = written_other m.size at (length bytes) (private_written at bytes m) m new reply is
 memory_other (fills at len byte) rule m new reply is = written_other m.size at (length (replicate len byte)) (private_written at (replicate len byte) m) m new reply is
@@ -135,7 +111,7 @@ filled_other : (failing : List ℕ) (at count : ℕ) (e : elem.Element) (t : Sto
 filled_other failing at count e t =
     either_other (nat_lt t.table.size (at + count)) (t, Trap TableOutOfBounds) (kind_filled t.table.kind failing at count e t) refl (kind_other t.table.kind failing at count e t)
 
-table_other : (op : TableOp) (host : Host) (t new : StoredTable) (reply : Reply) → TableMoves op host t new reply → IsOther reply
+pub table_other : (op : TableOp) (host : Host) (t new : StoredTable) (reply : Reply) → TableMoves op host t new reply → IsOther reply
 table_other (gets at) host t new reply is = got_other t.table at reply is.0
 table_other (sets at count value) host t new reply is =
     let e : elem.Element = element_for (type_of t.table.kind) value in
@@ -143,16 +119,16 @@ table_other (sets at count value) host t new reply is =
 table_other (lengthens by) host t new reply is = other_reply reply (table_growth host.rule by t.table).1 is.1 (table_growth_other host.rule by t.table)
 table_other asks_length host t new reply is = other_reply reply (Size t.table.size) is.0 refl
 
-named_other : {X S : Type 0} (Move : X → X → Reply → Type 0) (x : Option X) (put : X → S → S) (old new : S) (reply : Reply) → ((y moved : X) → Move y moved reply → IsOther reply) → MovesNamed Move x put old reply new → IsOther reply
+pub named_other : {X S : Type 0} (Move : X → X → Reply → Type 0) (x : Option X) (put : X → S → S) (old new : S) (reply : Reply) → ((y moved : X) → Move y moved reply → IsOther reply) → MovesNamed Move x put old reply new → IsOther reply
 named_other Move None put old new reply other is = other_reply reply (Refused NoSuchGrant) is.0 refl
 named_other Move (Some x) put old new reply other is = other x is.0 is.1
 
 -- a command on bytes of a grant
-stack_bytes_other : (op : MemoryOp) (of k : ℕ) (grants new : Grants) (reply : Reply) → MovesNamed (StackMoves op) (object_at private_stacks of k grants) (with_object private_stacks of k) grants reply new → IsOther reply
+pub stack_bytes_other : (op : MemoryOp) (of k : ℕ) (grants new : Grants) (reply : Reply) → MovesNamed (StackMoves op) (object_at private_stacks of k grants) (with_object private_stacks of k) grants reply new → IsOther reply
 stack_bytes_other op of k grants new reply is =
     named_other (StackMoves op) (object_at private_stacks of k grants) (with_object private_stacks of k) grants new reply (λ s moved move. stack_other op s moved reply move) is
 
-memory_bytes_other : (Move : PrivateMemory → PrivateMemory → Reply → Type 0) (of k : ℕ) (grants new : Grants) (reply : Reply) → ((m moved : PrivateMemory) → Move m moved reply → IsOther reply) → MovesNamed Move (object_at private_memories of k grants) (with_object private_memories of k) grants reply new → IsOther reply
+pub memory_bytes_other : (Move : PrivateMemory → PrivateMemory → Reply → Type 0) (of k : ℕ) (grants new : Grants) (reply : Reply) → ((m moved : PrivateMemory) → Move m moved reply → IsOther reply) → MovesNamed Move (object_at private_memories of k grants) (with_object private_memories of k) grants reply new → IsOther reply
 memory_bytes_other Move of k grants new reply other is = named_other Move (object_at private_memories of k grants) (with_object private_memories of k) grants new reply other is
 
 pub bytes_other : (op : MemoryOp) (rule : GrowthRule) (g : Option PrivateGrant) (of k : ℕ) (grants new : Grants) (reply : Reply) → MovesBytes op rule g of k grants reply new → IsOther reply
@@ -176,7 +152,7 @@ released_other (Refused cause) is = other_reply (Refused cause) (Refused (Alloc 
 released_other _ is = absurd is
 
 -- own refusals
-abbrev NoneOrOther : Option AllocError → Type 0
+abbrev pub NoneOrOther : Option AllocError → Type 0
 NoneOrOther o = IfSome o IsOtherError
 
 of_own : (e : AllocError) → IsOwn e → IsOtherError e
@@ -189,11 +165,11 @@ own_other : (o : Option AllocError) → ((e : AllocError) → o ≡ Some e → I
 own_other None own = tt
 own_other (Some e) own = of_own e (own e refl)
 
-or_other : (a b : Option AllocError) → NoneOrOther a → NoneOrOther b → NoneOrOther (option_or a b)
+pub or_other : (a b : Option AllocError) → NoneOrOther a → NoneOrOther b → NoneOrOther (option_or a b)
 or_other None b one two = two
 or_other (Some e) b one two = one
 
-if_other : (b : Bool) (e : AllocError) → IsOtherError e → NoneOrOther (if b then Some e else None)
+pub if_other : (b : Bool) (e : AllocError) → IsOtherError e → NoneOrOther (if b then Some e else None)
 if_other true e other = other
 if_other false e other = tt
 
@@ -224,10 +200,10 @@ given_other t wants no_instance = refl
 given_other t wants (no_slot i) = limit_other t (slice_get wants i)
 given_other t wants (page_fault i) = refl
 
-found_other : (o : Option AllocError) (e : AllocError) → NoneOrOther o → o ≡ Some e → IsOtherError e
+pub found_other : (o : Option AllocError) (e : AllocError) → NoneOrOther o → o ≡ Some e → IsOtherError e
 found_other o e other is = subst NoneOrOther is other
 
-rule_other : (rule : Unsupported) (e : AllocError) → (e ≡ refusal.Unsupported rule) ⊎ (e ≡ refusal.Memory) → IsOtherError e
+pub rule_other : (rule : Unsupported) (e : AllocError) → (e ≡ refusal.Unsupported rule) ⊎ (e ≡ refusal.Memory) → IsOtherError e
 rule_other rule e (inl is) = other_as e (refusal.Unsupported rule) is refl
 rule_other rule e (inr is) = other_as e refusal.Memory is refl
 
@@ -264,74 +240,3 @@ stack_asked_other t n grants new (Stack slot) is = refl
 stack_asked_other t n grants new (Refused (Alloc e)) is =
     other_as e (stack_refusal t) is.0 (stack_refusal_other (t.stacks.size == 0) (refusal.Limit (record { limit = t.stacks.slots; kind = Fibers })) refl)
 stack_asked_other t n grants new _ is = absurd is
-
--- The same on demand. A growth may find no memory.
-lacking_other : {X : Type 0} (end : GrowthEnd) (old new : X) (reply : Reply) → FindsNoMemory end old new reply → IsOther reply
-lacking_other end old new reply is = other_reply reply (Refused (Alloc refusal.Memory)) is.1.0 refl
-
-memory_other_on_demand : (op : MemoryOp) (rule : GrowthRule) (m new : PrivateMemory) (reply : Reply) → MovesOnDemand op rule m new reply → IsOther reply
-memory_other_on_demand (grows pages) rule m new reply (inl is) = memory_other (grows pages) rule m new reply is
-memory_other_on_demand (grows pages) rule m new reply (inr is) = lacking_other (growth rule false pages m).0 m new reply is
-memory_other_on_demand op rule m new reply is = memory_other op rule m new reply is
-
-table_other_on_demand : (op : TableOp) (host : Host) (t new : StoredTable) (reply : Reply) → TableMovesOnDemand op host t new reply → IsOther reply
-table_other_on_demand (lengthens by) host t new reply (inl is) = table_other (lengthens by) host t new reply is
-table_other_on_demand (lengthens by) host t new reply (inr is) = lacking_other (table_growth host.rule by t.table).0 t new reply is
-table_other_on_demand op host t new reply is = table_other op host t new reply is
-
-pub bytes_other_on_demand : (op : MemoryOp) (rule : GrowthRule) (g : Option PrivateGrant) (of k : ℕ) (grants new : Grants) (reply : Reply) → BytesOnDemand op rule g of k grants reply new → IsOther reply
-bytes_other_on_demand op rule (Some (stack_grant s)) of k grants new reply is = stack_bytes_other op of k grants new reply is
-bytes_other_on_demand op rule _ of k grants new reply is = memory_bytes_other (MovesOnDemand op rule) of k grants new reply (λ m moved move. memory_other_on_demand op rule m moved reply move) is
-
-pub table_named_other_on_demand : (op : TableOp) (host : Host) (of k : ℕ) (s new : PrivateState) (reply : Reply) → MovesNamed (TableMovesOnDemand op host) (table_at of k s) (with_table of k) s reply new → IsOther reply
-table_named_other_on_demand op host of k s new reply is = named_other (TableMovesOnDemand op host) (table_at of k s) (with_table of k) s new reply (λ t moved move. table_other_on_demand op host t moved reply move) is
-
-rule_refusal_other : (o : Option Unsupported) → NoneOrOther (option_map refusal.Unsupported o)
-rule_refusal_other None = tt
-rule_refusal_other (Some rule) = refl
-
-memory_refused_other : (answer : Result Bool LimiterError) (refuses : demand.CreatorRule) (ty : MemoryType) → NoneOrOther (demand.memory_refused answer refuses ty)
-memory_refused_other (Err e) refuses ty = refl
-memory_refused_other (Ok false) refuses ty = refl
-memory_refused_other (Ok true) refuses ty = rule_refusal_other (demand.memory_unsupported refuses ty)
-
-table_refused_other_on_demand : (answer : Result Bool LimiterError) (ty : TableType) → NoneOrOther (demand.table_refused answer ty)
-table_refused_other_on_demand (Err e) ty = refl
-table_refused_other_on_demand (Ok false) ty = refl
-table_refused_other_on_demand (Ok true) ty = if_other (nat_lt (2 ^ 64 - 1) (ty.limits.min * element_size ty.element)) (refusal.Unsupported AddressSpace) refl
-
-want_other_on_demand : (t : Terms) (want : Want) → NoneOrOther (refusal_on_demand t want)
-want_other_on_demand t (new_memory want) =
-    memory_refused_other (memory_answer (Some t.host.rule) (Ok true) (minimum_asked want.decl.ty) (maximum_asked want.decl.ty)) (λ minimum maximum. default_refusal t.settings.page t.settings.tunables minimum) want.decl.ty
-want_other_on_demand t (new_table ty) = table_refused_other_on_demand (table_answer (Some t.host.rule) (Ok true) ty.limits.min (Some (type_maximum ty))) ty
-want_other_on_demand t new_stack = tt
-want_other_on_demand t new_heap = tt
-
-first_other_on_demand : (t : Terms) (wants : List Want) → NoneOrOther (first_unmade t wants)
-first_other_on_demand t [] = tt
-first_other_on_demand t (want ∷ wants) = or_other (refusal_on_demand t want) (first_unmade t wants) (want_other_on_demand t want) (first_other_on_demand t wants)
-
-unmade_other : (broken : Option Unsupported) (t : Terms) (wants : List Want) (e : AllocError) → IsUnmade broken t wants e → IsOtherError e
-unmade_other (Some rule) t wants e is = rule_other rule e is
-unmade_other None t wants e (inl is) = found_other (first_unmade t wants) e (first_other_on_demand t wants) is
-unmade_other None t wants e (inr (inl is)) = other_as e refusal.Memory is refl
-unmade_other None t wants e (inr (inr is)) = other_as e refusal.PageFault is.0 refl
-
-pub made_other : (t : Terms) (n : ℕ) (request : Request) (grants new : Grants) (reply : Reply) → Makes t n request grants reply new → IsOther reply
-made_other t n request grants new (Instance memories tables) is = refl
-made_other t n request grants new (Refused (Alloc e)) is = unmade_other request.broken t (wants_of request) e is.0
-made_other t n request grants new _ is = absurd is
-
-pub component_made_other : (n : ℕ) (grants new : Grants) (reply : Reply) → MakesComponent n grants reply new → IsOther reply
-component_made_other n grants new Component is = refl
-component_made_other n grants new _ is = absurd is
-
-unmade_stack_other : (none : Bool) (e : AllocError) → IsUnmadeStack none e → IsOtherError e
-unmade_stack_other true e is = other_as e refusal.StacksDisabled is refl
-unmade_stack_other false e (inl is) = other_as e refusal.Memory is refl
-unmade_stack_other false e (inr is) = other_as e refusal.PageFault is refl
-
-pub stack_made_other : (t : Terms) (n : ℕ) (grants new : Grants) (reply : Reply) → MakesStack t n grants reply new → IsOther reply
-stack_made_other t n grants new (Stack slot) is = refl
-stack_made_other t n grants new (Refused (Alloc e)) is = unmade_stack_other (t.stacks.size == 0) e is.0
-stack_made_other t n grants new _ is = absurd is

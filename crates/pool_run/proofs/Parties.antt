@@ -1,47 +1,11 @@
 -- A party whose turn it is: its call can make its next step, and so it can once another call began.
-use Rattle.std.proofs.Common.{◌≡◌, ℕ, zero, suc, ◌+◌, ◌<◌, ◌≤◌, true, false, Bool, List, [], ◌∷◌, length, Option, Some, None, refl, ap, subst, arith, All, sym, ◌∙◌}
-use Rattle.std.specs.Prelude.{IfSome, sum_by, slice_set, slice_index_or}
-use Rattle.std.proofs.lemmas.List.Elements.{All-set, All-get_or}
-use Rattle.std.proofs.lemmas.List.Sums.{sum_by-set}
-use Rattle.pool_pages.specs.MakerTold.{MakerTold}
-use Rattle.pool_alloc.specs.Places.{Thing, right_to, region_of}
-use Rattle.pool_alloc.specs.Sound.{IsFrame, AreImagesOf}
-use Rattle.pool_alloc.specs.Modules.{HasImages}
-use Rattle.pool_alloc.specs.Calls.{IsIdle, IsGrant, MayBegin, begun_call}
-use Rattle.pool_alloc.proofs.BegunCalls.{call_has}
-use Rattle.pool_alloc.specs.Stepping.{CanStep, is_idle, grant_count, grant_instances, grant_memories, grant_tables, grant_stacks, grant_heaps, grant_components}
-use Rattle.pool_alloc.specs.declared.pool_core.PoolCore.{PoolCore}
-use Rattle.pool_alloc.specs.declared.pool_core.Settings.{Settings}
-use Rattle.pool_alloc.specs.Steps.{memories_wanted, images_wanted}
-use Rattle.pool_alloc.specs.Asked.{ModuleAsked}
-use Rattle.pool_alloc.specs.StackLeases.{stack_slot}
-use Rattle.pool_slots.specs.HeapUnits.{heap_slot}
-use Rattle.pool_alloc.specs.declared.frame.Asked.TheVariants.{Nothing as nothing_asked, Module as module_asked}
+use Rattle.std.proofs.Common.{◌≡◌, ℕ, zero, suc, ◌+◌, ◌<◌, ◌≤◌, true, false, List, [], ◌∷◌, length, Option, Some, None, refl, ap, subst, arith, All, sym, ◌∙◌, IfSome, sum_by, slice_set, slice_index_or}
+use Rattle.pool_run.proofs.Imports.{All-set, All-get_or, sum_by-set, MakerTold, Thing, right_to, region_of, IsFrame, AreImagesOf, HasImages, IsIdle, IsGrant, MayBegin, begun_call, call_has, begun_stacks, begun_heaps, begun_frame, begun_count, begun_instances, begun_components, begun_memories, begun_tables, CanStep, is_idle, grant_count, grant_instances, grant_memories, grant_tables, grant_stacks, grant_heaps, grant_components, PoolCore, Settings, memories_wanted, images_wanted, ModuleAsked, stack_slot, heap_slot, nothing_asked, module_asked, Lease, memory_slot, LeasedTable, IsSearched, returning, stage_of, returned_next, Call, Frame, Grant, instance, component, stack, heap, both_regions, sum_by_agree, leased_regions, tables_regions, Plan, SlotName, PlainHeap}
 use Rattle.pool_alloc.specs.declared.frame.Ending.TheVariants as ending
-use Rattle.pool_alloc.specs.Leases.{Lease, memory_slot}
-use Rattle.pool_alloc.specs.TableLeases.{LeasedTable}
-use Rattle.pool_alloc.specs.Searches.{IsSearched}
-use Rattle.pool_alloc.specs.Stages.{returning, stage_of}
-use Rattle.pool_alloc.specs.Turns.{returned_next}
 use Rattle.pool_run.specs.Turns.{IsPlain, asks_grant}
-use Rattle.pool_alloc.specs.declared.frame.Call.{Call}
 use Rattle.pool_alloc.specs.declared.frame.Call.TheVariants as call
-use Rattle.pool_alloc.specs.declared.frame.Frame.{Frame}
-use Rattle.pool_alloc.specs.declared.frame.Grant.{Grant}
-use Rattle.pool_alloc.specs.declared.frame.Grant.TheVariants.{Instance as instance, Component as component, Stack as stack, Heap as heap}
-use Rattle.pool_alloc.proofs.BegunCalls.{begun_stacks, begun_heaps, begun_frame, begun_count, begun_instances, begun_components, begun_memories, begun_tables}
-use Rattle.pool_alloc.proofs.SlotCounts.{both_regions}
-use Rattle.pool_alloc.proofs.QueueCounts.{sum_by_agree, leased_regions, tables_regions}
 use Rattle.pool_run.specs.Ties.{is_asking, is_for_objects, granted_to, held_by_party, FitsParty, CanTurn}
 use Rattle.pool_run.specs.declared.running_party.RunningParty.{RunningParty}
-use Rattle.pool_slots.specs.declared.plan.Plan.{Plan}
-use Rattle.pool_slots.specs.declared.slot_name.SlotName.{SlotName}
-use Rattle.pool_slots.specs.declared.listed_heaps.PlainHeap.{PlainHeap}
-
--- nothing is true and false
-pub not_both : {X : Type 0} (b : Bool) → b ≡ true → b ≡ false → X
-not_both true is other = absurd cc
-not_both false is other = absurd cc
 
 module _ {P : Type 0} where
   grant_regions : (k : SlotName) (o : Option (Grant P PlainHeap)) → granted_to (grant_count (region_of k)) o ≡ granted_to (grant_count (right_to k)) o

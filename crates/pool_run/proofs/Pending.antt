@@ -1,37 +1,10 @@
 -- A request that passed its test is never refused for want of memory.
-use Rattle.std.proofs.Common.{◌≡◌, ◌≢◌, ℕ, ◌^◌, Bool, true, false, length, Option, Some, None, Result, Ok, Err, refl, sym, ap, ◌∙◌, subst, inl, inr, arith}
-use Rattle.std.specs.Prelude.{IsSome, nat_le, nat_lt, if◌then◌else◌, slice_get}
-use Rattle.pool_pages.specs.MakerTold.{MakerTold}
-use Rattle.pool_pages.specs.MemoryTypes.{minimum_byte_size, allow_growth_to}
-use Rattle.pool_pages.specs.declared.module_types.MemoryType.{MemoryType}
-use Rattle.pool_pages.specs.declared.unsupported.Unsupported.{Unsupported}
-use Rattle.pool_pages.specs.declared.unsupported.Unsupported.TheVariants.{InitialSize, AddressSpace, MemoryMinimum, TableSize}
-use Rattle.pool_images.specs.Slots.{Slot}
-use Rattle.pool_limits.specs.declared.errors.LimiterError.{LimiterError}
-use Rattle.pool_memory.specs.Making.{maximum_asked, limits_answer}
-use Rattle.pool_memory.specs.Memories.{MemoryState}
-use Rattle.pool_memory.specs.Static.{Static, static_capacity}
-use Rattle.pool_memory.specs.declared.memory_error.MemoryError.{MemoryError}
+use Rattle.std.proofs.Common.{◌≡◌, ◌≢◌, ℕ, ◌^◌, Bool, true, false, length, Option, Some, None, Result, Ok, Err, refl, sym, ap, ◌∙◌, subst, inl, inr, arith, IsSome, nat_le, nat_lt, if◌then◌else◌, slice_get}
+use Rattle.pool_run.proofs.Imports.{is_there, MakerTold, minimum_byte_size, allow_growth_to, MemoryType, Unsupported, InitialSize, AddressSpace, MemoryMinimum, TableSize, Slot, LimiterError, maximum_asked, limits_answer, MemoryState, Static, static_capacity, MemoryError, AllocError, PlainHeap, PartyTold, MakesHeap, component_refused, made_of, made_of_limits, made_for, heap_refusal, HeapsTold, HeapMakeFault, Progress, untested, uncounted, admitted, Stage, no_call, keys, asks, returning, refusing, purging, reserving, releasing, stage_of, Raises, Makes, Goes, seeks_stack, tests_heap, seeks_heap, counts_heap, tests_component, counts_component, IsBroken, memories_wanted, tables_wanted, LeasedTable, table_refused, table_in, made_table, made_unless, Frame, Grant, instance, component, stack, heap, Outcome, PoolCore}
 use Rattle.pool_memory.specs.declared.memory_error.MemoryError.TheVariants as unmade
-use Rattle.pool_slots.specs.declared.errors.AllocError.{AllocError}
 use Rattle.pool_slots.specs.declared.errors.AllocError.TheVariants as refusal
-use Rattle.pool_slots.specs.declared.listed_heaps.PlainHeap.{PlainHeap}
-use Rattle.pool_alloc.specs.PartyTold.{PartyTold, MakesHeap}
-use Rattle.pool_alloc.specs.Refusals.{component_refused}
-use Rattle.pool_alloc.specs.Own.{made_of, made_of_limits, made_for, heap_refusal}
-use Rattle.pool_slots.specs.HeapsTold.{HeapsTold}
-use Rattle.pool_slots.specs.declared.heap_maker.HeapMakeFault.{HeapMakeFault}
-use Rattle.pool_alloc.specs.Stages.{Progress, untested, uncounted, admitted, Stage, no_call, keys, asks, returning, refusing, purging, reserving, releasing, stage_of, Raises, Makes, Goes, seeks_stack, tests_heap, seeks_heap, counts_heap, tests_component, counts_component, IsBroken}
-use Rattle.pool_alloc.specs.Steps.{memories_wanted, tables_wanted}
-use Rattle.pool_alloc.specs.TableLeases.{LeasedTable}
-use Rattle.pool_alloc.specs.TableSteps.{table_refused, table_in, made_table, made_unless}
 use Rattle.pool_run.specs.Private.{table_room}
-use Rattle.pool_alloc.specs.declared.frame.Frame.{Frame}
-use Rattle.pool_alloc.specs.declared.frame.Grant.{Grant}
-use Rattle.pool_alloc.specs.declared.frame.Grant.TheVariants.{Instance as instance, Component as component, Stack as stack, Heap as heap}
-use Rattle.pool_alloc.specs.declared.frame.Outcome.{Outcome}
 use Rattle.pool_alloc.specs.declared.frame.Outcome.TheVariants as answer
-use Rattle.pool_alloc.specs.declared.pool_core.PoolCore.{PoolCore}
 use Rattle.pool_run.specs.Agreeing.{want_of_memory}
 use Rattle.pool_run.specs.Turns.{Turned, Steps, answered, granted_reply}
 use Rattle.pool_run.specs.Ties.{CanTurn}
@@ -40,7 +13,7 @@ use Rattle.pool_run.specs.declared.reply.Refusal.TheVariants.{Alloc}
 use Rattle.pool_run.specs.declared.reply.Reply.TheVariants.{Refused}
 use Rattle.pool_run.specs.declared.running_party.RunningParty.{RunningParty}
 use Rattle.pool_run.proofs.Parties.{can_step}
-use Rattle.pool_run.proofs.SameSteps.{at_place, get_there}
+use Rattle.pool_run.proofs.SameSteps.{at_place}
 use Rattle.pool_run.proofs.Stepped.{IsStepped, stepped}
 
 -- a memory isn't made for want of memory
@@ -123,7 +96,7 @@ module _ {P : Type 0} (maker : MakerTold) (old new : PartyTold) (c : PoolCore P 
   -- no memory's own refusal is want of memory
   made_past : (n : ℕ) (e : AllocError) → Makes old new c f n (Err e) → e ≢ refusal.Memory
   made_past n e makes =
-      at_place (slice_get (memories_wanted f.asked) (length f.objects.memories.items)) (get_there (memories_wanted f.asked) (length f.objects.memories.items) (omega (arith, makes.next)))
+      at_place (slice_get (memories_wanted f.asked) (length f.objects.memories.items)) (is_there (memories_wanted f.asked) (length f.objects.memories.items) (omega (arith, makes.next)))
       (λ decl there.
       let made : made_for c.settings.max_memory_size makes.given makes.held (Some decl) ≡ Err e = ap (made_for c.settings.max_memory_size makes.given makes.held) (sym there) ∙ makes.is in
       not_memory (made_for c.settings.max_memory_size makes.given makes.held (Some decl)) e (answer_finds makes.given decl.ty c.settings.max_memory_size makes.held) made)
@@ -143,7 +116,7 @@ module _ {P : Type 0} (maker : MakerTold) (old new : PartyTold) (c : PoolCore P 
             elim rest [
               | inl fault ↦ λ is. let wrong = sym fault.is ∙ is in absurd cc
               | inr (inr makes) ↦
-                  at_place (slice_get (tables_wanted f.asked) (length f.objects.tables.items)) (get_there (tables_wanted f.asked) (length f.objects.tables.items) (omega (arith, makes.allocating.more, makes.next.0, makes.next.1.no_stack, makes.next.1.no_heap, makes.allocating.to_grant.few)))
+                  at_place (slice_get (tables_wanted f.asked) (length f.objects.tables.items)) (is_there (tables_wanted f.asked) (length f.objects.tables.items) (omega (arith, makes.allocating.more, makes.next.0, makes.next.1.no_stack, makes.next.1.no_heap, makes.allocating.to_grant.few)))
                   (λ ty there.
                   let made : made_table c.settings makes.given makes.at makes.region (Some ty) ≡ Err e = ap (made_table c.settings makes.given makes.at makes.region) (sym there) ∙ makes.is in
                   refused_other makes.given ty.limits.min (table_room c.settings ty) e (unless_is (table_refused makes.given ty.limits.min (table_room c.settings ty)) (table_in c.settings ty makes.at makes.region) e made))

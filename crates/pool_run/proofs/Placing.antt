@@ -1,31 +1,7 @@
 -- Each slot is in one place, since what is given out is counted once.
-use Rattle.std.proofs.Common.{◌≡◌, ◌≢◌, ℕ, zero, suc, ◌+◌, ◌<◌, ◌≤◌, Bool, false, List, [], ◌∷◌, Option, Some, refl, sym, ap, ◌∙◌, inl, inr, arith, subst}
-use Rattle.std.specs.Prelude.{slice_get, sum_by, IfSome}
-use Rattle.std.specs.Option.{option_map_or}
-use Rattle.std.proofs.lemmas.Bool.{cases_eq, cases_Bool, true≢false}
-use Rattle.std.proofs.lemmas.List.Sums.{sum_by-cons}
-use Rattle.std.proofs.lemmas.Option.{get_or_from_slice_get, slice_get_within}
-use Rattle.pool_index.specs.Shard.{ShardState, is_used, pick_answer}
-use Rattle.pool_index.specs.declared.ids.SlotId.{SlotId}
-use Rattle.pool_pages.specs.MakerTold.{MakerTold}
-use Rattle.pool_slots.specs.Parts.{part_at}
-use Rattle.pool_slots.specs.Plans.{Role, shard_role, cell_role, queue_role, heaps_role, no_role, role_at, home_of}
-use Rattle.pool_slots.specs.SlotNames.{of_kind}
-use Rattle.pool_slots.specs.declared.slot_name.SlotName.{SlotName}
-use Rattle.pool_slots.specs.declared.plan.Allocator.{Allocator}
-use Rattle.pool_slots.specs.declared.part.PoolPart.{PoolPart}
+use Rattle.std.proofs.Common.{◌≡◌, ◌≢◌, ℕ, zero, suc, ◌+◌, ◌<◌, ◌≤◌, Bool, false, List, [], ◌∷◌, Option, Some, refl, sym, ap, ◌∙◌, inl, inr, arith, subst, slice_get, sum_by, IfSome}
+use Rattle.pool_run.proofs.Imports.{option_map_or, cases_eq, cases_Bool, true≢false, sum_by-cons, get_or_from_slice_get, slice_get_within, ShardState, is_used, pick_answer, SlotId, MakerTold, part_at, Role, shard_role, cell_role, queue_role, heaps_role, no_role, role_at, home_of, of_kind, SlotName, Allocator, PoolPart, PlainHeap, right_to, queued_count, away_count, shard_in, shard_at, queue_in, IsPartFor, IsPartAt, Settings, right_is_out, out_once, IsShardPlace, name_in, slot_of_shard, sound_shard, picked_inside, used_is_out, picked_was_in, kept_sum}
 use Rattle.pool_slots.specs.declared.part.PoolPart.TheVariants as part
-use Rattle.pool_slots.specs.declared.listed_heaps.PlainHeap.{PlainHeap}
-use Rattle.pool_alloc.specs.Places.{right_to, queued_count, away_count}
-use Rattle.pool_alloc.specs.Steps.{shard_in, shard_at, queue_in}
-use Rattle.pool_alloc.specs.Sound.{IsPartFor, IsPartAt}
-use Rattle.pool_alloc.specs.declared.pool_core.Settings.{Settings}
-use Rattle.pool_alloc.proofs.Held.{right_is_out}
-use Rattle.pool_alloc.proofs.KeptCounts.{out_once}
-use Rattle.pool_alloc.proofs.PlanPlaces.{IsShardPlace}
-use Rattle.pool_alloc.proofs.PoolParts.{name_in, slot_of_shard, sound_shard}
-use Rattle.pool_alloc.proofs.Picks.{picked_inside}
-use Rattle.pool_alloc.proofs.UsedSlots.{used_is_out, picked_was_in, kept_sum}
 use Rattle.pool_run.specs.Folds.{RunState, HoldsBetween}
 use Rattle.pool_run.specs.Placed.{Place, free, in_queue, with_party, times_at, IsIn, IsPicked, SlotsAreInOnePlace, UsedSlotsAreNotPicked}
 use Rattle.pool_run.specs.Ties.{held_by_party}

@@ -1,50 +1,8 @@
 -- What a step makes of a request, as its party is told: it goes on, is refused for a cause, or is granted what it asked for.
-use Rattle.std.proofs.Common.{◌≡◌, ℕ, zero, suc, ◌+◌, ◌*◌, ◌<◌, ◌≤◌, ◌⊎◌, if◌then◌else◌, true, List, [], ◌∷◌, length, map, Option, Some, None, Result, Ok, Err, refl, sym, ap, ◌∙◌, subst, inl, inr, arith, All}
-use Rattle.std.specs.Prelude.{nat_lt, IfSome, slice_get, slice_index_or, sum_by}
-use Rattle.std.proofs.lemmas.Bool.{cases_eq, cases_lt, le-ltb, lt-ltb}
-use Rattle.std.proofs.lemmas.List.Elements.{All-get_or}
-use Rattle.std.proofs.lemmas.Option.{slice_get_within, get_or_from_slice_get}
-use Rattle.pool_pages.specs.declared.module_types.MemoryDecl.{MemoryDecl}
-use Rattle.pool_pages.specs.declared.unsupported.Unsupported.{Unsupported}
-use Rattle.pool_images.specs.Images.{Image}
-use Rattle.pool_images.specs.Slots.{FitsInto}
-use Rattle.pool_pages.specs.MemoryTypes.{minimum_byte_size}
-use Rattle.pool_memory.specs.Making.{minimum_asked, maximum_asked}
-use Rattle.pool_memory.specs.Memories.{MemoryState}
-use Rattle.pool_slots.specs.declared.errors.AllocError.{AllocError}
+use Rattle.std.proofs.Common.{◌≡◌, ℕ, zero, suc, ◌+◌, ◌*◌, ◌<◌, ◌≤◌, ◌⊎◌, if◌then◌else◌, true, List, [], ◌∷◌, length, map, Option, Some, None, Result, Ok, Err, refl, sym, ap, ◌∙◌, subst, inl, inr, arith, All, nat_lt, IfSome, slice_get, slice_index_or, sum_by}
+use Rattle.pool_run.proofs.Imports.{cases_eq, cases_lt, le-ltb, lt-ltb, All-get_or, slice_get_within, get_or_from_slice_get, MemoryDecl, Unsupported, Image, FitsInto, minimum_byte_size, minimum_asked, maximum_asked, MemoryState, AllocError, PartyTold, AsksForMemory, Lease, memory_slot, made_for, objects_in, objects_wanted, right_to, instance_count, slot_count, frame_count, kept_count, away_count, frame_instances, phase_components, Asked, module_asked, MemoryWant, Want, new_memory, new_table, wants_from, module_refused, IsFrame, IsAllocating, IsMemoryNext, IsTableNext, IsSupported, AreSupported, IsNew, AreBegun, IsLeaseOf, AreLeasesOf, Progress, untested, uncounted, admitted, seeks_stack, tests_heap, seeks_heap, counts_heap, FindsNone, IsPageFaulted, Makes, MakesTable, IsUntested, Raises, Follows, grant_count, grant_instances, grant_components, IsModule, kind_by, IsForInstance, info_wanted, memories_wanted, images_wanted, tables_wanted, memory_slots, stripe_allocator, allocator_of, allocator_for, kind_next, limit_of, IsTableLease, IsBegunTable, LeasedTable, AsksForTable, table_in, made_table, made_unless, table_refused, SlotKind, memory_kind, table_kind, ModuleInfo, TableType, type_maximum, PoolCore, Settings, Frame, Grant, instance, InstanceLease, of_kind, SlotName, Allocator, has_number, PlainHeap}
 use Rattle.pool_slots.specs.declared.errors.AllocError.TheVariants as refusal
-use Rattle.pool_alloc.specs.PartyTold.{PartyTold}
-use Rattle.pool_alloc.specs.Answers.{AsksForMemory}
-use Rattle.pool_alloc.specs.Leases.{Lease, memory_slot}
-use Rattle.pool_alloc.specs.Own.{made_for}
-use Rattle.pool_alloc.specs.Objects.{objects_in, objects_wanted}
-use Rattle.pool_alloc.specs.Places.{right_to, instance_count, slot_count, frame_count, kept_count, away_count, frame_instances, phase_components}
-use Rattle.pool_alloc.specs.declared.frame.Asked.{Asked}
-use Rattle.pool_alloc.specs.declared.frame.Asked.TheVariants.{Module as module_asked}
-use Rattle.pool_alloc.specs.Wants.{MemoryWant, Want, new_memory, new_table, wants_from}
 use Rattle.pool_run.proofs.SlotsMade.{made_slot}
-use Rattle.pool_alloc.specs.Refusals.{module_refused}
-use Rattle.pool_alloc.specs.Sound.{IsFrame, IsAllocating, IsMemoryNext, IsTableNext, IsSupported, AreSupported, IsNew, AreBegun, IsLeaseOf, AreLeasesOf}
-use Rattle.pool_alloc.specs.Stages.{Progress, untested, uncounted, admitted, seeks_stack, tests_heap, seeks_heap, counts_heap, FindsNone, IsPageFaulted, Makes, MakesTable, IsUntested, Raises, Follows}
-use Rattle.pool_alloc.specs.Stepping.{grant_count, grant_instances, grant_components}
-use Rattle.pool_alloc.specs.Steps.{IsModule, kind_by, IsForInstance, info_wanted, memories_wanted, images_wanted, tables_wanted, memory_slots, stripe_allocator, allocator_of, allocator_for, kind_next}
-use Rattle.pool_alloc.specs.Turns.{limit_of}
-use Rattle.pool_alloc.specs.PoolTables.{IsTableLease, IsBegunTable}
-use Rattle.pool_alloc.specs.TableLeases.{LeasedTable}
-use Rattle.pool_alloc.specs.TableSteps.{AsksForTable, table_in, made_table, made_unless, table_refused}
-use Rattle.pool_hall.specs.declared.unit_name.SlotKind.{SlotKind}
-use Rattle.pool_hall.specs.declared.unit_name.SlotKind.TheVariants.{Memory as memory_kind, Table as table_kind}
-use Rattle.pool_pages.specs.declared.module_types.ModuleInfo.{ModuleInfo}
-use Rattle.pool_pages.specs.declared.table_type.TableType.{TableType}
-use Rattle.pool_table.specs.Tables.{type_maximum}
-use Rattle.pool_alloc.specs.declared.pool_core.PoolCore.{PoolCore}
-use Rattle.pool_alloc.specs.declared.pool_core.Settings.{Settings}
-use Rattle.pool_alloc.specs.declared.frame.Frame.{Frame}
-use Rattle.pool_alloc.specs.declared.frame.Grant.{Grant}
-use Rattle.pool_alloc.specs.declared.frame.Grant.TheVariants.{Instance as instance}
-use Rattle.pool_alloc.specs.declared.lease.InstanceLease.{InstanceLease}
-use Rattle.pool_slots.specs.SlotNames.{of_kind}
-use Rattle.pool_slots.specs.declared.slot_name.SlotName.{SlotName}
 use Rattle.pool_run.specs.Private.{Grants, stripe_slots, PrivateMemory, instance_grant, module_of, Request, request_of, wants_of, begun, begun_memory, begun_table, begun_instance, own_refusal, slots_asked, table_room}
 use Rattle.pool_run.specs.PrivateTables.{PrivateTable}
 use Rattle.pool_run.specs.Rooms as rooms
@@ -60,9 +18,6 @@ use Rattle.pool_run.proofs.TableChanges.{table_answer_told}
 use Rattle.pool_run.proofs.TablesBegun.{table_seen}
 use Rattle.pool_run.proofs.Growths.{answer_told}
 use Rattle.pool_run.proofs.Wants.{IsWanted, wants_there, count_wanted, count_all, memory_at, table_at}
-use Rattle.pool_slots.specs.declared.plan.Allocator.{Allocator}
-use Rattle.pool_slots.specs.Plans.{has_number}
-use Rattle.pool_slots.specs.declared.listed_heaps.PlainHeap.{PlainHeap}
 
 -- the tables of the module that is asked for
 tables_told_by : (asked : Asked) → tables_wanted asked ≡ (info_wanted asked).tables

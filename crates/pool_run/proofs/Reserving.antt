@@ -1,38 +1,18 @@
 -- The lists for the slots of what is asked for have room for them, until the reply takes them.
-use Rattle.std.proofs.Common.{◌≡◌, ℕ, ◌<◌, ◌≤◌, Bool, Option, Some, None, List, [], length, refl, sym, ap, ◌∙◌, subst, inl, inr, arith, true}
-use Rattle.std.specs.Prelude.{replicate, slice_set, slice_index_or}
-use Rattle.std.proofs.lemmas.Bool.{cases_eq}
-use Rattle.std.proofs.lemmas.List.{length-map, length-replicate, length-set, get_or-map, get_or-replicate, get_or-set_same, get_or-set_other}
-use Rattle.pool_pages.specs.MakerTold.{MakerTold}
-use Rattle.pool_alloc.specs.PartyTold.{PartyTold}
-use Rattle.pool_alloc.specs.Objects.{objects_in}
-use Rattle.pool_alloc.specs.Calls.{IsGrantOf, IfGranted, begun_call, frame_made}
-use Rattle.pool_alloc.specs.Steps.{memories_wanted, tables_wanted}
-use Rattle.pool_alloc.specs.Turns.{After}
-use Rattle.pool_alloc.specs.Stepping.{is_idle}
-use Rattle.pool_alloc.specs.declared.pool_core.PoolCore.{PoolCore}
-use Rattle.pool_alloc.specs.declared.pool_core.Settings.{Settings}
-use Rattle.pool_alloc.specs.declared.frame.Call.{Call}
+use Rattle.std.proofs.Common.{◌≡◌, ℕ, ◌<◌, ◌≤◌, Bool, Option, Some, None, List, [], length, refl, sym, ap, ◌∙◌, subst, inl, inr, arith, true, replicate, slice_set, slice_index_or}
+use Rattle.pool_run.proofs.Imports.{cases_eq, length-map, length-replicate, length-set, get_or-map, get_or-replicate, get_or-set_same, get_or-set_other, not_both, MakerTold, PartyTold, objects_in, IsGrantOf, IfGranted, begun_call, frame_made, memories_wanted, tables_wanted, After, is_idle, PoolCore, Settings, Call, Frame, Grant, instance, component, stack, heap, Outcome, stage_of, Asked, Plan, PlainHeap}
 use Rattle.pool_alloc.specs.declared.frame.Call.TheVariants as call
-use Rattle.pool_alloc.specs.declared.frame.Frame.{Frame}
-use Rattle.pool_alloc.specs.declared.frame.Grant.{Grant}
-use Rattle.pool_alloc.specs.declared.frame.Grant.TheVariants.{Instance as instance, Component as component, Stack as stack, Heap as heap}
-use Rattle.pool_alloc.specs.declared.frame.Outcome.{Outcome}
 use Rattle.pool_alloc.specs.declared.frame.Outcome.TheVariants as answer
 use Rattle.pool_run.specs.RunsMade.{AreReserved, party_made_for, parties_made}
 use Rattle.pool_run.specs.Ties.{IsReserved, is_for_objects}
-use Rattle.pool_alloc.specs.Stages.{stage_of}
 use Rattle.pool_run.specs.Turns.{Turned, IsPlain, leases_listed, tables_of, answered, slots_after, no_lists}
-use Rattle.pool_alloc.specs.declared.frame.Asked.{Asked}
 use Rattle.pool_run.specs.declared.input.Party.{Party}
 use Rattle.pool_run.specs.declared.reply.Reply.{Reply}
 use Rattle.pool_run.specs.declared.running_party.RunningParty.{RunningParty}
 use Rattle.pool_run.specs.declared.slot_lists.SlotLists.{SlotLists}
-use Rattle.pool_run.proofs.Parties.{not_both, plain_lists, returned_asks}
+use Rattle.pool_run.proofs.Parties.{plain_lists, returned_asks}
 use Rattle.pool_run.proofs.StageSteps.{is_none, none_idle, settled_place, asking_some, IsStagedStep, instance_asks, IfInstance}
 use Rattle.pool_run.proofs.Stepped.{IsStepped}
-use Rattle.pool_slots.specs.declared.plan.Plan.{Plan}
-use Rattle.pool_slots.specs.declared.listed_heaps.PlainHeap.{PlainHeap}
 
 module _ {P : Type 0} where
   -- where nothing is asked for, no room is needed

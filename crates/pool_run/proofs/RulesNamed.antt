@@ -1,20 +1,12 @@
 -- A broken rule of the settings is named, exactly where there is one.
-use Rattle.std.proofs.Common.{◌≡◌, ℕ, Bool, true, false, Option, Some, None, Result, Ok, Err, refl, sym, ap, ◌∙◌, subst}
-use Rattle.std.specs.Prelude.{◌↔◌, nat_le, IfErr, OnOk}
-use Rattle.std.proofs.lemmas.Bool.{leb-true}
-use Rattle.std.proofs.lemmas.Option.{same_Some}
-use Rattle.pool_pages.specs.ConfigLimits.{first_too_great, is_batch_size}
-use Rattle.pool_pages.specs.Count.{IsPageSize}
-use Rattle.pool_pages.specs.SettingsRules.{is_page_size, is_shard_count, keys_suffice, first_broken_total, or_else, unless}
-use Rattle.pool_pages.specs.declared.bad_config.BadConfig.TheVariants.{PageSize, Shards, DecommitBatch, Reservation, KeysNotOffered}
-use Rattle.pool_pages.specs.declared.bad_config.BadConfig.{BadConfig as BrokenRule}
+use Rattle.std.proofs.Common.{◌≡◌, ℕ, Bool, true, false, Option, Some, None, Result, Ok, Err, refl, sym, ap, ◌∙◌, subst, ◌↔◌, nat_le, IfErr, OnOk}
+use Rattle.pool_run.proofs.Imports.{leb-true, same_Some, first_true, second_true, first_too_great, is_batch_size, IsPageSize, is_page_size, is_shard_count, keys_suffice, first_broken_total, or_else, unless, PageSize, Shards, DecommitBatch, Reservation, KeysNotOffered, BrokenRule}
 use Rattle.pool_run.specs.Built.{broken_rule}
 use Rattle.pool_run.specs.Runs.{is_refused, NamesRule}
 use Rattle.pool_run.specs.Validity.{is_valid}
 use Rattle.pool_run.specs.declared.input.Input.{Input}
 use Rattle.pool_run.specs.declared.output.RunFault.{RunFault}
 use Rattle.pool_run.specs.declared.output.RunFault.TheVariants.{BadInput, BadConfig, PageFault, Memory}
-use Rattle.pool_run.proofs.Tests.{first, second}
 
 -- where none is broken, and it isn't for the input that nothing is run
 pub names_none : (broken : Option BrokenRule) (fault : RunFault) → broken ≡ None → is_refused fault ≡ false → NamesRule broken fault
@@ -31,30 +23,14 @@ named_by {X = X} broken (BadConfig rule) e names =
 named_by broken PageFault e names = (λ is. absurd cc, λ is. let none : ◌≡◌ {A = Option BrokenRule} None (Some e) = sym names ∙ is in absurd cc)
 named_by broken Memory e names = (λ is. absurd cc, λ is. let none : ◌≡◌ {A = Option BrokenRule} None (Some e) = sym names ∙ is in absurd cc)
 
--- The refusal names the rule exactly where it is the first that is broken.
-pub rule_named : {X : Type 0} (broken : Option BrokenRule) (r : Result X RunFault) (e : BrokenRule) → OnOk r (broken ≡ None) → IfErr r (NamesRule broken) → (r ≡ Err (BadConfig e)) ↔ (broken ≡ Some e)
-rule_named broken (Ok x) e none names = (λ is. absurd cc, λ is. let wrong : ◌≡◌ {A = Option BrokenRule} None (Some e) = sym none ∙ is in absurd cc)
-rule_named broken (Err fault) e none names = named_by broken fault e names
-
--- The input isn't refused for itself where its rules are named.
-never_by : {X : Type 0} (broken : Option BrokenRule) (r : Result X RunFault) → IfErr r (NamesRule broken) → r ≡ Err BadInput → ⊥
-never_by broken (Ok x) names is = absurd cc
-never_by broken (Err BadInput) names is = names
-never_by broken (Err (BadConfig e)) names is = absurd cc
-never_by broken (Err PageFault) names is = absurd cc
-never_by broken (Err Memory) names is = absurd cc
-
-pub input_accepted : {X : Type 0} (valid : Bool) (broken : Option BrokenRule) (r : Result X RunFault) → valid ≡ true → IfErr r (NamesRule broken) → (r ≡ Err BadInput) ↔ (valid ≡ false)
-input_accepted valid broken r is names = (λ wrong. absurd (never_by broken r names wrong), λ isnt. let both : true ≡ false = sym is ∙ isnt in absurd cc)
-
 -- The page is the first thing that has a rule.
 sized : (n : ℕ) → is_page_size n ≡ true → IsPageSize n
 sized n is =
-    let rest = second (nat_le 16 n) _ is in
+    let rest = second_true (nat_le 16 n) _ is in
     record {
-      at_least = leb-true 16 n (first (nat_le 16 n) _ is);
-      at_most = leb-true n 65536 (first (nat_le n 65536) _ rest);
-      power_of_two = second (nat_le n 65536) _ rest;
+      at_least = leb-true 16 n (first_true (nat_le 16 n) _ is);
+      at_most = leb-true n 65536 (first_true (nat_le n 65536) _ rest);
+      power_of_two = second_true (nat_le n 65536) _ rest;
     }
 
 broken_page : (input : Input) → is_page_size input.page ≡ false → broken_rule input ≡ Some (PageSize input.page)

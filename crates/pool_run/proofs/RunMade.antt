@@ -1,22 +1,8 @@
 -- A run keeps what it promises.
-use Rattle.std.proofs.Common.{◌≡◌, ℕ, ◌+◌, ◌^◌, ◌<◌, ◌≤◌, List, [], ◌∷◌, ◌++◌, length, map, take, get_or, replicate, Option, Some, None, refl, sym, ap, ◌∙◌, subst, arith}
-use Rattle.std.specs.Prelude.{IfSome, slice_get, slice_set, slice_index_or, unwrap_or}
-use Rattle.pool_table.specs.Stores.{StoreTold, listed_store}
-use Rattle.pool_table.specs.declared.gc_store.ListedStore.{ListedStore}
+use Rattle.std.proofs.Common.{◌≡◌, ℕ, ◌+◌, ◌^◌, ◌<◌, ◌≤◌, List, [], ◌∷◌, ◌++◌, length, map, take, get_or, replicate, Option, Some, None, refl, sym, ap, ◌∙◌, subst, arith, IfSome, slice_get, slice_set, slice_index_or, unwrap_or}
+use Rattle.pool_run.proofs.Imports.{StoreTold, listed_store, ListedStore, length-set, get_or-set_same, get_or-map, length-map, map-append, take_all, take_more, replicate_more, All-map, sum_by-set, get_or-le-sum_by, slice_get_within, get_or_from_slice_get, MakerTold, one_if, ModuleAsked, CanCount, PoolCore, IsCore, IsUntouched, IsPartitioned, Settings, listed_heaps, ListedHeaps, PlainHeap}
 use Rattle.pool_run.specs.AtOnce.{store_told}
-use Rattle.std.proofs.lemmas.List.{length-set, get_or-set_same, get_or-map, length-map, map-append, take_all, take_more, replicate_more}
-use Rattle.std.proofs.lemmas.List.Elements.{All-map}
-use Rattle.std.proofs.lemmas.List.Sums.{sum_by-set, get_or-le-sum_by}
-use Rattle.std.proofs.lemmas.Option.{slice_get_within, get_or_from_slice_get}
-use Rattle.pool_pages.specs.MakerTold.{MakerTold}
-use Rattle.pool_index.specs.Shard.{one_if}
-use Rattle.pool_alloc.specs.Asked.{ModuleAsked}
-use Rattle.pool_alloc.specs.Stepping.{CanCount}
-use Rattle.pool_alloc.specs.declared.pool_core.PoolCore.{PoolCore}
-use Rattle.pool_run.specs.Folds.{RunState, TurnsOf, TurnsIf, with_turn, commands_of, replies_to}
-use Rattle.pool_alloc.specs.Sound.{IsCore}
-use Rattle.pool_alloc.specs.Whole.{IsUntouched, IsPartitioned}
-use Rattle.pool_run.specs.Folds.{Folds}
+use Rattle.pool_run.specs.Folds.{RunState, TurnsOf, TurnsIf, with_turn, commands_of, replies_to, Folds}
 use Rattle.pool_run.specs.Progress.{begins_by, bound_by, Advances, IsRunOf}
 use Rattle.pool_run.specs.RunsMade.{Background, IsKept, places_in, commands_in, party_made_for, parties_made}
 use Rattle.pool_run.specs.declared.input.Party.{Party}
@@ -26,7 +12,6 @@ use Rattle.pool_run.specs.Worlds.{IsFit, AreFit, AreCallsFor, IsCallFor, NameMod
 use Rattle.pool_run.specs.Rooms.{World}
 use Rattle.pool_run.specs.declared.command.Command.{Command}
 use Rattle.pool_run.specs.declared.running_party.RunningParty.{RunningParty}
-use Rattle.pool_alloc.specs.declared.pool_core.Settings.{Settings}
 use Rattle.pool_run.proofs.Advanced.{HasAdvanced, has_advanced}
 use Rattle.pool_run.proofs.Between.{IsDrawn, ready_there, still_drawn, advances}
 use Rattle.pool_run.proofs.Counters.{can_count}
@@ -37,9 +22,6 @@ use Rattle.pool_run.proofs.Started.{IsMadeParty, AreMade, started_running}
 use Rattle.pool_run.proofs.LimitsOfRuns.{made_within}
 use Rattle.pool_run.proofs.Running.{can_turn}
 use Rattle.pool_run.proofs.Turned.{HasTurned, has_turned}
-use Rattle.pool_slots.specs.HeapsTold.{listed_heaps}
-use Rattle.pool_slots.specs.declared.listed_heaps.ListedHeaps.{ListedHeaps}
-use Rattle.pool_slots.specs.declared.listed_heaps.PlainHeap.{PlainHeap}
 use Rattle.pool_run.proofs.SameHeaps.{listed_same}
 
 one_fits : (w : World) (s : Settings) (number : ℕ) (o : Option ModuleAsked) → IfSome o (IsCallFor w.terms s number) → IfSome o (IsFit s)

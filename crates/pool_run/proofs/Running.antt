@@ -1,26 +1,12 @@
 -- A run of several parties: each may turn, and after a turn of one the run goes on.
-use Rattle.std.proofs.Common.{ℕ, ◌+◌, ◌<◌, ◌≤◌, List, length, get_or, arith, All}
-use Rattle.std.specs.Prelude.{IfSome, remove, sum_by, slice_set, slice_index_or}
-use Rattle.std.proofs.lemmas.List.Elements.{All-set, All-get_or}
-use Rattle.std.proofs.lemmas.List.Sums.{sum_by-set, sum_by-remove, sum_by-le-sum_by, get_or-le-sum_by}
-use Rattle.pool_pages.specs.MakerTold.{MakerTold}
-use Rattle.pool_alloc.specs.Places.{right_to, region_of}
-use Rattle.pool_alloc.specs.Calls.{IsGrant}
-use Rattle.pool_alloc.specs.Stepping.{IsSameSize}
-use Rattle.pool_alloc.specs.Whole.{HasSlots, IsPartitioned}
-use Rattle.pool_alloc.specs.declared.pool_core.PoolCore.{PoolCore}
-use Rattle.pool_alloc.specs.declared.pool_core.Settings.{Settings}
-use Rattle.pool_alloc.proofs.Held.{frame_regions}
-use Rattle.pool_alloc.specs.Sound.{IsFrame}
+use Rattle.std.proofs.Common.{ℕ, ◌+◌, ◌<◌, ◌≤◌, List, length, get_or, arith, All, IfSome, remove, sum_by, slice_set, slice_index_or}
+use Rattle.pool_run.proofs.Imports.{All-set, All-get_or, sum_by-set, sum_by-remove, sum_by-le-sum_by, get_or-le-sum_by, MakerTold, right_to, region_of, IsGrant, IsSameSize, HasSlots, IsPartitioned, PoolCore, Settings, frame_regions, IsFrame, Plan, SlotName, PlainHeap}
 use Rattle.pool_run.specs.Turns.{Turned}
 use Rattle.pool_run.specs.Ties.{held_by_party, IsParty, FitsParty, CanTurn, IsRunning}
 use Rattle.pool_run.specs.declared.running_party.RunningParty.{RunningParty}
 use Rattle.pool_run.proofs.Parties.{live_regions}
 use Rattle.pool_run.proofs.Turned.{HasTurned}
 use Rattle.pool_run.proofs.Sounds.{IsSoundTurn, over_size}
-use Rattle.pool_slots.specs.declared.plan.Plan.{Plan}
-use Rattle.pool_slots.specs.declared.slot_name.SlotName.{SlotName}
-use Rattle.pool_slots.specs.declared.listed_heaps.PlainHeap.{PlainHeap}
 
 module _ {P : Type 0} where
   -- A party has no region without its slot.

@@ -1,25 +1,7 @@
 -- A decommit of the first ranges of a queue has one outcome, where the slots' regions tell which calls on them fail.
-use Rattle.std.proofs.Common.{◌≡◌, ℕ, Bool, true, false, List, [], ◌∷◌, Option, Some, None, IsSome, refl, sym, ap, ◌∙◌, subst, All}
-use Rattle.std.specs.Prelude.{◌||◌, not, IfSome}
-use Rattle.std.specs.List.{AllByRecursion, AllZip}
-use Rattle.std.proofs.lemmas.List.Elements.{All-head, All-tail}
-use Rattle.pool_pages.specs.MakerTold.{MakerTold}
-use Rattle.pool_pages.specs.Count.{Count, count}
-use Rattle.pool_pages.specs.Told.{Told}
-use Rattle.pool_images.specs.declared.image_slot.ImageName.{ImageName}
-use Rattle.pool_images.specs.Slots.{Slot, SlotIdentity, IsLeft}
-use Rattle.pool_images.specs.declared.ranges.ByteRange.{ByteRange}
-use Rattle.pool_slots.specs.SlotOrders.{decommits, run_of, FollowsAt, AreInOrder}
-use Rattle.pool_slots.specs.SlotQueues.{Queued, Queue, CanBeZeroed, LeavesClean, same_slot, holds, HasOwners, first_slot, forgotten_slot, IsSlotLeft, IsLeftBy, IsFaulted}
-use Rattle.pool_slots.specs.declared.queued_range.QueuedRange.{QueuedRange}
-use Rattle.pool_slots.specs.declared.slot_name.SlotName.{SlotName}
-use Rattle.pool_slots.proofs.SlotNames.{slot_is}
-use Rattle.pool_alloc.specs.Answers.{Decommits, FollowsRun}
-use Rattle.pool_hall.specs.declared.unit_name.SlotKind.{SlotKind}
-use Rattle.pool_hall.specs.declared.unit_name.SlotKind.TheVariants.{Stack as stack_kind}
+use Rattle.std.proofs.Common.{◌≡◌, ℕ, Bool, true, false, List, [], ◌∷◌, Option, Some, None, IsSome, refl, sym, ap, ◌∙◌, subst, All, ◌||◌, not, IfSome}
+use Rattle.pool_run.proofs.Imports.{AllByRecursion, AllZip, All-head, All-tail, MakerTold, Count, count, Told, ImageName, Slot, SlotIdentity, IsLeft, ByteRange, decommits, run_of, FollowsAt, AreInOrder, Queued, Queue, CanBeZeroed, LeavesClean, same_slot, holds, HasOwners, first_slot, forgotten_slot, IsSlotLeft, IsLeftBy, IsFaulted, QueuedRange, SlotName, slot_is, Decommits, FollowsRun, SlotKind, stack_kind, MayQueue, MayBeRanged, MustBeByHand, IsQueuedOf, IsLocal, Settings}
 use Rattle.pool_hall.specs.declared.unit_name.SlotKind.TheVariants as kind
-use Rattle.pool_alloc.specs.Sound.{MayQueue, MayBeRanged, MustBeByHand, IsQueuedOf, IsLocal}
-use Rattle.pool_alloc.specs.declared.pool_core.Settings.{Settings}
 use Rattle.pool_run.proofs.SameMoves.{slot_planned, table_planned, stack_planned}
 use Rattle.pool_run.proofs.SameSlots.{follow_same, not_same, forgotten_same}
 

@@ -1,17 +1,7 @@
 -- Two runs over the same turns, in which the same commands find no memory, are the same.
-use Rattle.std.proofs.Common.{◌≡◌, ◌≢◌, ℕ, zero, suc, ◌+◌, ◌<◌, Bool, true, false, List, [], ◌∷◌, ◌++◌, length, replicate, Option, Some, None, IsSome, ◌⊎◌, refl, sym, ap, ◌∙◌, subst, inl, inr, arith}
-use Rattle.std.specs.Prelude.{IfSome, slice_get, slice_set}
-use Rattle.std.proofs.lemmas.Bool.{cases_eq, cases_lt}
-use Rattle.std.proofs.lemmas.List.{append-nil, set_past, get_or-set_same, get_or-set_other, set-get_or}
-use Rattle.std.proofs.lemmas.Option.{slice_get_past, slice_get_within, get_or_from_slice_get}
-use Rattle.pool_alloc.specs.Objects.{objects_in}
-use Rattle.pool_alloc.specs.Asked.{ModuleAsked}
-use Rattle.pool_alloc.specs.Stages.{stage_at, stage_of}
-use Rattle.pool_alloc.specs.Stepping.{is_idle}
-use Rattle.pool_alloc.specs.declared.frame.Phase.{Phase}
+use Rattle.std.proofs.Common.{◌≡◌, ◌≢◌, ℕ, zero, suc, ◌+◌, ◌<◌, Bool, true, false, List, [], ◌∷◌, ◌++◌, length, replicate, Option, Some, None, IsSome, ◌⊎◌, refl, sym, ap, ◌∙◌, subst, inl, inr, arith, IfSome, slice_get, slice_set}
+use Rattle.pool_run.proofs.Imports.{cases_eq, cases_lt, append-nil, set_past, get_or-set_same, get_or-set_other, set-get_or, slice_get_past, slice_get_within, get_or_from_slice_get, objects_in, ModuleAsked, stage_at, stage_of, is_idle, Phase, ModuleCall, PoolCore, PlainHeap}
 use Rattle.pool_run.specs.Ties.{CanTurn}
-use Rattle.pool_alloc.specs.declared.frame.ModuleCall.{ModuleCall}
-use Rattle.pool_alloc.specs.declared.pool_core.PoolCore.{PoolCore}
 use Rattle.pool_run.specs.Agreeing.{want_of_memory, WantAlike}
 use Rattle.pool_run.specs.Folds.{RunState, commands_of, replies_to, replies_after, party_by_party, with_turn, TurnsIf, TurnsOf, Folds, HasNothingLeft, IsFinished, FinishesRun, Runs, IsUnderWay}
 use Rattle.pool_run.specs.Rooms.{World}
@@ -28,7 +18,6 @@ use Rattle.pool_run.proofs.Opened.{idle_is}
 use Rattle.pool_run.proofs.Pending.{IsPast, PastReply, step_past}
 use Rattle.pool_run.proofs.SameTurns.{IsApart, can_now, turn_alike, turn_clear}
 use Rattle.pool_run.proofs.Wants.{stays_get}
-use Rattle.pool_slots.specs.declared.listed_heaps.PlainHeap.{PlainHeap}
 
 -- what is put behind a list is there
 last_get : {X : Type 0} (xs : List X) (x : X) → slice_get (xs ++ x ∷ []) (length xs) ≡ Some x
@@ -132,11 +121,6 @@ module _ {P : Type 0} (w : World) (modules : List ModuleAsked) (inputs : List (L
             subst (λ (n : ℕ). C (slice_get (slice_set s.parties i turns.0.party) n)) (sym is) here
         | inr other ↦ subst C (sym (set_other s.parties i k turns.0.party other)) (clear k)
       ])
-
-  clear_folded : (schedule : List ℕ) (s end : RunState P) → IsUnderWay w modules inputs s → AllClear s → Folds modules inputs schedule s end → AllClear end
-  clear_folded [] s end way clear folds = subst AllClear (sym folds) clear
-  clear_folded (i ∷ schedule) s end way clear folds =
-      clear_folded schedule folds.0 end (run_turned w modules inputs i s folds.0 way folds.1) (clear_turned i (slice_get s.parties i) s folds.0 refl way clear folds.1) folds.2
 
   -- A request that passed its test is pending: its reply is to be this one.
   record IsPending (i n : ℕ) (s : RunState P) : Type 0 where

@@ -1,22 +1,7 @@
 -- One step has one answer of the maker of heaps, whose list says it, and leaves one maker.
-use Rattle.std.proofs.Common.{◌≡◌, ℕ, List, true, false, Result, Ok, Err, refl, sym, ap, ◌∙◌, subst}
-use Rattle.std.specs.Prelude.{IfErr, MatchResult}
-use Rattle.std.proofs.lemmas.Option.{same_Some}
-use Rattle.pool_pages.specs.Told.{risen}
-use Rattle.pool_limits.specs.Growth.{GrowthRule}
-use Rattle.pool_slots.specs.HeapsTold.{HeapsTold, fails_next}
-use Rattle.pool_slots.specs.declared.heap_maker.HeapMakeFault.{HeapMakeFault}
+use Rattle.std.proofs.Common.{◌≡◌, ℕ, List, true, false, Result, Ok, Err, refl, sym, ap, ◌∙◌, subst, IfErr, MatchResult}
+use Rattle.pool_run.proofs.Imports.{same_Some, risen, GrowthRule, HeapsTold, fails_next, HeapMakeFault, ListedHeaps, PlainHeap, MakesOf, MakesHeap, StepGiven, After, Frame, Phase, MakeHeap, PoolCore}
 use Rattle.pool_slots.specs.declared.heap_maker.HeapMakeFault.TheVariants.{HeapFault}
-use Rattle.pool_slots.specs.declared.listed_heaps.ListedHeaps.{ListedHeaps}
-use Rattle.pool_slots.specs.declared.listed_heaps.PlainHeap.{PlainHeap}
-use Rattle.pool_alloc.specs.Answers.{MakesOf}
-use Rattle.pool_alloc.specs.PartyTold.{MakesHeap}
-use Rattle.pool_alloc.specs.Steps.{StepGiven}
-use Rattle.pool_alloc.specs.Turns.{After}
-use Rattle.pool_alloc.specs.declared.frame.Frame.{Frame}
-use Rattle.pool_alloc.specs.declared.frame.Phase.{Phase}
-use Rattle.pool_alloc.specs.declared.frame.Phase.TheVariants.{MakeHeap}
-use Rattle.pool_alloc.specs.declared.pool_core.PoolCore.{PoolCore}
 use Rattle.pool_run.specs.Turns.{heaps_told, StepsUnder}
 
 -- a heap has nothing in it

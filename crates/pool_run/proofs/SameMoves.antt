@@ -1,27 +1,10 @@
 -- An operation on a memory has one outcome, where the slot that the memory lies in tells what it holds and which calls on
 -- it fail, and there is memory for the reply.
-use Rattle.std.proofs.Common.{◌≡◌, ◌≢◌, ℕ, ◌+◌, ◌<◌, ◌≤◌, Bool, true, false, List, replicate, Option, Some, None, IsSome, ◌⊎◌, inl, inr, refl, sym, ap, ◌∙◌, subst, arith, is_some}
-use Rattle.std.specs.Prelude.{not, IfSome, option_map, slice_range}
-use Rattle.pool_pages.specs.Contents.{Contents}
-use Rattle.pool_pages.specs.Count.{rounded_up}
-use Rattle.pool_pages.specs.MakerTold.{MakerTold, part_of, Planned}
-use Rattle.pool_pages.specs.Told.{Told, PageCall, counted, passes}
-use Rattle.pool_pages.specs.declared.pages.RegionName.{RegionName}
-use Rattle.pool_pages.specs.declared.pages.RegionName.TheVariants.{Memory as memory_region, Table as table_region, Stack as stack_region, OnDemand}
-use Rattle.pool_images.specs.Orders.{failed as call_failed}
-use Rattle.pool_images.specs.Slots.{Slot, SlotIdentity, raising, limited, CallFaulted}
-use Rattle.pool_limits.specs.Growth.{GrowthRule}
+use Rattle.std.proofs.Common.{◌≡◌, ◌≢◌, ℕ, ◌+◌, ◌<◌, ◌≤◌, Bool, true, false, List, replicate, Option, Some, None, IsSome, ◌⊎◌, inl, inr, refl, sym, ap, ◌∙◌, subst, arith, is_some, not, IfSome, slice_range}
+use Rattle.pool_run.proofs.Imports.{some_mapped, Contents, rounded_up, MakerTold, part_of, Planned, Told, PageCall, passes, RegionName, memory_region, table_region, stack_region, OnDemand, call_failed, Slot, SlotIdentity, raising, limited, CallFaulted, GrowthRule, InPlace, FailsInPlace, IsCallPlanned, grown_size, Storage, in_slot, stored, slot_in, Linear, first_bytes, MemoryState, bytes_of, slot_of, Lease, IsPoolStack, IsPoolTable, IsLeaseOf, IsPoolSlot, Plan, Settings}
+use Rattle.pool_pages.specs.Told.{counted}
 use Rattle.pool_limits.specs.declared.errors.GrowError.TheVariants.{PageFault}
-use Rattle.pool_memory.specs.Growing.{InPlace, FailsInPlace, IsCallPlanned, grown_size}
-use Rattle.pool_memory.specs.Linear.{Storage, in_slot, stored, slot_in, Linear, first_bytes}
-use Rattle.pool_memory.specs.Memories.{MemoryState, bytes_of, slot_of}
 use Rattle.pool_slots.specs.declared.errors.AllocError.TheVariants as alloc
-use Rattle.pool_alloc.specs.Leases.{Lease}
-use Rattle.pool_alloc.specs.PoolStacks.{IsPoolStack}
-use Rattle.pool_alloc.specs.PoolTables.{IsPoolTable}
-use Rattle.pool_alloc.specs.Sound.{IsLeaseOf, IsPoolSlot}
-use Rattle.pool_slots.specs.declared.plan.Plan.{Plan}
-use Rattle.pool_alloc.specs.declared.pool_core.Settings.{Settings}
 use Rattle.pool_run.specs.Acts.{MemoryOp, reads, writes, fills, grows, asks_size}
 use Rattle.pool_run.specs.Agreeing.{want_of_memory}
 use Rattle.pool_run.specs.PrivateStacks.{ReadsBytes}
@@ -57,10 +40,6 @@ stack_planned maker s i slot planned of =
 -- and what they hold.
 pub slot_tells : (maker : MakerTold) (s : Settings) (i : ℕ) (slot : Slot) → maker.tells ≡ true → IsPoolSlot maker s i slot → is_some slot.region.contents ≡ true
 slot_tells maker s i slot tells of = held_tells maker s i slot of ∙ tells
-
-some_mapped : {X Y : Type 0} (f : X → Y) (o : Option X) → is_some o ≡ true → is_some (option_map f o) ≡ true
-some_mapped f None some = absurd cc
-some_mapped f (Some x) some = refl
 
 bytes_told : (n : ℕ) (st : Storage) (i : ℕ) → (slot_in st).region.name ≡ memory_region i → is_some (slot_in st).region.contents ≡ true → is_some (first_bytes n st) ≡ true
 bytes_told n (stored len bytes) i name tells = let wrong : OnDemand 0 ≡ memory_region i = name in absurd cc

@@ -1,20 +1,6 @@
 -- Two runs of one input, in which the same commands find no memory, give the same.
-use Rattle.std.proofs.Common.{◌≡◌, ℕ, zero, suc, ◌<◌, Bool, true, false, List, [], ◌∷◌, length, IsSome, Option, Some, None, Result, Ok, Err, refl, sym, ap, ◌∙◌, subst, arith}
-use Rattle.std.specs.Prelude.{IfOk, OnOk, IfSome, slice_get, slice_index_or}
-use Rattle.pool_pages.specs.MakerTold.{MakerTold}
-use Rattle.pool_pages.specs.declared.config.PoolingAllocationConfig.{PoolingAllocationConfig}
-use Rattle.pool_pages.specs.declared.module_types.Tunables.{Tunables}
-use Rattle.pool_pages.specs.declared.offered.Offered.{Offered}
-use Rattle.pool_pages.specs.declared.pages.PageCalls.{PageCalls}
-use Rattle.pool_alloc.specs.Asked.{ModuleAsked}
-use Rattle.pool_alloc.specs.Calls.{lists_made}
-use Rattle.pool_alloc.specs.declared.frame.FrameLists.{FrameLists}
-use Rattle.pool_alloc.specs.Made.{IsMadeCore, plan_settings, part_settings}
-use Rattle.pool_alloc.specs.Sums.{metrics_of}
-use Rattle.pool_alloc.specs.declared.metrics.Metrics.{Metrics}
-use Rattle.pool_alloc.specs.declared.pool_core.Counters.{Counters}
-use Rattle.pool_alloc.specs.declared.pool_core.PoolCore.{PoolCore}
-use Rattle.pool_alloc.specs.declared.pool_core.Settings.{Settings}
+use Rattle.std.proofs.Common.{◌≡◌, ℕ, zero, suc, ◌<◌, Bool, true, false, List, [], ◌∷◌, length, IsSome, Option, Some, None, Result, Ok, Err, refl, sym, ap, ◌∙◌, subst, arith, IfOk, OnOk, IfSome, slice_get, slice_index_or}
+use Rattle.pool_run.proofs.Imports.{MakerTold, PoolingAllocationConfig, Tunables, Offered, PageCalls, ModuleAsked, lists_made, FrameLists, IsMadeCore, plan_settings, part_settings, metrics_of, Metrics, Counters, PoolCore, Settings, SlotKind, IsCellMade, IsMadeAs, AreMadeTo, Role, shard_role, cell_role, queue_role, heaps_role, no_role, role_at, places_planned, divided, stripe_allocators, PartSettings, StripedPlanSettings, one_plan_with, part_at, Plan, PoolPart, PlainHeap}
 use Rattle.pool_run.specs.Agreeing.{IsRunnable, WantAlike, IsOnlyRun, RunsAgree}
 use Rattle.pool_run.specs.Built.{is_built, broken_rule}
 use Rattle.pool_run.specs.Folds.{RunParts, RunState, told_state, IsUnderWay}
@@ -33,19 +19,7 @@ use Rattle.pool_run.specs.declared.running_party.RunningParty.{RunningParty}
 use Rattle.pool_run.proofs.InputsRun.{made_under_way, holds_from_start}
 use Rattle.pool_run.proofs.SameFolds.{AllClear, folds_same, runs_same}
 use Rattle.pool_run.proofs.Cleared.{IsClearIdle}
-use Rattle.pool_hall.specs.declared.unit_name.SlotKind.{SlotKind}
 use Rattle.pool_hall.specs.declared.unit_name.SlotKind.TheVariants as of_slot
-use Rattle.pool_slots.specs.PartsMade.{IsCellMade, IsMadeAs, AreMadeTo}
-use Rattle.pool_slots.specs.Plans.{Role, shard_role, cell_role, queue_role, heaps_role, no_role, role_at}
-use Rattle.pool_slots.specs.PlansMade.{places_planned}
-use Rattle.pool_slots.specs.StripedPlans.{divided, stripe_allocators}
-use Rattle.pool_slots.specs.declared.part_maker.PartSettings.{PartSettings}
-use Rattle.pool_slots.specs.declared.striped_plan.StripedPlanSettings.{StripedPlanSettings}
-use Rattle.pool_slots.proofs.PlansMade.{one_plan_with}
-use Rattle.pool_slots.specs.Parts.{part_at}
-use Rattle.pool_slots.specs.declared.plan.Plan.{Plan}
-use Rattle.pool_slots.specs.declared.part.PoolPart.{PoolPart}
-use Rattle.pool_slots.specs.declared.listed_heaps.PlainHeap.{PlainHeap}
 
 -- lists with the same elements in each place are one
 places_same : {X : Type 0} (xs ys : List X) (d : X) → length xs ≡ length ys → ((i : ℕ) → i < length xs → slice_index_or xs i d ≡ slice_index_or ys i d) → xs ≡ ys

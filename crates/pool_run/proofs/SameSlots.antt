@@ -1,15 +1,7 @@
 -- What page calls leave of a slot, where its region tells what it holds and which calls on it fail: one outcome.
-use Rattle.std.proofs.Common.{◌≡◌, ℕ, Bool, true, false, List, [], ◌∷◌, Option, Some, None, IsSome, ◌⊎◌, inl, inr, refl, sym, ap, ◌∙◌, is_some}
-use Rattle.std.specs.Prelude.{IfSome, not}
-use Rattle.std.proofs.lemmas.Bool.{cases_eq}
-use Rattle.pool_pages.specs.Contents.{Contents}
-use Rattle.pool_pages.specs.Count.{Count, count}
-use Rattle.pool_pages.specs.Told.{Told, PageCall}
-use Rattle.pool_images.specs.Images.{Image}
-use Rattle.pool_images.specs.Orders.{outcome, Follows}
-use Rattle.pool_images.specs.Slots.{Slot, SlotIdentity, IsLeft, HasImage, name_of, image_bytes, forgotten}
-use Rattle.pool_images.specs.declared.image_slot.ImageName.{ImageName}
-use Rattle.pool_alloc.specs.Answers.{ByImage}
+use Rattle.std.proofs.Common.{◌≡◌, ℕ, Bool, true, false, List, [], ◌∷◌, Option, Some, None, IsSome, ◌⊎◌, inl, inr, refl, sym, ap, ◌∙◌, is_some, IfSome, not}
+use Rattle.pool_run.proofs.Imports.{cases_eq, Contents, Count, count, Told, PageCall, Image, outcome, Slot, SlotIdentity, IsLeft, HasImage, name_of, image_bytes, forgotten, ImageName, ByImage}
+use Rattle.pool_images.specs.Orders.{Follows}
 
 -- calls under a plan end in one way, and leave one region
 followed : (calls : List PageCall) (a b : Bool) (old new other : Told) (o : Option (List ℕ)) → IsSome o → IfSome o (λ plan. ◌≡◌ {A = Bool × Told} (a, new) (outcome plan calls old)) → IfSome o (λ plan. ◌≡◌ {A = Bool × Told} (b, other) (outcome plan calls old)) → (a ≡ b) × (new ≡ other)

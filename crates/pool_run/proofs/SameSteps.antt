@@ -1,59 +1,13 @@
 -- A step of a call has one outcome, where the maker tells what its regions hold and which of their calls fail, and there is
 -- memory for what is asked.
-use Rattle.std.proofs.Common.{◌≡◌, ℕ, zero, suc, ◌<◌, Bool, true, false, List, [], ◌∷◌, length, Option, Some, None, IsSome, Result, inl, inr, refl, sym, ap, ◌∙◌, subst, arith, is_some}
-use Rattle.std.specs.Prelude.{◌||◌, if◌then◌else◌, IfSome, not, slice_get}
-use Rattle.std.specs.List.{list_any}
-use Rattle.pool_pages.specs.Count.{rounded_up}
-use Rattle.pool_pages.specs.MakerTold.{MakerTold}
-use Rattle.pool_pages.specs.MemoryTypes.{minimum_byte_size}
-use Rattle.pool_pages.specs.declared.pages.DecommitBehavior.{DecommitBehavior}
-use Rattle.pool_pages.specs.declared.pages.DecommitBehavior.TheVariants.{Zero, RestoreOriginalMapping}
-use Rattle.pool_images.specs.Images.{Image}
-use Rattle.pool_images.specs.Orders.{Follows, wiping, resizing, replacing, resetting, removing, set_by_hand}
-use Rattle.pool_images.specs.Slots.{Slot, hides, reused, replaced, forgotten}
-use Rattle.pool_limits.specs.Growth.{GrowthRule}
-use Rattle.pool_slots.specs.HeapsTold.{HeapsTold}
-use Rattle.pool_slots.specs.declared.heap_maker.HeapMakeFault.{HeapMakeFault}
-use Rattle.pool_slots.specs.declared.listed_heaps.ListedHeaps.{ListedHeaps}
-use Rattle.pool_alloc.specs.PartyTold.{PartyTold, MakesHeap}
-use Rattle.pool_limits.specs.declared.errors.LimiterError.{LimiterError}
-use Rattle.pool_memory.specs.Making.{minimum_asked, maximum_asked}
-use Rattle.pool_memory.specs.Memories.{slot_of}
-use Rattle.pool_slots.specs.SlotQueues.{Queue, is_to_zero}
-use Rattle.pool_slots.specs.declared.queued_range.QueuedRange.{QueuedRange}
+use Rattle.std.proofs.Common.{◌≡◌, ℕ, ◌<◌, Bool, true, false, List, [], ◌∷◌, length, Option, Some, None, IsSome, Result, inl, inr, refl, sym, ap, ◌∙◌, subst, arith, is_some, ◌||◌, if◌then◌else◌, IfSome, not, slice_get}
+use Rattle.pool_run.proofs.Imports.{list_any, is_there, rounded_up, MakerTold, minimum_byte_size, DecommitBehavior, Zero, RestoreOriginalMapping, Image, wiping, resizing, replacing, resetting, removing, set_by_hand, Slot, hides, reused, replaced, forgotten, GrowthRule, HeapsTold, HeapMakeFault, ListedHeaps, PartyTold, MakesHeap, LimiterError, minimum_asked, maximum_asked, slot_of, Queue, is_to_zero, QueuedRange, MakesOf, Empties, Resets, InstantiatesAs, InstantiatesFor, FollowsPlan, FollowsPlanFor, FollowsReset, AsksForMemory, FlushTold, FlushPlanned, MayBeTold, IsPlanned, AsksOf, RemovesImage, DecommitsWhole, Forgets, FollowsForget, Drains, FollowsDrain, Lease, slot_taken, FlushStep, run, zero_by_hand, put, free, flush_step, kind_settled, settled_step, some_queued, paged, make_memory_row, make_table_row, make_heap_row, was_reset, flush_row, row_of, IsFrame, IsShapedAt, HasSlot, MayHold, IsDraining, CanStep, StepGiven, memories_wanted, tables_wanted, image_wanted, AsksForTable, type_maximum, SlotKind, memory_kind, FreedSlot, After, Row, goes, failing, stepped, Frame, Phase, Idle, Validate, TestHeap, MakeHeap, Empty, Instantiate, MakeMemory, MakeTable, PutBack, Reset, Flush, Purge, Release, TakenSlot, SlotName, cell_of, Cell, unknown, previously_used, All-get_or, ReleaseCursor, ImageSlot, PlainHeap, known_after, after_forgetting, after_decommit, Settings, decommitting, PoolCore}
+use Rattle.pool_images.specs.Orders.{Follows}
 use Rattle.pool_slots.specs.declared.errors.AllocError.TheVariants as refusal
-use Rattle.pool_alloc.specs.Answers.{MakesOf, Empties, Resets, InstantiatesAs, InstantiatesFor, FollowsPlan, FollowsPlanFor, FollowsReset, AsksForMemory, FlushTold, FlushPlanned, MayBeTold, IsPlanned, AsksOf, RemovesImage, DecommitsWhole, Forgets, FollowsForget, Drains, FollowsDrain}
-use Rattle.pool_alloc.specs.Leases.{Lease, slot_taken}
-use Rattle.pool_alloc.specs.Rows.{FlushStep, run, zero as zero_by_hand, put, free, flush_step, kind_settled, settled_step, some_queued, paged, make_memory_row, make_table_row, make_heap_row, was_reset, flush_row, row_of}
-use Rattle.pool_alloc.specs.Sound.{IsFrame, IsShapedAt, HasSlot, MayHold, IsDraining}
-use Rattle.pool_alloc.specs.Stepping.{CanStep}
-use Rattle.pool_alloc.specs.Steps.{StepGiven, memories_wanted, tables_wanted, image_wanted}
-use Rattle.pool_alloc.specs.TableSteps.{AsksForTable}
-use Rattle.pool_table.specs.Tables.{type_maximum}
-use Rattle.pool_hall.specs.declared.unit_name.SlotKind.{SlotKind}
-use Rattle.pool_hall.specs.declared.unit_name.SlotKind.TheVariants.{Memory as memory_kind}
-use Rattle.pool_alloc.specs.declared.frame.FreedSlot.{FreedSlot}
-use Rattle.pool_alloc.specs.Turns.{After, Row, goes, failing, stepped}
-use Rattle.pool_alloc.specs.declared.frame.Frame.{Frame}
-use Rattle.pool_alloc.specs.declared.frame.Phase.{Phase}
-use Rattle.pool_alloc.specs.declared.frame.Phase.TheVariants.{Idle, Validate, TestHeap, MakeHeap, Empty, Instantiate, MakeMemory, MakeTable, PutBack, Reset, Flush, Purge, Release}
-use Rattle.pool_alloc.specs.declared.frame.TakenSlot.{TakenSlot}
 use Rattle.pool_alloc.specs.declared.frame.Object.TheVariants as object
-use Rattle.pool_slots.specs.declared.slot_name.SlotName.{SlotName}
-use Rattle.pool_slots.specs.CellOf.{cell_of}
-use Rattle.pool_slots.specs.Cells.{Cell, unknown, previously_used}
-use Rattle.std.proofs.lemmas.List.Elements.{All-get_or}
-use Rattle.pool_alloc.specs.declared.release.ReleaseCursor.{ReleaseCursor}
-use Rattle.pool_slots.specs.declared.cells.ImageSlot.{ImageSlot}
 use Rattle.pool_slots.specs.declared.cells.ImageSlot.TheVariants as image_slot
-use Rattle.pool_slots.specs.declared.listed_heaps.PlainHeap.{PlainHeap}
-use Rattle.pool_alloc.specs.Purges.{known_after, after_forgetting}
-use Rattle.pool_alloc.specs.Releases.{after_decommit}
 use Rattle.pool_alloc.specs.declared.purge.PurgeStep.TheVariants as purging
 use Rattle.pool_alloc.specs.declared.release.ReleaseStep.TheVariants as releasing
-use Rattle.pool_alloc.specs.declared.pool_core.Settings.{Settings}
-use Rattle.pool_pages.specs.Told.{decommitting}
-use Rattle.pool_alloc.specs.declared.pool_core.PoolCore.{PoolCore}
 use Rattle.pool_run.specs.Turns.{StepsUnder, heaps_told}
 use Rattle.pool_run.proofs.SameHeaps.{given_same}
 use Rattle.pool_run.proofs.Growths.{answer_told}
@@ -69,11 +23,6 @@ at_place (Some x) some each = each x refl
 
 held_of : {X : Type 0} (A : X → Type 0) (o : Option X) (x : X) → o ≡ Some x → IfSome o A → A x
 held_of A o x is h = subst (λ y. IfSome y A) is h
-
-pub get_there : {X : Type 0} (xs : List X) (n : ℕ) → n < length xs → IsSome (slice_get xs n)
-get_there [] n below = absurd (omega (arith, below))
-get_there (x ∷ xs) zero below = refl
-get_there (x ∷ xs) (suc n) below = get_there xs n (omega (arith, below))
 
 -- What a page call leaves of a slot: it failed both times, or neither, and what is left is the same so far as it is read.
 pub record IsSameSlot (a b : Bool) (new other : Slot) : Type 0 where
@@ -232,7 +181,7 @@ module _ {P : Type 0} (maker : MakerTold) (tells : maker.tells ≡ true) (planne
   with_plan name held has = slot_planned maker c.settings name.slot held planned has.region
 
   allocated : length f.objects.memories.items < length (memories_wanted f.asked) → IsSome (slice_get (memories_wanted f.asked) (length f.objects.memories.items))
-  allocated more = get_there (memories_wanted f.asked) (length f.objects.memories.items) more
+  allocated more = is_there (memories_wanted f.asked) (length f.objects.memories.items) more
 
   flushed_same : (step : FlushStep) (g h : StepGiven PlainHeap) → flush_step f.local f.freed.items ≡ step → FlushTold step g f.local → FlushTold step h f.local → FlushPlanned step g f.local → FlushPlanned step h f.local → flush_row step g.queue c bare ≡ flush_row step h.queue c bare
   flushed_same run g h is left right one two =
@@ -306,7 +255,7 @@ module _ {P : Type 0} (maker : MakerTold) (tells : maker.tells ≡ true) (planne
       ap (λ (r : Result Bool LimiterError). make_memory_row r at held c bare) same)
   row_same g h (MakeTable at region) test shape one two =
       let table : length f.objects.tables.items < length (tables_wanted f.asked) = omega (arith, shape.3.0, shape.3.1.no_stack, shape.3.1.no_heap, shape.1.more, shape.1.to_grant.few) in
-      at_place (slice_get (tables_wanted f.asked) (length f.objects.tables.items)) (get_there (tables_wanted f.asked) (length f.objects.tables.items) table)
+      at_place (slice_get (tables_wanted f.asked) (length f.objects.tables.items)) (is_there (tables_wanted f.asked) (length f.objects.tables.items) table)
       (λ ty there.
       let first : AsksForTable g.limiter one.old.limiter one.new.limiter ty = held_of (AsksForTable g.limiter one.old.limiter one.new.limiter) _ ty there one.limiter in
       let second : AsksForTable h.limiter two.old.limiter two.new.limiter ty = held_of (AsksForTable h.limiter two.old.limiter two.new.limiter) _ ty there two.limiter in

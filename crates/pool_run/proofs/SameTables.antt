@@ -1,28 +1,13 @@
 -- A command on a table of the pool has one outcome, where the maker tells what its regions hold.
-use Rattle.std.proofs.Common.{◌≡◌, ℕ, true, List, Option, Some, None, refl, sym, ap, ◌∙◌, subst, is_some, []}
-use Rattle.std.specs.Prelude.{◌<◌, ◌≤◌, IfSome, option_map, slice_get}
-use Rattle.std.proofs.Common.{arith}
-use Rattle.pool_pages.specs.Contents.{Contents}
-use Rattle.pool_pages.specs.MakerTold.{MakerTold}
-use Rattle.pool_pages.specs.Told.{Told}
-use Rattle.pool_images.specs.Slots.{SlotIdentity}
-use Rattle.pool_limits.specs.Growth.{GrowthRule}
-use Rattle.pool_slots.specs.declared.plan.Plan.{Plan}
+use Rattle.std.proofs.Common.{◌≡◌, ℕ, true, List, Option, Some, None, refl, sym, ap, ◌∙◌, subst, is_some, [], ◌<◌, ◌≤◌, IfSome, slice_get, arith}
+use Rattle.pool_run.proofs.Imports.{some_mapped, told_if, Contents, MakerTold, Told, SlotIdentity, GrowthRule, Plan, elements, elements_in, TableView, state_in, ListedStore, IsTableLease, LeasedTable, element_of, Settings, Element}
 use Rattle.pool_table.specs.Elements as elem
-use Rattle.pool_table.specs.Tables.{elements, elements_in}
-use Rattle.pool_table.specs.Views.{TableView, state_in}
-use Rattle.pool_table.specs.declared.gc_store.ListedStore.{ListedStore}
-use Rattle.pool_alloc.specs.PoolTables.{IsTableLease}
-use Rattle.pool_alloc.specs.TableLeases.{LeasedTable, element_of}
-use Rattle.pool_alloc.specs.declared.pool_core.Settings.{Settings}
-use Rattle.pool_alloc.specs.declared.table_element.Element.{Element}
 use Rattle.pool_alloc.specs.declared.table_element.Element.TheVariants as item
 use Rattle.pool_run.specs.Acts.{TableOp, gets, sets, lengthens, asks_length}
 use Rattle.pool_run.specs.PrivateTables.{Host, PrivateTable, StoredTable, IsGot, TableMoves}
 use Rattle.pool_run.specs.Turns.{private_table, stored_as, faults_left, MovesTable}
 use Rattle.pool_run.specs.declared.reply.Reply.{Reply}
 use Rattle.pool_run.specs.declared.reply.Reply.TheVariants as reply
-use Rattle.pool_run.proofs.HeldSlots.{told_if}
 
 -- an element has one name
 element_one : (a b : Element) → element_of a ≡ element_of b → a ≡ b
@@ -74,10 +59,6 @@ pub record IsSameTable (new other : LeasedTable) (after left : ListedStore) (r q
   pub lease : new ≡ other
   pub store : after ≡ left
   pub reply : r ≡ q
-
-some_mapped : {X Y : Type 0} (f : X → Y) (o : Option X) → is_some o ≡ true → is_some (option_map f o) ≡ true
-some_mapped f None some = absurd cc
-some_mapped f (Some x) some = refl
 
 module _ (maker : MakerTold) (s : Settings) (plan : Plan) (tells : maker.tells ≡ true) (l : LeasedTable) (of : IsTableLease maker s plan l) where
   -- the elements are told

@@ -1,38 +1,9 @@
 -- A turn of a party has one outcome, or one finds no memory for what it asks for, and the other goes on.
-use Rattle.std.proofs.Common.{◌≡◌, ◌≢◌, ℕ, ◌<◌, ◌≤◌, Bool, true, false, List, length, Option, Some, None, IsSome, is_some, ◌⊎◌, refl, sym, ap, ◌∙◌, subst, inl, inr, arith}
-use Rattle.std.specs.Prelude.{◌&&◌, not, slice_get, slice_set, slice_index_or}
-use Rattle.std.specs.Option.{option_and_then}
-use Rattle.std.proofs.lemmas.Option.{slice_get_within, get_or_from_slice_get}
+use Rattle.std.proofs.Common.{◌≡◌, ◌≢◌, ℕ, ◌<◌, ◌≤◌, Bool, true, false, List, length, Option, Some, None, IsSome, is_some, ◌⊎◌, refl, sym, ap, ◌∙◌, subst, inl, inr, arith, ◌&&◌, not, slice_get, slice_set, slice_index_or}
+use Rattle.pool_run.proofs.Imports.{option_and_then, slice_get_within, get_or_from_slice_get, ListedHeaps, PlainHeap, objects_in, ModuleAsked, begun_call, LeasedTable, ListedStore, MakerTold, Unsupported, module_refused, heap_refused, validated, heaps_tested, row_of, stage_of, stage_at, IsShapedAt, StepGiven, IsHeapAsked, info_wanted, After, stepped, Phase, Idle, Validate, TestHeap, CountInstance, Pick, Release, Asked, heap_asked, Ending, Reserve, reserve_row, CanStep, is_idle, PoolCore, Frame, Grant, instance, component, stack, heap}
 use Rattle.pool_slots.specs.declared.errors.AllocError.TheVariants as alloc
-use Rattle.pool_slots.specs.declared.listed_heaps.ListedHeaps.{ListedHeaps}
-use Rattle.pool_slots.specs.declared.listed_heaps.PlainHeap.{PlainHeap}
-use Rattle.pool_alloc.specs.Objects.{objects_in}
-use Rattle.pool_alloc.specs.Asked.{ModuleAsked}
-use Rattle.pool_alloc.specs.Calls.{begun_call}
-use Rattle.pool_alloc.specs.TableLeases.{LeasedTable}
-use Rattle.pool_table.specs.declared.gc_store.ListedStore.{ListedStore}
-use Rattle.pool_pages.specs.MakerTold.{MakerTold}
-use Rattle.pool_pages.specs.declared.unsupported.Unsupported.{Unsupported}
-use Rattle.pool_alloc.specs.Refusals.{module_refused, heap_refused}
-use Rattle.pool_alloc.specs.Rows.{validated, heaps_tested, row_of}
-use Rattle.pool_alloc.specs.Stages.{stage_of, stage_at}
-use Rattle.pool_alloc.specs.Sound.{IsShapedAt}
-use Rattle.pool_alloc.specs.Steps.{StepGiven, IsHeapAsked, info_wanted}
-use Rattle.pool_alloc.specs.Turns.{After, stepped}
-use Rattle.pool_alloc.specs.declared.frame.Phase.{Phase}
-use Rattle.pool_alloc.specs.declared.frame.Phase.TheVariants.{Idle, Validate, TestHeap, CountInstance, Pick, Release}
-use Rattle.pool_alloc.specs.declared.frame.Asked.{Asked}
-use Rattle.pool_alloc.specs.declared.frame.Asked.TheVariants.{Heap as heap_asked}
-use Rattle.pool_alloc.specs.declared.frame.Ending.{Ending}
 use Rattle.pool_alloc.specs.declared.frame.Ending.TheVariants as ending
-use Rattle.pool_alloc.specs.declared.release.ReleaseStep.TheVariants.{Reserve}
-use Rattle.pool_alloc.specs.Releases.{reserve_row}
-use Rattle.pool_alloc.specs.Stepping.{CanStep, is_idle}
-use Rattle.pool_alloc.specs.declared.pool_core.PoolCore.{PoolCore}
 use Rattle.pool_alloc.specs.declared.frame.Call.TheVariants as call
-use Rattle.pool_alloc.specs.declared.frame.Frame.{Frame}
-use Rattle.pool_alloc.specs.declared.frame.Grant.{Grant}
-use Rattle.pool_alloc.specs.declared.frame.Grant.TheVariants.{Instance as instance, Component as component, Stack as stack, Heap as heap}
 use Rattle.pool_run.specs.Acts.{MemoryOp, TableOp, Act, requests, on_memory, on_table, drops, purges, releases, act_of, Wanted, an_instance, a_component, a_stack, a_heap}
 use Rattle.pool_run.specs.Agreeing.{want_of_memory}
 use Rattle.pool_run.specs.Folds.{RunState, commands_of, IsUnderWay}

@@ -1,22 +1,7 @@
 -- The slots of memories, of tables, of stacks and of heaps: each kind as one of those of which a grant has some.
-use Rattle.std.proofs.Common.{◌≢◌, ◌≡◌, ℕ, ◌+◌, ◌*◌, ◌<◌, ◌≤◌, List, [], ◌∷◌, length, map, Option, refl, ap, arith}
-use Rattle.std.specs.Prelude.{sum_by}
-use Rattle.std.proofs.lemmas.List.Sums.{sum_by-cons}
-use Rattle.pool_hall.specs.declared.unit_name.SlotKind.{SlotKind}
+use Rattle.std.proofs.Common.{◌≢◌, ◌≡◌, ℕ, ◌+◌, ◌*◌, ◌<◌, ◌≤◌, List, [], ◌∷◌, length, map, Option, refl, ap, arith, sum_by}
+use Rattle.pool_run.proofs.Imports.{sum_by-cons, SlotKind, SlotName, Lease, memory_slot, slot_taken, taken_count, right_to, slot_count, both_count, leased_count, tables_count, LeasedHeap, heap_slot_taken, LeasedStack, stack_slot, stack_taken, heap_slot, RegionNumbers, PlainHeap, LeasedTable, table_slot, slot_other, region_rights, grant_stacks, grant_heaps, grant_count, grant_memories, grant_tables, Grant, instance, component, stack, heap}
 use Rattle.pool_hall.specs.declared.unit_name.SlotKind.TheVariants as kind
-use Rattle.pool_slots.specs.declared.slot_name.SlotName.{SlotName}
-use Rattle.pool_alloc.specs.Leases.{Lease, memory_slot, slot_taken}
-use Rattle.pool_alloc.specs.Places.{taken_count, right_to, slot_count, both_count, leased_count, tables_count}
-use Rattle.pool_alloc.specs.HeapLeases.{LeasedHeap, heap_slot_taken}
-use Rattle.pool_alloc.specs.StackLeases.{LeasedStack, stack_slot, stack_taken}
-use Rattle.pool_slots.specs.HeapUnits.{heap_slot}
-use Rattle.pool_slots.specs.declared.slot_name.RegionNumbers.{RegionNumbers}
-use Rattle.pool_slots.specs.declared.listed_heaps.PlainHeap.{PlainHeap}
-use Rattle.pool_alloc.specs.TableLeases.{LeasedTable, table_slot}
-use Rattle.pool_alloc.proofs.SlotCounts.{slot_other, region_rights}
-use Rattle.pool_alloc.specs.Stepping.{grant_stacks, grant_heaps, grant_count, grant_memories, grant_tables}
-use Rattle.pool_alloc.specs.declared.frame.Grant.{Grant}
-use Rattle.pool_alloc.specs.declared.frame.Grant.TheVariants.{Instance as instance, Component as component, Stack as stack, Heap as heap}
 use Rattle.pool_run.specs.Private.{stacks_in_grant, Grants, memories_in_grant, tables_in_grant}
 use Rattle.pool_run.specs.Rooms.{stacks_in, stack_count, heaps_in, heaps_in_grant, heap_count, memories_in, tables_in, live_count, table_count}
 use Rattle.pool_run.specs.Turns.{private_stack, stack_of, heap_of, private_memory, private_table, private_grant, leases_of, tables_of, grants_of}

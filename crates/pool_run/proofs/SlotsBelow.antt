@@ -1,14 +1,6 @@
 -- Slots of a kind, counted by their numbers: each thing that has one is counted at one number, and each number once at most.
-use Rattle.std.proofs.Common.{◌≡◌, ℕ, zero, suc, ◌+◌, ◌-◌, ◌*◌, ◌<◌, ◌≤◌, List, [], ◌∷◌, length, refl, sym, ap, ◌∙◌, inl, inr, arith}
-use Rattle.std.specs.Prelude.{sum_by}
-use Rattle.std.proofs.lemmas.Bool.{cases_eq, cases_lt, le-ltb}
-use Rattle.std.proofs.lemmas.List.Sums.{sum_by-cons}
-use Rattle.pool_index.specs.Shard.{one_if}
-use Rattle.pool_slots.specs.declared.slot_name.RegionNumbers.{RegionNumbers}
-use Rattle.pool_slots.specs.declared.slot_name.SlotName.{SlotName}
-use Rattle.pool_alloc.specs.Places.{right_to, slot_count, both_count}
-use Rattle.pool_alloc.proofs.Below.{below, below_sum, below_most, below_one}
-use Rattle.pool_alloc.proofs.SlotCounts.{slot_once, slot_other, region_rights}
+use Rattle.std.proofs.Common.{◌≡◌, ℕ, zero, suc, ◌+◌, ◌-◌, ◌*◌, ◌<◌, ◌≤◌, List, [], ◌∷◌, length, refl, sym, ap, ◌∙◌, inl, inr, arith, sum_by}
+use Rattle.pool_run.proofs.Imports.{cases_eq, cases_lt, le-ltb, sum_by-cons, one_if, RegionNumbers, SlotName, right_to, slot_count, both_count, below, below_sum, below_most, below_one, slot_once, slot_other, region_rights}
 use Rattle.pool_run.proofs.SlotsMade.{made_slot, made_once}
 
 pub below_le : (f g : ℕ → ℕ) → ((k : ℕ) → f k ≤ g k) → (n : ℕ) → below f n ≤ below g n

@@ -1,39 +1,13 @@
 -- What a turn leaves is sound where what its calls leave is.
-use Rattle.std.proofs.Common.{◌≡◌, ℕ, zero, suc, List, Option, Some, None, sym, subst, All}
-use Rattle.std.specs.Prelude.{IfSome, slice_get, slice_index_or}
-use Rattle.std.proofs.lemmas.List.Elements.{All-set, All-get_or}
-use Rattle.std.proofs.lemmas.Option.{slice_get_within, get_or_from_slice_get}
-use Rattle.pool_pages.specs.MakerTold.{MakerTold}
-use Rattle.pool_alloc.specs.declared.frame.Asked.{Asked}
-use Rattle.pool_alloc.specs.PartyTold.{PartyTold}
-use Rattle.pool_alloc.specs.PoolStacks.{IsStackLease}
-use Rattle.pool_alloc.specs.StackLeases.{LeasedStack}
-use Rattle.pool_alloc.specs.Calls.{IsIdle, IsGrant, IsGrantOf, IfGranted}
-use Rattle.pool_alloc.specs.Leases.{Lease}
-use Rattle.pool_alloc.specs.PoolTables.{IsTableLease}
-use Rattle.pool_alloc.specs.TableLeases.{LeasedTable}
-use Rattle.pool_alloc.specs.Sound.{IsCore, IsFrame, IsShapedAt, IsLeaseOf}
-use Rattle.pool_alloc.specs.Turns.{After}
-use Rattle.pool_alloc.specs.declared.pool_core.PoolCore.{PoolCore}
-use Rattle.pool_alloc.specs.declared.pool_core.Settings.{Settings}
-use Rattle.pool_alloc.specs.declared.frame.Frame.{Frame}
-use Rattle.pool_alloc.specs.declared.frame.Phase.{Phase}
-use Rattle.pool_alloc.specs.declared.frame.Grant.{Grant}
-use Rattle.pool_alloc.specs.declared.frame.Grant.TheVariants.{Instance as instance, Component as component, Stack as stack, Heap as heap}
-use Rattle.pool_alloc.specs.declared.frame.Outcome.{Outcome}
+use Rattle.std.proofs.Common.{◌≡◌, ℕ, zero, suc, List, Option, Some, None, sym, subst, All, IfSome, slice_get, slice_index_or}
+use Rattle.pool_run.proofs.Imports.{All-set, All-get_or, slice_get_within, get_or_from_slice_get, MakerTold, Asked, PartyTold, IsStackLease, LeasedStack, IsIdle, IsGrant, IsGrantOf, IfGranted, Lease, IsTableLease, LeasedTable, IsCore, IsFrame, IsShapedAt, IsLeaseOf, After, PoolCore, Settings, Frame, Phase, Grant, instance, component, stack, heap, Outcome, InstanceLease, at_rest, held_of, frame_of, Plan, PlainHeap, IsSameSize}
 use Rattle.pool_alloc.specs.declared.frame.Outcome.TheVariants as answer
-use Rattle.pool_alloc.specs.declared.lease.InstanceLease.{InstanceLease}
 use Rattle.pool_run.specs.Turns.{Turned, leases_of, tables_of, stack_of, one_step, ended_at_once, answered, after_step}
 use Rattle.pool_run.specs.Ties.{IsSoundParty}
 use Rattle.pool_run.specs.declared.reply.Reply.{Reply}
 use Rattle.pool_run.specs.declared.running_party.RunningParty.{RunningParty}
-use Rattle.pool_alloc.proofs.BegunCalls.{at_rest}
-use Rattle.pool_alloc.proofs.Hands.{held_of, frame_of}
 use Rattle.pool_run.proofs.Parties.{live_grant}
 use Rattle.pool_run.proofs.Stepped.{IsStepped}
-use Rattle.pool_slots.specs.declared.plan.Plan.{Plan}
-use Rattle.pool_slots.specs.declared.listed_heaps.PlainHeap.{PlainHeap}
-use Rattle.pool_alloc.specs.Stepping.{IsSameSize}
 
 module _ {P : Type 0} where
   -- what a turn leaves is sound

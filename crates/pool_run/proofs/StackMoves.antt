@@ -1,27 +1,14 @@
 -- What an operation makes of a stack: its party sees the operation on its own stack; and of one that a pool granted: it stays
 -- in its slot, and two of them from one stack agree.
-use Rattle.std.proofs.Common.{◌≡◌, ◌≢◌, ◌⊎◌, ℕ, ◌+◌, ◌≤◌, Bool, true, false, List, length, replicate, Option, Some, None, is_some, refl, sym, ap, ◌∙◌, subst, inl, inr, arith}
-use Rattle.std.specs.Prelude.{IfSome, nat_le, if◌then◌else◌, option_map, slice_range}
-use Rattle.std.proofs.lemmas.Bool.{leb-true, leb-false}
-use Rattle.std.proofs.lemmas.List.{same_lists, places}
-use Rattle.pool_pages.specs.Contents.{Contents, put, written}
-use Rattle.pool_pages.specs.MakerTold.{MakerTold}
-use Rattle.pool_images.specs.Slots.{Slot, SlotIdentity, IsSound, identity, size_of}
-use Rattle.pool_images.proofs.Identity.{told_same}
-use Rattle.pool_limits.specs.declared.errors.Trap.TheVariants.{MemoryOutOfBounds}
-use Rattle.pool_slots.specs.PlainSlots.{IsPlain, StackState, plain_written}
-use Rattle.pool_slots.specs.declared.plan.Plan.{Plan}
-use Rattle.pool_slots.proofs.PlainSlots.{plain_after}
-use Rattle.pool_alloc.specs.PoolStacks.{IsPoolStack, IsStackLease}
-use Rattle.pool_alloc.specs.StackLeases.{LeasedStack, stack_slot, stack_taken}
-use Rattle.pool_alloc.specs.declared.pool_core.Settings.{Settings}
+use Rattle.std.proofs.Common.{◌≡◌, ◌≢◌, ◌⊎◌, ℕ, ◌+◌, ◌≤◌, Bool, true, false, List, length, replicate, Option, Some, None, is_some, refl, sym, ap, ◌∙◌, subst, inl, inr, arith, IfSome, nat_le, if◌then◌else◌, option_map, slice_range}
+use Rattle.pool_run.proofs.Imports.{leb-true, leb-false, same_lists, places, told_if, Contents, written, MakerTold, Slot, SlotIdentity, IsSound, identity, size_of, told_same, MemoryOutOfBounds, IsPlain, StackState, plain_written, Plan, plain_after, IsPoolStack, IsStackLease, LeasedStack, stack_slot, stack_taken, Settings}
+use Rattle.pool_pages.specs.Contents.{put}
 use Rattle.pool_run.specs.Acts.{MemoryOp, reads, writes, fills, grows, asks_size}
 use Rattle.pool_run.specs.Agreeing.{want_of_memory}
 use Rattle.pool_run.specs.PrivateStacks.{PrivateStack, WritesBytes, StackMoves, stack_written}
 use Rattle.pool_run.specs.Turns.{stack_bytes, seen_stack, private_stack, StackStateWrites, StackStateMoves, StackLeaseMoves}
 use Rattle.pool_run.specs.declared.reply.Reply.{Reply}
 use Rattle.pool_run.specs.declared.reply.Reply.TheVariants.{Done, Trap}
-use Rattle.pool_run.proofs.HeldSlots.{told_if}
 use Rattle.pool_run.proofs.SameMoves.{looks_same}
 
 -- a stack after a write of these bytes, and what a write leaves

@@ -1,30 +1,7 @@
 -- A request for a stack: why it is refused, and what is granted.
-use Rattle.std.proofs.Common.{◌≡◌, ℕ, ◌+◌, ◌*◌, ◌<◌, ◌≤◌, List, true, false, length, replicate, Option, Some, None, refl, sym, ap, ◌∙◌, subst, inl, inr, arith}
-use Rattle.std.specs.Prelude.{◌==◌, IfSome, if◌then◌else◌, slice_range, option_map}
-use Rattle.std.proofs.lemmas.Bool.Decides.{nat_tests}
-use Rattle.pool_hall.specs.declared.unit_name.SlotKind.{SlotKind}
-use Rattle.pool_hall.specs.declared.unit_name.SlotKind.TheVariants.{Stack as stack_kind}
-use Rattle.pool_pages.specs.Contents.{Contents}
-use Rattle.pool_pages.proofs.Puts.{length-range}
-use Rattle.pool_images.specs.Slots.{Slot}
-use Rattle.pool_slots.specs.Plans.{has_number}
-use Rattle.pool_slots.specs.declared.errors.AllocError.{AllocError}
+use Rattle.std.proofs.Common.{◌≡◌, ℕ, ◌+◌, ◌*◌, ◌<◌, ◌≤◌, List, true, false, length, replicate, Option, Some, None, refl, sym, ap, ◌∙◌, subst, inl, inr, arith, ◌==◌, IfSome, if◌then◌else◌, slice_range, option_map}
+use Rattle.pool_run.proofs.Imports.{nat_tests, SlotKind, stack_kind, Contents, length-range, Slot, has_number, AllocError, Fibers, PlainHeap, PartyTold, IsStackLease, IsNewStack, IsEnabled, LeasedStack, seeks_stack, FindsNone, Raises, allocator_of, kind_by, kind_next, limit_of, Asked, stack_asked, Frame, Grant, instance, PoolCore}
 use Rattle.pool_slots.specs.declared.errors.AllocError.TheVariants as refusal
-use Rattle.pool_slots.specs.declared.errors.ConcurrencyKind.TheVariants.{Fibers}
-use Rattle.pool_slots.specs.declared.listed_heaps.PlainHeap.{PlainHeap}
-use Rattle.pool_alloc.specs.PartyTold.{PartyTold}
-use Rattle.pool_alloc.specs.PoolStacks.{IsStackLease, IsNewStack}
-use Rattle.pool_alloc.specs.Sound.{IsEnabled}
-use Rattle.pool_alloc.specs.StackLeases.{LeasedStack}
-use Rattle.pool_alloc.specs.Stages.{seeks_stack, FindsNone, Raises}
-use Rattle.pool_alloc.specs.Steps.{allocator_of, kind_by, kind_next}
-use Rattle.pool_alloc.specs.Turns.{limit_of}
-use Rattle.pool_alloc.specs.declared.frame.Asked.{Asked}
-use Rattle.pool_alloc.specs.declared.frame.Asked.TheVariants.{Stack as stack_asked}
-use Rattle.pool_alloc.specs.declared.frame.Frame.{Frame}
-use Rattle.pool_alloc.specs.declared.frame.Grant.{Grant}
-use Rattle.pool_alloc.specs.declared.frame.Grant.TheVariants.{Instance as instance}
-use Rattle.pool_alloc.specs.declared.pool_core.PoolCore.{PoolCore}
 use Rattle.pool_run.specs.Acts.{a_stack}
 use Rattle.pool_run.specs.Private.{Grants}
 use Rattle.pool_run.specs.PrivateStacks.{BeginsStack}

@@ -1,30 +1,8 @@
 -- How a step takes a party's call from one stage to another: what follows of the stages alone.
-use Rattle.std.proofs.Common.{◌≡◌, ℕ, ◌+◌, ◌<◌, ◌≤◌, ◌⊎◌, inl, inr, Bool, true, false, Option, Some, None, refl, ap, arith}
-use Rattle.std.specs.Prelude.{◌&&◌, not, is_some}
-use Rattle.pool_pages.specs.MakerTold.{MakerTold}
-use Rattle.pool_alloc.specs.PartyTold.{PartyTold}
-use Rattle.pool_alloc.specs.Calls.{IfGranted}
-use Rattle.pool_alloc.specs.Places.{phase_instances, instances_for, phase_components}
-use Rattle.pool_alloc.specs.Stages.{Progress, untested, uncounted, admitted, Stage, no_call, keys, asks, returning, refusing, purging, reserving, releasing, stage_by, stage_of_release, stage_at, Follows, Goes, seeks_stack, tests_heap, seeks_heap, counts_heap, tests_component, counts_component, stage_back, stage_of}
-use Rattle.pool_alloc.specs.Stepping.{is_idle, count_granted, grant_instances, grant_components}
-use Rattle.pool_alloc.specs.Objects.{objects_wanted, objects_in}
-use Rattle.pool_alloc.specs.Sound.{IsFrame, IsShapedAt}
-use Rattle.pool_slots.specs.declared.plan.Plan.{Plan}
-use Rattle.pool_slots.specs.declared.listed_heaps.PlainHeap.{PlainHeap}
-use Rattle.pool_alloc.specs.declared.pool_core.Settings.{Settings}
-use Rattle.pool_alloc.specs.declared.pool_core.PoolCore.{PoolCore}
-use Rattle.pool_alloc.specs.declared.frame.Asked.{Asked}
-use Rattle.pool_alloc.specs.declared.frame.Asked.TheVariants.{Stack as stack_asked, Heap as heap_asked}
-use Rattle.pool_alloc.specs.declared.frame.Ending.{Ending}
+use Rattle.std.proofs.Common.{◌≡◌, ℕ, ◌+◌, ◌<◌, ◌≤◌, ◌⊎◌, inl, inr, Bool, true, false, Option, Some, None, refl, ap, arith, ◌&&◌, not, is_some}
+use Rattle.pool_run.proofs.Imports.{MakerTold, PartyTold, IfGranted, phase_instances, instances_for, phase_components, Progress, untested, uncounted, admitted, Stage, no_call, keys, asks, returning, refusing, purging, reserving, releasing, stage_by, stage_of_release, stage_at, Follows, Goes, seeks_stack, tests_heap, seeks_heap, counts_heap, tests_component, counts_component, stage_back, stage_of, is_idle, count_granted, grant_instances, grant_components, objects_wanted, objects_in, IsFrame, IsShapedAt, Plan, PlainHeap, Settings, PoolCore, Asked, stack_asked, heap_asked, Ending, Frame, instance, component, stack, heap, Outcome, Phase, Idle, Key, Validate, CountInstance, CountObject, Purge, Release, TestStack, TestHeap, CountHeap, ValidateComponent, CountComponent, UncountComponent, ReleaseStep, Reserve}
 use Rattle.pool_alloc.specs.declared.frame.Ending.TheVariants as ending
-use Rattle.pool_alloc.specs.declared.frame.Frame.{Frame}
-use Rattle.pool_alloc.specs.declared.frame.Grant.TheVariants.{Instance as instance, Component as component, Stack as stack, Heap as heap}
-use Rattle.pool_alloc.specs.declared.frame.Outcome.{Outcome}
 use Rattle.pool_alloc.specs.declared.frame.Outcome.TheVariants as answer
-use Rattle.pool_alloc.specs.declared.frame.Phase.{Phase}
-use Rattle.pool_alloc.specs.declared.frame.Phase.TheVariants.{Idle, Key, Validate, CountInstance, CountObject, Purge, Release, TestStack, TestHeap, CountHeap, ValidateComponent, CountComponent, UncountComponent}
-use Rattle.pool_alloc.specs.declared.release.ReleaseStep.{ReleaseStep}
-use Rattle.pool_alloc.specs.declared.release.ReleaseStep.TheVariants.{Reserve}
 use Rattle.pool_run.specs.Limits.{admitted_at}
 use Rattle.pool_run.specs.RunsMade.{is_drawing}
 use Rattle.pool_run.specs.Ties.{is_asking, is_for_instance, is_for_objects}
@@ -58,11 +36,6 @@ none_by : (asked : Asked) (e : Ending) (n : ℕ) → is_none (stage_by asked e n
 none_by asked ending.Granted n = refl
 none_by asked ending.Returned n = refl
 none_by asked (ending.Refused e) n = refl
-
-drawn_by : (asked : Asked) (e : Ending) (n : ℕ) → is_drawing (stage_by asked e n) ≡ false
-drawn_by asked ending.Granted n = refl
-drawn_by asked ending.Returned n = refl
-drawn_by asked (ending.Refused e) n = refl
 
 back_counts : (e : Ending) → stage_back e ≡ counts_component → ⊥
 back_counts (ending.Refused e) is = absurd cc

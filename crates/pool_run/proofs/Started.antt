@@ -1,25 +1,7 @@
 -- A run as it starts: nobody has anything, and nobody was told anything.
-use Rattle.std.proofs.Common.{true, ◌≡◌, ℕ, zero, suc, ◌<◌, Bool, false, List, [], ◌∷◌, length, map, get_or, replicate, Option, None, refl, sym, ap, ◌∙◌, subst, arith, All}
-use Rattle.std.specs.Prelude.{IfSome, sum_by, slice_index_or}
-use Rattle.std.proofs.lemmas.List.{length-replicate}
-use Rattle.std.proofs.lemmas.List.Elements.{All-replicate, recursion_from_All}
-use Rattle.std.proofs.lemmas.List.Sums.{sum_by-cons}
-use Rattle.pool_pages.specs.MakerTold.{MakerTold}
-use Rattle.pool_alloc.specs.Calls.{frame_made, IsGrant}
-use Rattle.pool_alloc.specs.Sound.{IsCore}
-use Rattle.pool_alloc.specs.Stepping.{grant_count, grant_instances, grant_components, grant_stacks, grant_memories, grant_tables, grant_heaps}
-use Rattle.pool_alloc.specs.Whole.{IsUntouched}
-use Rattle.pool_alloc.proofs.Untouched.{HasNothing}
-use Rattle.pool_alloc.specs.declared.pool_core.PoolCore.{PoolCore}
-use Rattle.pool_alloc.specs.declared.pool_core.Settings.{Settings}
-use Rattle.pool_alloc.specs.declared.frame.Frame.{Frame}
-use Rattle.pool_alloc.specs.declared.frame.Grant.{Grant}
-use Rattle.pool_alloc.specs.Asked.{ModuleAsked}
-use Rattle.pool_alloc.proofs.BegunCalls.{made_frame, made_count, made_instances, made_components, made_stacks, made_heaps, made_memories, made_tables}
-use Rattle.pool_alloc.proofs.Untouched.{untouched_is_whole, none_away, none_kept}
+use Rattle.std.proofs.Common.{true, ◌≡◌, ℕ, zero, suc, ◌<◌, Bool, false, List, [], ◌∷◌, length, map, get_or, replicate, Option, None, refl, sym, ap, ◌∙◌, subst, arith, All, IfSome, sum_by, slice_index_or}
+use Rattle.pool_run.proofs.Imports.{length-replicate, All-replicate, recursion_from_All, sum_by-cons, MakerTold, frame_made, IsGrant, IsCore, grant_count, grant_instances, grant_components, grant_stacks, grant_memories, grant_tables, grant_heaps, IsUntouched, HasNothing, untouched_is_whole, none_away, none_kept, PoolCore, Settings, Frame, Grant, ModuleAsked, made_frame, made_count, made_instances, made_components, made_stacks, made_heaps, made_memories, made_tables, ListedStore, ListedHeaps, PlainHeap}
 use Rattle.pool_run.specs.PartyRules.{host_of}
-use Rattle.pool_table.specs.declared.gc_store.ListedStore.{ListedStore}
-use Rattle.pool_slots.specs.declared.listed_heaps.ListedHeaps.{ListedHeaps}
 use Rattle.pool_run.specs.Private.{Grants, no_grants, with_grants}
 use Rattle.pool_run.specs.Rooms.{World, under, in_stripe}
 use Rattle.pool_run.specs.declared.input.PartyLimits.{PartyLimits}
@@ -33,7 +15,6 @@ use Rattle.pool_run.specs.declared.reply.Reply.{Reply}
 use Rattle.pool_run.specs.declared.running_party.RunningParty.{RunningParty}
 use Rattle.pool_run.proofs.LimitsOfRuns.{made_within, live_within}
 use Rattle.pool_run.specs.Limits.{IsWithinCounts}
-use Rattle.pool_slots.specs.declared.listed_heaps.PlainHeap.{PlainHeap}
 
 none_at : {X : Type 0} (n k : ℕ) → slice_index_or (replicate {A = Option X} n None) k None ≡ None
 none_at zero k = refl

@@ -1,19 +1,7 @@
 -- What is known of a step of a call, all in one place.
 use Rattle.std.proofs.Common.{◌≡◌, ◌+◌, ◌≤◌, false}
-use Rattle.pool_pages.specs.MakerTold.{MakerTold}
-use Rattle.pool_alloc.specs.PartyTold.{PartyTold}
-use Rattle.pool_alloc.specs.Bounds.{steps_left}
-use Rattle.pool_alloc.specs.Calls.{IsGrantOf, IfGranted}
-use Rattle.pool_alloc.specs.Searches.{IsSearched}
-use Rattle.pool_alloc.specs.Sound.{IsCore, IsFrame}
-use Rattle.pool_alloc.specs.Stages.{stage_of, GoesOn}
-use Rattle.pool_alloc.specs.Stepping.{is_idle, CanStep, StepsTo, Conserves, IsSameSize}
-use Rattle.pool_alloc.specs.Turns.{After}
-use Rattle.pool_alloc.specs.declared.pool_core.PoolCore.{PoolCore}
-use Rattle.pool_alloc.specs.declared.frame.Frame.{Frame}
-use Rattle.pool_alloc.proofs.Steps.{step_ok, same_size, step_grants, step_fewer}
+use Rattle.pool_run.proofs.Imports.{MakerTold, PartyTold, steps_left, IsGrantOf, IfGranted, IsSearched, IsCore, IsFrame, stage_of, GoesOn, is_idle, CanStep, StepsTo, Conserves, IsSameSize, After, PoolCore, Frame, step_ok, same_size, step_grants, step_fewer, PlainHeap}
 use Rattle.pool_run.proofs.StageSteps.{IsStagedStep, staged}
-use Rattle.pool_slots.specs.declared.listed_heaps.PlainHeap.{PlainHeap}
 
 module _ {P : Type 0} where
   pub record IsStepped (maker : MakerTold) (old new : PartyTold) (c : PoolCore P PlainHeap) (f : Frame P PlainHeap) (a : After P PlainHeap) : Type 0 where

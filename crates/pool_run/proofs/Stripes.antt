@@ -1,49 +1,12 @@
 -- No step but that for a party's key changes the stripe from which it has its memories.
-use Rattle.std.proofs.Common.{◌≡◌, ℕ, Bool, true, false, List, [], ◌∷◌, Option, Some, None, Result, Ok, Err, refl, ap, ◌∙◌}
-use Rattle.std.specs.Prelude.{◌==◌, length, nat_lt, if◌then◌else◌}
-use Rattle.pool_images.specs.Slots.{Slot}
-use Rattle.pool_memory.specs.Memories.{MemoryState}
-use Rattle.pool_pages.specs.Told.{Told}
-use Rattle.pool_pages.specs.declared.unsupported.Unsupported.{Unsupported}
-use Rattle.pool_slots.specs.SlotQueues.{Queue, Queued, first_of_kind, others_of_kind}
-use Rattle.pool_slots.specs.declared.errors.AllocError.{AllocError}
-use Rattle.pool_slots.specs.declared.listed_heaps.PlainHeap.{PlainHeap}
-use Rattle.pool_alloc.specs.PartyTold.{PartyTold}
-use Rattle.pool_alloc.specs.Leases.{Lease}
-use Rattle.pool_alloc.specs.Objects.{objects_in, objects_wanted}
-use Rattle.pool_alloc.specs.Calls.{begun_call}
-use Rattle.pool_alloc.specs.Own.{memory_made}
-use Rattle.pool_alloc.specs.HeapLeases.{LeasedHeap}
-use Rattle.pool_slots.specs.declared.heap_maker.HeapMakeFault.{HeapMakeFault}
-use Rattle.pool_alloc.specs.Refusals.{heap_refused, module_refused, component_refused}
-use Rattle.pool_alloc.specs.Rows.{FlushStep, run, zero, put, free, flush_step, merged, validated, counted, stacks_tested, heaps_tested, heap_granted, make_heap_row, component_tested, component_counted, paged, was_made, was_made_table, was_reset, put_first, flush_row, row_of}
-use Rattle.pool_alloc.specs.Steps.{StepGiven, info_wanted, memories_wanted, tables_wanted}
-use Rattle.pool_alloc.specs.Stages.{stage_at, stage_of}
-use Rattle.pool_alloc.specs.Stepping.{StepsTo}
-use Rattle.pool_alloc.specs.TableLeases.{LeasedTable}
-use Rattle.pool_alloc.specs.TableSteps.{table_made}
-use Rattle.pool_alloc.specs.Turns.{After, Left, Row, Turn, goes, ends, next, flush, search, stays, after, is_flushed, all_returned, returned_next, next_by}
-use Rattle.pool_alloc.specs.declared.frame.Asked.{Asked}
-use Rattle.pool_alloc.specs.declared.frame.Asked.TheVariants.{Nothing as nothing_asked, Module as module_asked, Stack as stack_asked, Heap as heap_asked}
-use Rattle.pool_alloc.specs.declared.frame.Call.{Call}
+use Rattle.std.proofs.Common.{◌≡◌, ℕ, Bool, true, false, List, [], ◌∷◌, Option, Some, None, Result, Ok, Err, refl, ap, ◌∙◌, ◌==◌, length, nat_lt, if◌then◌else◌}
+use Rattle.pool_run.proofs.Imports.{Slot, MemoryState, Told, Unsupported, Queue, Queued, first_of_kind, others_of_kind, AllocError, PlainHeap, PartyTold, Lease, objects_in, objects_wanted, begun_call, memory_made, LeasedHeap, HeapMakeFault, heap_refused, module_refused, component_refused, FlushStep, run, zero, put, free, flush_step, merged, validated, counted, stacks_tested, heaps_tested, heap_granted, make_heap_row, component_tested, component_counted, paged, was_made, was_made_table, was_reset, put_first, flush_row, row_of, StepGiven, info_wanted, memories_wanted, tables_wanted, stage_at, stage_of, StepsTo, LeasedTable, table_made, After, Left, Row, Turn, goes, ends, next, flush, search, stays, after, is_flushed, all_returned, returned_next, next_by, Asked, nothing_asked, module_asked, stack_asked, heap_asked, Call, Ending, granted, returned, refused, Frame, Phase, Idle, Key, Validate, CountInstance, Pick, TakeQueue, TakeRegion, Empty, Instantiate, MakeMemory, MakeTable, CountObject, PutBack, FreeOne, UncountObject, Reset, Merge, Flush, UncountInstance, Purge, Release, TestStack, TestHeap, TakeHeap, MakeHeap, CountHeap, PutNoHeap, UncountHeap, PutHeap, FreeHeap, ValidateComponent, CountComponent, UncountComponent, TakenSlot, has_turns, pick_affine_row, purge_row, reserve_row, release_row, PurgeCursor, PurgeStep, ReleaseStep, PoolCore}
 use Rattle.pool_alloc.specs.declared.frame.Call.TheVariants as call
-use Rattle.pool_alloc.specs.declared.frame.Ending.{Ending}
-use Rattle.pool_alloc.specs.declared.frame.Ending.TheVariants.{Granted as granted, Returned as returned, Refused as refused}
-use Rattle.pool_alloc.specs.declared.frame.Frame.{Frame}
 use Rattle.pool_alloc.specs.declared.frame.Grant.TheVariants.{Instance, Component, Stack, Heap}
 use Rattle.pool_alloc.specs.declared.frame.Object.TheVariants.{Memory, Table}
 use Rattle.pool_alloc.specs.declared.frame.Object.TheVariants as object
-use Rattle.pool_alloc.specs.declared.frame.Phase.{Phase}
-use Rattle.pool_alloc.specs.declared.frame.Phase.TheVariants.{Idle, Key, Validate, CountInstance, Pick, TakeQueue, TakeRegion, Empty, Instantiate, MakeMemory, MakeTable, CountObject, PutBack, FreeOne, UncountObject, Reset, Merge, Flush, UncountInstance, Purge, Release, TestStack, TestHeap, TakeHeap, MakeHeap, CountHeap, PutNoHeap, UncountHeap, PutHeap, FreeHeap, ValidateComponent, CountComponent, UncountComponent}
-use Rattle.pool_alloc.specs.declared.frame.TakenSlot.{TakenSlot}
-use Rattle.pool_alloc.specs.Purges.{has_turns, pick_affine_row, purge_row}
-use Rattle.pool_alloc.specs.Releases.{reserve_row, release_row}
-use Rattle.pool_alloc.specs.declared.purge.PurgeCursor.{PurgeCursor}
-use Rattle.pool_alloc.specs.declared.purge.PurgeStep.{PurgeStep}
 use Rattle.pool_alloc.specs.declared.purge.PurgeStep.TheVariants as purging
-use Rattle.pool_alloc.specs.declared.release.ReleaseStep.{ReleaseStep}
 use Rattle.pool_alloc.specs.declared.release.ReleaseStep.TheVariants as releasing
-use Rattle.pool_alloc.specs.declared.pool_core.PoolCore.{PoolCore}
 use Rattle.pool_run.specs.RunsMade.{is_drawing}
 
 module _ {P : Type 0} where

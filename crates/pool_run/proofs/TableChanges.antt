@@ -1,28 +1,9 @@
 -- What a change of a table's lease is as a move that its party sees.
-use Rattle.std.proofs.Common.{◌≡◌, ℕ, zero, suc, ◌+◌, ◌<◌, List, [], Bool, true, false, Option, Some, None, Result, Ok, Err, ◌⊎◌, inl, inr, refl, sym, ap, ◌∙◌, subst, arith}
-use Rattle.std.specs.Prelude.{◌==◌, ◌-◌, ◌^◌, nat_lt, if◌then◌else◌, IfSome, option_map, unwrap_or, is_ok}
-use Rattle.std.proofs.lemmas.Bool.{ltb-false, ltb-true}
-use Rattle.pool_pages.specs.Told.{Told, risen}
-use Rattle.pool_limits.specs.Growth.{GrowthRule, always, limited_by, table_answer, table_failure}
-use Rattle.pool_limits.specs.LimiterTold.{LimiterTold}
-use Rattle.pool_limits.specs.Exchanges.{Exchange}
-use Rattle.pool_limits.specs.Growing.{GrowthGiven, report_result, result_by, MakesBy}
-use Rattle.pool_limits.specs.declared.errors.GrowError.{GrowError}
-use Rattle.pool_limits.specs.declared.errors.GrowFault.{GrowFault}
+use Rattle.std.proofs.Common.{◌≡◌, ℕ, zero, suc, ◌+◌, ◌<◌, List, [], Bool, true, false, Option, Some, None, Result, Ok, Err, ◌⊎◌, inl, inr, refl, sym, ap, ◌∙◌, subst, arith, ◌==◌, ◌-◌, ◌^◌, nat_lt, if◌then◌else◌, IfSome, option_map, unwrap_or, is_ok}
+use Rattle.pool_run.proofs.Imports.{ltb-false, ltb-true, Told, risen, GrowthRule, always, limited_by, table_answer, table_failure, LimiterTold, Exchange, GrowthGiven, report_result, result_by, MakesBy, GrowError, GrowFault, LimiterError, Fault, TableOutOfBounds, ElementKind, functions, gc_refs, continuations, type_of, gc_ref, IsTableGrowth, StoreTold, StoreCall, store_calls, stored_answer, StoredFill, StorePassed, StoreRefused, LetsThrough, TableView, FillsTable, GrowsTable, IfRegions, GcTableError, ListedStore, LeasedTable, SetsElements, IsSet, IsFilled, IsElementAt, IsLengthened, Element}
 use Rattle.pool_limits.specs.declared.errors.GrowFault.TheVariants as fault
-use Rattle.pool_limits.specs.declared.errors.LimiterError.{LimiterError}
-use Rattle.pool_limits.specs.declared.errors.Trap.{Trap as Fault}
-use Rattle.pool_limits.specs.declared.errors.Trap.TheVariants.{TableOutOfBounds}
 use Rattle.pool_table.specs.Elements as elem
-use Rattle.pool_table.specs.Elements.{ElementKind, functions, gc_refs, continuations, type_of, gc_ref}
-use Rattle.pool_table.specs.Growing.{IsTableGrowth}
-use Rattle.pool_table.specs.Stores.{StoreTold, StoreCall, store_calls, stored_answer, StoredFill, StorePassed, StoreRefused, LetsThrough}
-use Rattle.pool_table.specs.Views.{TableView, FillsTable, GrowsTable, IfRegions}
-use Rattle.pool_table.specs.declared.gc_store.GcTableError.{GcTableError}
 use Rattle.pool_table.specs.declared.gc_store.GcTableError.TheVariants as failed
-use Rattle.pool_table.specs.declared.gc_store.ListedStore.{ListedStore}
-use Rattle.pool_alloc.specs.TableLeases.{LeasedTable, SetsElements, IsSet, IsFilled, IsElementAt, IsLengthened}
-use Rattle.pool_alloc.specs.declared.table_element.Element.{Element}
 use Rattle.pool_run.specs.Acts.{gets, sets, lengthens, asks_length}
 use Rattle.pool_run.specs.AtOnce.{element_reply, fill_reply, growth_reply, LengthensUnder, store_told}
 use Rattle.pool_run.specs.GrowthEnds.{GrowthEnd, as_it_was, has_grown, if_allowed, reported}

@@ -1,33 +1,7 @@
 -- A table of the pool stays one, whatever its party does with it: it lies where it lay, and what it doesn't use holds zeros.
-use Rattle.std.proofs.Common.{[], ◌≡◌, ℕ, zero, suc, ◌+◌, ◌-◌, ◌*◌, ◌%◌, ◌^◌, ◌<◌, ◌≤◌, Bool, true, false, List, length, replicate, Option, Some, None, inl, inr, refl, sym, ap, ◌∙◌, subst, arith}
-use Rattle.std.specs.Prelude.{◌==◌, nat_lt, if◌then◌else◌, is_some, option_map}
-use Rattle.std.specs.List.{concat}
-use Rattle.std.proofs.Math.Nat.{mul-le-mul_right}
-use Rattle.std.proofs.lemmas.Bool.{cases_Bool, ltb-false}
-use Rattle.std.proofs.lemmas.List.{length-append}
-use Rattle.pool_pages.specs.Contents.{Contents, written}
-use Rattle.pool_pages.specs.MakerTold.{MakerTold}
-use Rattle.pool_pages.specs.Told.{Told, overwritten, risen}
-use Rattle.pool_pages.proofs.Puts.{range-put_above, range_within}
-use Rattle.pool_images.specs.Slots.{Slot, identity, size_of}
-use Rattle.pool_images.proofs.Sizes.{rounded_up_more}
-use Rattle.pool_limits.specs.Growth.{GrowthRule}
-use Rattle.pool_limits.specs.declared.errors.Trap.TheVariants.{TableOutOfBounds}
-use Rattle.pool_slots.specs.PlainSlots.{IsPlain, IsUnusedFrom}
-use Rattle.pool_slots.specs.SlotQueues.{plain_slot}
-use Rattle.pool_slots.specs.declared.plan.Plan.{Plan}
-use Rattle.pool_slots.proofs.Layouts.{rounded_above, rounded_within}
-use Rattle.pool_slots.proofs.PlainSlots.{plain_after}
+use Rattle.std.proofs.Common.{[], ◌≡◌, ℕ, zero, suc, ◌+◌, ◌-◌, ◌*◌, ◌%◌, ◌^◌, ◌<◌, ◌≤◌, Bool, true, false, List, length, replicate, Option, Some, None, inl, inr, refl, sym, ap, ◌∙◌, subst, arith, ◌==◌, nat_lt, if◌then◌else◌, is_some, option_map}
+use Rattle.pool_run.proofs.Imports.{concat, mul-le-mul_right, cases_Bool, ltb-false, length-append, rounded_is_whole, rounded_up_above, Contents, written, MakerTold, Told, overwritten, risen, range-put_above, range_within, Slot, identity, size_of, rounded_up_more, GrowthRule, TableOutOfBounds, IsPlain, IsUnusedFrom, plain_slot, Plan, rounded_within, plain_after, ElementKind, functions, gc_refs, continuations, type_of, width, IsTable, TableView, state_in, ListedStore, IsPoolTable, IsTableLease, LeasedTable, LiesInRegion, bytes_used, Settings}
 use Rattle.pool_table.specs.Elements as elem
-use Rattle.pool_table.specs.Elements.{ElementKind, functions, gc_refs, continuations, type_of, width}
-use Rattle.pool_table.specs.Tables.{IsTable}
-use Rattle.pool_table.specs.Views.{TableView, state_in}
-use Rattle.pool_table.specs.declared.gc_store.ListedStore.{ListedStore}
-use Rattle.pool_alloc.specs.PoolTables.{IsPoolTable, IsTableLease}
-use Rattle.pool_alloc.specs.TableLeases.{LeasedTable, LiesInRegion}
-use Rattle.pool_alloc.specs.TableSteps.{bytes_used}
-use Rattle.pool_alloc.specs.declared.pool_core.Settings.{Settings}
-use Rattle.pool_alloc.proofs.Rounding.{rounded_is_whole}
 use Rattle.pool_run.specs.Acts.{TableOp, gets, sets, lengthens, asks_length}
 use Rattle.pool_run.specs.GrowthEnds.{GrowthEnd, as_it_was, could_not, has_grown}
 use Rattle.pool_run.specs.PrivateTables.{Host, PrivateTable, StoredTable, calls_after, goes_through, calls_through, elements_set, table_filled, kind_filled, table_growth, table_left, TableMoves}
@@ -172,7 +146,7 @@ module _ (maker : MakerTold) (s : Settings) (plan : Plan) (op : TableOp) (rule :
           let long : length (concat (replicate done piece)) ≡ done * w = words_wide done piece ∙ ap (λ (n : ℕ). done * n) (word_wide kind (element_for (type_of kind) value)) in
           let fits : at + done ≤ l.table.size = omega (arith, ltb-false l.table.size (at + count) inside, set_most kind before.failing before.made count) in
           lies_after maker s l.index used (at * w) (concat (replicate done piece)) of.region
-          (omega (arith, long, mul-le-mul_right w fits, rounded_above s.page (l.table.size * w) some_page)) of.lies.within can
+          (omega (arith, long, mul-le-mul_right w fits, rounded_up_above s.page (l.table.size * w) some_page)) of.lies.within can
   can_lie (gets at) can = can
   can_lie (lengthens by) can = can
   can_lie asks_length can = can

@@ -1,23 +1,11 @@
 -- A table that is new is to the party as private ones begin.
-use Rattle.std.proofs.Common.{◌≡◌, Bool, Option, Some, None, List, replicate, refl, sym, ap, ◌∙◌, subst, is_some, if◌then◌else◌}
-use Rattle.std.specs.Prelude.{option_map}
-use Rattle.pool_pages.specs.Contents.{Contents}
-use Rattle.pool_pages.specs.MakerTold.{MakerTold}
-use Rattle.pool_pages.specs.Told.{Told}
-use Rattle.pool_pages.specs.declared.table_type.TableType.{TableType}
-use Rattle.pool_images.specs.Slots.{SlotIdentity}
-use Rattle.pool_slots.specs.declared.plan.Plan.{Plan}
-use Rattle.pool_table.specs.Elements.{Element, ElementKind, empty}
-use Rattle.pool_table.specs.Making.{kind_of, new_table}
-use Rattle.pool_table.specs.Views.{TableView, in_region}
-use Rattle.pool_alloc.specs.PoolTables.{IsTableLease, IsBegunTable}
-use Rattle.pool_alloc.specs.TableLeases.{LeasedTable}
-use Rattle.pool_alloc.specs.TableSteps.{table_bytes}
-use Rattle.pool_alloc.specs.declared.pool_core.Settings.{Settings}
+use Rattle.std.proofs.Common.{◌≡◌, Bool, Option, Some, None, List, replicate, refl, sym, ap, ◌∙◌, subst, is_some, if◌then◌else◌, option_map}
+use Rattle.pool_run.proofs.Imports.{told_if, Contents, MakerTold, Told, TableType, SlotIdentity, Plan, ElementKind, empty, kind_of, TableView, in_region, IsTableLease, IsBegunTable, LeasedTable, table_bytes, Settings}
+use Rattle.pool_table.specs.Elements.{Element}
+use Rattle.pool_table.specs.Making.{new_table}
 use Rattle.pool_run.specs.Private.{Terms, begun_table}
 use Rattle.pool_run.specs.PrivateTables.{PrivateTable}
 use Rattle.pool_run.specs.Turns.{private_table}
-use Rattle.pool_run.proofs.HeldSlots.{told_if}
 
 -- what is told of where contents are told
 told_of_contents : {X : Type 0} (o : Option Contents) (x : X) (tells : Bool) → is_some o ≡ tells → option_map (λ c. x) o ≡ (if tells then Some x else None)

@@ -1,11 +1,6 @@
 -- The replies are kept in lists beside the run, which have room for all of them.
-use Rattle.std.proofs.Common.{◌≡◌, ℕ, ◌<◌, ◌≤◌, Option, Some, None, List, [], ◌∷◌, ◌++◌, length, map, refl, sym, ap, ◌∙◌, subst, inl, inr, arith}
-use Rattle.std.specs.Prelude.{IfSome, replicate, slice_set, slice_index_or}
-use Rattle.std.proofs.lemmas.Bool.{cases_eq}
-use Rattle.std.proofs.lemmas.List.{length-map, length-replicate, length-set, length_push, get_or-map, get_or-set_same, get_or-set_other, map-set}
-use Rattle.pool_alloc.specs.Reserved.{Reserved, no_room}
-use Rattle.pool_alloc.specs.declared.frame.Grant.{Grant}
-use Rattle.pool_alloc.specs.declared.pool_core.Settings.{Settings}
+use Rattle.std.proofs.Common.{◌≡◌, ℕ, ◌<◌, ◌≤◌, Option, Some, None, List, [], ◌∷◌, ◌++◌, length, map, refl, sym, ap, ◌∙◌, subst, inl, inr, arith, IfSome, replicate, slice_set, slice_index_or}
+use Rattle.pool_run.proofs.Imports.{cases_eq, length-map, length-replicate, length-set, length_push, get_or-map, get_or-set_same, get_or-set_other, map-set, Reserved, no_room, Grant, Settings, PlainHeap}
 use Rattle.pool_run.specs.Folds.{RunParts, commands_of, replies_to, told_state, replies_after}
 use Rattle.pool_run.specs.Progress.{IsRunOf}
 use Rattle.pool_run.specs.RunsMade.{Background, HaveRoom, party_made, party_made_for, parties_made, room_for, with_told}
@@ -14,7 +9,6 @@ use Rattle.pool_run.specs.declared.input.Party.{Party}
 use Rattle.pool_run.specs.declared.reply.Reply.{Reply}
 use Rattle.pool_run.specs.declared.running_party.RunningParty.{RunningParty}
 use Rattle.pool_run.proofs.Ended.{few_told}
-use Rattle.pool_slots.specs.declared.listed_heaps.PlainHeap.{PlainHeap}
 
 abbrev pub lists_of : List (Reserved Reply) → List (List Reply)
 lists_of told = map (λ l. l.items) told

@@ -1,44 +1,8 @@
 -- What a party has once a step was made fits what it was told, with the reply if the step ends the command.
-use Rattle.std.proofs.Common.{◌≡◌, ℕ, ◌+◌, ◌<◌, ◌≤◌, ◌⊎◌, inl, inr, true, false, List, [], ◌∷◌, length, Option, Some, None, refl, sym, ap, ◌∙◌, subst, arith}
-use Rattle.std.specs.Prelude.{IsSome, slice_set, sum_by}
-use Rattle.std.proofs.lemmas.List.{length-map}
-use Rattle.pool_slots.specs.declared.errors.AllocError.{AllocError}
+use Rattle.std.proofs.Common.{◌≡◌, ℕ, ◌+◌, ◌<◌, ◌≤◌, ◌⊎◌, inl, inr, true, false, List, [], ◌∷◌, length, Option, Some, None, refl, sym, ap, ◌∙◌, subst, arith, IsSome, slice_set, sum_by}
+use Rattle.pool_run.proofs.Imports.{length-map, AllocError, heap_slot, ListedHeaps, risen, Limits, MemoryType, PartyTold, IsGrantOf, IsHeapOf, IfGranted, LeasedHeap, Lease, memory_slot, objects_wanted, LeasedTable, table_slot, InstanceLease, of_kind, SlotName, PlainHeap, right_to, frame_instances, phase_components, component_refused, no_component_left, AreSupported, Progress, untested, uncounted, admitted, Stage, no_call, keys, asks, returning, refusing, purging, reserving, releasing, Follows, Goes, seeks_stack, tests_heap, seeks_heap, counts_heap, tests_component, counts_component, IsBroken, Raises, IsHeapUntested, IsHeapTested, SeeksHeap, HasHeap, grant_count, memories_wanted, images_wanted, memory_slots, PoolCore, Settings, ComponentInfo, Unsupported, Frame, IsStackLease, IsNewStack, LeasedStack, stack_slot, Asked, stack_asked, heap_asked, Grant, instance, component, stack, heap, Outcome}
 use Rattle.pool_slots.specs.declared.errors.AllocError.TheVariants as refusal
-use Rattle.pool_slots.specs.HeapUnits.{heap_slot}
-use Rattle.pool_slots.specs.declared.listed_heaps.ListedHeaps.{ListedHeaps}
-use Rattle.pool_pages.specs.Told.{risen}
-use Rattle.pool_pages.specs.declared.module_types.Limits.{Limits}
-use Rattle.pool_pages.specs.declared.module_types.MemoryType.{MemoryType}
-use Rattle.pool_alloc.specs.PartyTold.{PartyTold}
-use Rattle.pool_alloc.specs.Calls.{IsGrantOf, IsHeapOf, IfGranted}
-use Rattle.pool_alloc.specs.HeapLeases.{LeasedHeap}
-use Rattle.pool_alloc.specs.Leases.{Lease, memory_slot}
-use Rattle.pool_alloc.specs.Objects.{objects_wanted}
-use Rattle.pool_alloc.specs.TableLeases.{LeasedTable, table_slot}
-use Rattle.pool_alloc.specs.declared.lease.InstanceLease.{InstanceLease}
-use Rattle.pool_slots.specs.SlotNames.{of_kind}
-use Rattle.pool_slots.specs.declared.slot_name.SlotName.{SlotName}
-use Rattle.pool_slots.specs.declared.listed_heaps.PlainHeap.{PlainHeap}
-use Rattle.pool_alloc.specs.Places.{right_to, frame_instances, phase_components}
-use Rattle.pool_alloc.specs.Refusals.{component_refused}
-use Rattle.pool_alloc.specs.Rows.{no_component_left}
 use Rattle.pool_run.proofs.SlotsMade.{made_slot}
-use Rattle.pool_alloc.specs.Sound.{AreSupported}
-use Rattle.pool_alloc.specs.Stages.{Progress, untested, uncounted, admitted, Stage, no_call, keys, asks, returning, refusing, purging, reserving, releasing, Follows, Goes, seeks_stack, tests_heap, seeks_heap, counts_heap, tests_component, counts_component, IsBroken, Raises, IsHeapUntested, IsHeapTested, SeeksHeap, HasHeap}
-use Rattle.pool_alloc.specs.Stepping.{grant_count}
-use Rattle.pool_alloc.specs.Steps.{memories_wanted, images_wanted, memory_slots}
-use Rattle.pool_alloc.specs.declared.pool_core.PoolCore.{PoolCore}
-use Rattle.pool_alloc.specs.declared.pool_core.Settings.{Settings}
-use Rattle.pool_pages.specs.declared.module_types.ComponentInfo.{ComponentInfo}
-use Rattle.pool_pages.specs.declared.unsupported.Unsupported.{Unsupported}
-use Rattle.pool_alloc.specs.declared.frame.Frame.{Frame}
-use Rattle.pool_alloc.specs.PoolStacks.{IsStackLease, IsNewStack}
-use Rattle.pool_alloc.specs.StackLeases.{LeasedStack, stack_slot}
-use Rattle.pool_alloc.specs.declared.frame.Asked.{Asked}
-use Rattle.pool_alloc.specs.declared.frame.Asked.TheVariants.{Stack as stack_asked, Heap as heap_asked}
-use Rattle.pool_alloc.specs.declared.frame.Grant.{Grant}
-use Rattle.pool_alloc.specs.declared.frame.Grant.TheVariants.{Instance as instance, Component as component, Stack as stack, Heap as heap}
-use Rattle.pool_alloc.specs.declared.frame.Outcome.{Outcome}
 use Rattle.pool_alloc.specs.declared.frame.Outcome.TheVariants as answer
 use Rattle.pool_run.specs.Acts.{Act, requests, drops, purges, releases, act_at, Wanted, an_instance, a_component, a_stack, a_heap, heap_type}
 use Rattle.pool_run.specs.Private.{Grants, grant_at, Request, request_of, wants_of, begun_instance, IsReleased, Moves, Drops, stack_grant, stacks_in_grant, PrivateGrant, instance_grant, component_grant, memories_in_grant, tables_in_grant, IsComponentRefused, Requests, PrivateState, heap_grant, begun_memory, heap_memory, heap_barred, heap_refusal, RefusesHeap, CountsGranted, CountsRefused}

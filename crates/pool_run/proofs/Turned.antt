@@ -1,22 +1,11 @@
 -- What a turn leaves of a party and of the pool: what one loses comes to the other, and what is to come is still to come.
-use Rattle.std.proofs.Common.{◌≡◌, ℕ, ◌+◌, ◌<◌, ◌≤◌, List, length, Option, Some, None, refl, sym, ap, ◌∙◌, subst, arith, true}
-use Rattle.std.specs.Prelude.{slice_set, slice_index_or, sum_by}
-use Rattle.pool_pages.specs.MakerTold.{MakerTold}
-use Rattle.pool_alloc.specs.Objects.{objects_in}
-use Rattle.pool_alloc.specs.Calls.{IsIdle}
-use Rattle.pool_alloc.specs.Turns.{After}
-use Rattle.pool_alloc.specs.declared.pool_core.PoolCore.{PoolCore}
-use Rattle.pool_alloc.specs.declared.frame.Frame.{Frame}
-use Rattle.pool_alloc.specs.Asked.{ModuleAsked}
-use Rattle.pool_alloc.specs.declared.frame.Grant.{Grant}
-use Rattle.pool_alloc.specs.declared.frame.Outcome.{Outcome}
+use Rattle.std.proofs.Common.{◌≡◌, ℕ, ◌+◌, ◌<◌, ◌≤◌, List, length, Option, Some, None, refl, sym, ap, ◌∙◌, subst, arith, true, slice_set, slice_index_or, sum_by}
+use Rattle.pool_run.proofs.Imports.{MakerTold, objects_in, IsIdle, After, PoolCore, Frame, ModuleAsked, Grant, Outcome, Phase, ListedStore, length-set, get_or-set_other, sum_by-set, Thing, kept_count, away_count, count_granted, Conserves, IsSameSize, grant_count, grant_instances, grant_memories, grant_tables, grant_stacks, grant_heaps, grant_components, IsSearchedAt, IsSearched, stage_at, stage_of, PlainHeap}
 use Rattle.pool_alloc.specs.declared.frame.Outcome.TheVariants as answer
-use Rattle.pool_alloc.specs.declared.frame.Phase.{Phase}
-use Rattle.pool_table.specs.declared.gc_store.ListedStore.{ListedStore}
 use Rattle.pool_run.specs.Rooms.{World}
 use Rattle.pool_run.specs.PartyRules.{host_of}
 use Rattle.pool_run.specs.Turns.{Turned, host_of_party, one_step, ended_with, ended_at_once, answered, Steps, Turns, Opening, rests, replies, makes_step, Leaves}
-use Rattle.pool_run.specs.Ties.{IsSoundParty, CanTurn, is_asking}
+use Rattle.pool_run.specs.Ties.{IsSoundParty, CanTurn, is_asking, granted_to, held_by_party}
 use Rattle.pool_run.proofs.Sounds.{reply_sound, step_sound, IsSoundTurn}
 use Rattle.pool_run.specs.Worlds.{AreCallsFor}
 use Rattle.pool_run.specs.declared.command.Command.{Command}
@@ -24,20 +13,11 @@ use Rattle.pool_run.specs.declared.reply.Reply.{Reply}
 use Rattle.pool_run.specs.declared.reply.Reply.TheVariants.{Returned, Purged, Released, Refused}
 use Rattle.pool_run.specs.declared.reply.Refusal.TheVariants.{Alloc}
 use Rattle.pool_run.specs.declared.running_party.RunningParty.{RunningParty}
-use Rattle.pool_run.proofs.Parties.{can_step}
-use Rattle.std.proofs.lemmas.List.{length-set, get_or-set_other}
-use Rattle.std.proofs.lemmas.List.Sums.{sum_by-set}
-use Rattle.pool_alloc.specs.Places.{Thing, kept_count, away_count}
-use Rattle.pool_alloc.specs.Stepping.{count_granted, Conserves, IsSameSize, grant_count, grant_instances, grant_memories, grant_tables, grant_stacks, grant_heaps, grant_components}
-use Rattle.pool_run.specs.Ties.{IsSoundParty, granted_to, held_by_party}
-use Rattle.pool_run.proofs.Parties.{HaveSame}
+use Rattle.pool_run.proofs.Parties.{can_step, HaveSame}
 use Rattle.pool_run.proofs.Opened.{IsOpened, opened}
-use Rattle.pool_alloc.specs.Searches.{IsSearchedAt, IsSearched}
-use Rattle.pool_alloc.specs.Stages.{stage_at, stage_of}
 use Rattle.pool_run.proofs.StageSteps.{IsStagedStep, settled_place}
 use Rattle.pool_run.proofs.HeapCalls.{list_kept}
 use Rattle.pool_run.proofs.Stepped.{IsStepped, stepped}
-use Rattle.pool_slots.specs.declared.listed_heaps.PlainHeap.{PlainHeap}
 
 module _ {P : Type 0} where
   -- What the pool loses comes to the party, and the other way round. The pool has the same sizes, and the party as many

@@ -1,14 +1,6 @@
 -- A turn of a party, as the party sees it: what it was told stays a private run, with the reply if there is one.
-use Rattle.pool_slots.specs.declared.plan.Plan.{Plan}
-use Rattle.std.proofs.Common.{◌≡◌, ℕ, ◌+◌, List, [], ◌∷◌, ◌++◌, length, Option, Some, None, refl, sym, ap, ◌∙◌, subst, arith, true, ◌≤◌}
-use Rattle.std.specs.Prelude.{option_map, slice_get, slice_set, is_some, sum_by}
-use Rattle.std.proofs.lemmas.List.{length_push}
-use Rattle.pool_alloc.specs.PartyTold.{PartyTold}
-use Rattle.pool_alloc.specs.Objects.{objects_in}
-use Rattle.pool_alloc.specs.Turns.{After}
-use Rattle.pool_alloc.specs.declared.pool_core.PoolCore.{PoolCore}
-use Rattle.pool_alloc.specs.declared.frame.Frame.{Frame}
-use Rattle.pool_alloc.specs.declared.frame.Outcome.{Outcome}
+use Rattle.std.proofs.Common.{◌≡◌, ℕ, ◌+◌, List, [], ◌∷◌, ◌++◌, length, Option, Some, None, refl, sym, ap, ◌∙◌, subst, arith, true, ◌≤◌, option_map, slice_get, slice_set, is_some, sum_by}
+use Rattle.pool_run.proofs.Imports.{Plan, length_push, PartyTold, objects_in, After, PoolCore, Frame, Outcome, Stage, no_call, stage_of, IfGranted, Thing, right_to, away_count, kept_count, frame_count, is_idle, Conserves, grant_count, count_granted, Grant, of_kind, SlotName, ListedHeaps, PlainHeap}
 use Rattle.pool_alloc.specs.declared.frame.Outcome.TheVariants as answer
 use Rattle.pool_run.specs.PartyRules.{rule_of}
 use Rattle.pool_run.specs.Acts.{Act, act_of, act_at}
@@ -30,16 +22,7 @@ use Rattle.pool_run.proofs.StageSteps.{is_none, none_idle, uncounted_none, uncou
 use Rattle.pool_run.proofs.HeapCalls.{calls_now}
 use Rattle.pool_run.proofs.Stepped.{IsStepped, stepped}
 use Rattle.pool_run.proofs.Requests.{IsBefore}
-use Rattle.pool_alloc.specs.Stages.{Stage, no_call, stage_of}
-use Rattle.pool_alloc.specs.Calls.{IfGranted}
-use Rattle.pool_alloc.specs.Places.{Thing, right_to, away_count, kept_count, frame_count}
 use Rattle.pool_run.proofs.SlotsMade.{made_slot, away_made}
-use Rattle.pool_alloc.specs.Stepping.{is_idle, Conserves, grant_count, count_granted}
-use Rattle.pool_alloc.specs.declared.frame.Grant.{Grant}
-use Rattle.pool_slots.specs.SlotNames.{of_kind}
-use Rattle.pool_slots.specs.declared.slot_name.SlotName.{SlotName}
-use Rattle.pool_slots.specs.declared.listed_heaps.ListedHeaps.{ListedHeaps}
-use Rattle.pool_slots.specs.declared.listed_heaps.PlainHeap.{PlainHeap}
 
 -- the command that does this
 command_at : (o : Option Command) (act : Act) → option_map act_of o ≡ Some act → (command : Command) × (o ≡ Some command) × (act_of command ≡ act)

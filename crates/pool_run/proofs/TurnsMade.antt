@@ -1,23 +1,13 @@
 -- What the steps of a turn leave, as its code makes them.
-use Rattle.std.proofs.Common.{◌≡◌, ◌<◌, length, Option, Some, None, Result, Ok, Err, refl, sym, ap, ◌∙◌, subst}
-use Rattle.std.specs.Prelude.{IfOk}
-use Rattle.pool_pages.specs.MakerTold.{MakerTold}
-use Rattle.pool_alloc.specs.PartyTold.{PartyTold}
-use Rattle.pool_alloc.specs.Calls.{IfGranted}
-use Rattle.pool_alloc.specs.Turns.{After}
-use Rattle.pool_alloc.specs.declared.frame.Outcome.{Outcome}
+use Rattle.std.proofs.Common.{◌≡◌, ◌<◌, length, Option, Some, None, Result, Ok, Err, refl, sym, ap, ◌∙◌, subst, IfOk}
+use Rattle.pool_run.proofs.Imports.{MakerTold, PartyTold, IfGranted, After, Outcome, PoolCore, stage_of, ListedHeaps, PlainHeap}
 use Rattle.pool_alloc.specs.declared.frame.Outcome.TheVariants as answer
-use Rattle.pool_alloc.specs.declared.pool_core.PoolCore.{PoolCore}
 use Rattle.pool_run.specs.PartyRules.{rule_of}
-use Rattle.pool_run.specs.Ties.{CanTurn}
+use Rattle.pool_run.specs.Ties.{CanTurn, is_asking}
 use Rattle.pool_run.specs.Turns.{Turned, Steps, StepsUnder, answered, after_step}
 use Rattle.pool_run.specs.declared.running_party.RunningParty.{RunningParty}
 use Rattle.pool_run.proofs.StageSteps.{place_granted}
 use Rattle.pool_run.proofs.Stepped.{IsStepped}
-use Rattle.pool_run.specs.Ties.{is_asking}
-use Rattle.pool_alloc.specs.Stages.{stage_of}
-use Rattle.pool_slots.specs.declared.listed_heaps.ListedHeaps.{ListedHeaps}
-use Rattle.pool_slots.specs.declared.listed_heaps.PlainHeap.{PlainHeap}
 
 -- what is told of an answer
 pub ok_there : {A E : Type 0} (Q : A → Type 0) (r : Result A E) (x : A) → r ≡ Ok x → IfOk r Q → Q x

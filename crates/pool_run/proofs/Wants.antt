@@ -1,12 +1,6 @@
 -- What a call asks for, thing by thing.
-use Rattle.std.proofs.Common.{◌≡◌, ℕ, ◌+◌, zero, suc, List, [], ◌∷◌, ◌++◌, length, map, Option, Some, None, refl, ap, ◌∙◌, arith}
-use Rattle.std.specs.Prelude.{slice_get, slice_index_or, option_map}
-use Rattle.std.proofs.lemmas.List.{length-append, length-map}
-use Rattle.std.proofs.lemmas.Option.{slice_get-map}
-use Rattle.pool_pages.specs.declared.table_type.TableType.{TableType}
-use Rattle.pool_pages.specs.declared.module_types.MemoryDecl.{MemoryDecl}
-use Rattle.pool_images.specs.Images.{Image}
-use Rattle.pool_alloc.specs.Wants.{MemoryWant, new_memory, new_table, wants_from}
+use Rattle.std.proofs.Common.{◌≡◌, ℕ, ◌+◌, zero, suc, List, [], ◌∷◌, ◌++◌, length, map, Option, Some, None, refl, ap, ◌∙◌, arith, slice_get, slice_index_or, option_map}
+use Rattle.pool_run.proofs.Imports.{length-append, length-map, slice_get-map, TableType, MemoryDecl, Image, MemoryWant, new_memory, new_table, wants_from}
 use Rattle.pool_run.specs.Private.{Request, wants_of}
 
 -- what is in a list stays in it behind others; and those are behind it
@@ -26,13 +20,6 @@ count_wanted [] images = refl
 count_wanted (d ∷ ds) [] = omega (arith, count_wanted ds [])
 count_wanted (d ∷ ds) (i ∷ is) = omega (arith, count_wanted ds is)
 
-pub wants_at : (decls : List MemoryDecl) (images : List (Option Image)) (k : ℕ) (decl : MemoryDecl) → slice_get decls k ≡ Some decl → slice_get (wants_from decls images) k ≡ Some (record { decl = decl; image = slice_index_or images k None })
-wants_at [] images k decl there = absurd cc
-wants_at (d ∷ ds) [] zero decl there = let same : d ≡ decl = cc in ap (λ (x : MemoryDecl). Some (record { decl = x; image = None })) same
-wants_at (d ∷ ds) [] (suc k) decl there = wants_at ds [] k decl there
-wants_at (d ∷ ds) (i ∷ is) zero decl there = let same : d ≡ decl = cc in ap (λ (x : MemoryDecl). Some (record { decl = x; image = i })) same
-wants_at (d ∷ ds) (i ∷ is) (suc k) decl there = wants_at ds is k decl there
-
 -- a memory is asked for
 pub record IsWanted (decls : List MemoryDecl) (images : List (Option Image)) (k : ℕ) (want : MemoryWant) : Type 0 where
   pub wanted : slice_get decls k ≡ Some want.decl
@@ -44,11 +31,6 @@ wants_there (d ∷ ds) [] zero want at = record { wanted = cc; image = cc }
 wants_there (d ∷ ds) [] (suc k) want at = let rest = wants_there ds [] k want at in record { wanted = rest.wanted; image = rest.image }
 wants_there (d ∷ ds) (i ∷ is) zero want at = record { wanted = cc; image = cc }
 wants_there (d ∷ ds) (i ∷ is) (suc k) want at = let rest = wants_there ds is k want at in record { wanted = rest.wanted; image = rest.image }
-
-pub all_declared : (decls : List MemoryDecl) (images : List (Option Image)) → map (λ w. w.decl) (wants_from decls images) ≡ decls
-all_declared [] images = refl
-all_declared (d ∷ ds) [] = ap (λ (xs : List MemoryDecl). d ∷ xs) (all_declared ds [])
-all_declared (d ∷ ds) (i ∷ is) = ap (λ (xs : List MemoryDecl). d ∷ xs) (all_declared ds is)
 
 -- all that a request is for: its memories, and behind them its tables
 pub count_all : (request : Request) → length (wants_of request) ≡ length request.memories + length request.tables

@@ -1,59 +1,15 @@
 -- The pool and the calls that are made for an input are those of its world.
-use Rattle.std.proofs.Common.{◌≡◌, ℕ, ◌+◌, ◌*◌, ◌<◌, zero, suc, List, [], ◌∷◌, length, replicate, refl, sym, ap, ◌∙◌, subst, arith, Option, Some, None, Bool, true, false, not}
-use Rattle.std.specs.Prelude.{◌-◌, ◌/◌, ◌%◌, ◌==◌, ◌&&◌, IfSome, is_some, slice_get, slice_index_or, nat_le, nat_lt, if◌then◌else◌, option_map, unwrap_or}
-use Rattle.std.specs.List.{list_all}
-use Rattle.std.specs.Option.{option_map_or}
-use Rattle.std.proofs.lemmas.Bool.{leb-true, le-leb, lt-ltb, and_from}
-use Rattle.std.proofs.lemmas.List.{length-append, length-replicate}
-use Rattle.std.proofs.lemmas.Option.{same_Some}
-use Rattle.pool_pages.specs.Count.{rounded_up}
-use Rattle.pool_pages.specs.MakerTold.{MakerTold}
-use Rattle.pool_pages.specs.MemoryTypes.{minimum_byte_size}
-use Rattle.pool_pages.specs.declared.module_types.CompiledModuleId.{CompiledModuleId}
-use Rattle.pool_pages.specs.declared.module_types.ImageDecl.{ImageDecl}
-use Rattle.pool_pages.specs.declared.module_types.MemoryDecl.{MemoryDecl}
-use Rattle.pool_pages.specs.declared.module_types.ModuleInfo.{ModuleInfo}
-use Rattle.pool_pages.specs.declared.module_types.Tunables.{Tunables}
-use Rattle.pool_pages.specs.declared.offered.Offered.{Offered}
-use Rattle.pool_pages.specs.SettingsRules.{slab_stripes}
-use Rattle.pool_alloc.proofs.Striping.{some_stripes}
-use Rattle.std.proofs.lemmas.List.FromFn.{length-map-range_with_len, get_or-map-range_with_len}
-use Rattle.std.proofs.Math.Nat.{mul-mod_left, mul-div_cancel}
-use Rattle.pool_images.specs.Images.{Image, image_of, images_from, padded, first_misplaced, ends_in_minimum}
-use Rattle.pool_images.specs.Slots.{FitsInto}
-use Rattle.pool_images.proofs.Begun.{rounded_up_above}
-use Rattle.pool_alloc.specs.Made.{IsMadeCore, plan_settings}
-use Rattle.pool_alloc.specs.declared.pool_core.PoolCore.{PoolCore}
-use Rattle.pool_alloc.specs.declared.pool_core.Settings.{Settings}
-use Rattle.pool_alloc.specs.Asked.{ModuleAsked}
-use Rattle.pool_alloc.specs.Steps.{images_made, stripe_allocator, allocator_of, no_allocator}
-use Rattle.pool_alloc.specs.TableLeases.{table_slot}
-use Rattle.pool_alloc.specs.StackLeases.{stack_slot}
-use Rattle.pool_hall.specs.declared.unit_name.SlotKind.{SlotKind}
+use Rattle.std.proofs.Common.{◌≡◌, ℕ, ◌+◌, ◌*◌, ◌<◌, zero, suc, List, [], ◌∷◌, length, replicate, refl, sym, ap, ◌∙◌, subst, arith, Option, Some, None, Bool, true, false, not, ◌-◌, ◌/◌, ◌%◌, ◌==◌, ◌&&◌, IfSome, is_some, slice_get, slice_index_or, nat_le, nat_lt, if◌then◌else◌, option_map, unwrap_or}
+use Rattle.pool_run.proofs.Imports.{list_all, option_map_or, leb-true, le-leb, lt-ltb, and_from, length-append, length-replicate, same_Some, get_or_from_slice_get, second_true, rounded_up, MakerTold, minimum_byte_size, CompiledModuleId, ImageDecl, MemoryDecl, ModuleInfo, Tunables, Offered, slab_stripes, some_stripes, length-map-range_with_len, get_or-map-range_with_len, mul-mod_left, mul-div_cancel, Image, image_of, images_from, padded, first_misplaced, ends_in_minimum, FitsInto, rounded_up_above, IsMadeCore, plan_settings, PoolCore, Settings, ModuleAsked, images_made, stripe_allocator, allocator_of, no_allocator, no_module, table_slot, stack_slot, SlotKind, allocator_planned, wants_from, Plan, Allocator, heap_slot, of_kind, has_number, have_number, IsStripedPlanOf, divided, stripe_made, StripedPlanSettings, follow, PoolingAllocationConfig, OfKinds, PlainHeap}
 use Rattle.pool_hall.specs.declared.unit_name.SlotKind.TheVariants.{Table, Stack, Heap}
-use Rattle.pool_slots.specs.PlansMade.{allocator_planned}
-use Rattle.pool_alloc.specs.Wants.{wants_from}
 use Rattle.pool_run.specs.Built.{is_built_memory, is_built_module}
 use Rattle.pool_run.specs.Made.{call_made, calls_made}
-use Rattle.pool_alloc.specs.Steps.{no_module}
 use Rattle.pool_run.specs.Private.{Terms, module_of, has_images, images_of, request_for}
 use Rattle.pool_run.specs.Runs.{world_of}
-use Rattle.std.proofs.lemmas.Option.{get_or_from_slice_get}
 use Rattle.pool_run.specs.Worlds.{IsWorldOf, IsCallFor, AreCallsFor, HasStripes, HasSlots}
 use Rattle.pool_run.specs.declared.input.Input.{Input}
 use Rattle.pool_run.proofs.BuiltInputs.{built_memories, small_pages}
-use Rattle.pool_run.proofs.Tests.{second, of_all}
-use Rattle.pool_slots.specs.declared.plan.Plan.{Plan}
-use Rattle.pool_slots.specs.declared.plan.Allocator.{Allocator}
-use Rattle.pool_slots.specs.HeapUnits.{heap_slot}
-use Rattle.pool_slots.specs.SlotNames.{of_kind}
-use Rattle.pool_slots.specs.Plans.{has_number, have_number}
-use Rattle.pool_slots.specs.StripedPlans.{IsStripedPlanOf, divided, stripe_allocator as stripe_made}
-use Rattle.pool_slots.specs.declared.striped_plan.StripedPlanSettings.{StripedPlanSettings}
-use Rattle.pool_slots.proofs.StripedPlans.{follow}
-use Rattle.pool_pages.specs.declared.config.PoolingAllocationConfig.{PoolingAllocationConfig}
-use Rattle.pool_slots.specs.declared.slot_name.OfKinds.{OfKinds}
-use Rattle.pool_slots.specs.declared.listed_heaps.PlainHeap.{PlainHeap}
+use Rattle.pool_run.proofs.Tests.{of_all}
 
 -- what holds of the element at a place, whichever that is, holds if there is one
 if_some : {X : Type 0} (o : Option X) (Q : X → Type 0) → ((x : X) → o ≡ Some x → Q x) → IfSome o Q
@@ -198,7 +154,7 @@ is_call_for t s number m there built page some =
               let On : ℕ → Type 0 = λ p. IfSome (slice_index_or given k None) (FitsInto p (minimum_byte_size d.ty)) in
               let some_page : 0 < t.settings.page = omega (arith, page, some) in
               let If : List (Option Image) → Type 0 = λ is. IfSome (slice_index_or is k None) (FitsInto s.page (minimum_byte_size d.ty)) in
-              (omega (arith, small_pages d (of_all is_built_memory m.memories k d (built_memories m built) at)), subst If (sym (asked_images made)) (subst On (sym page) (fits_made all id t.settings.page m.memories k d at some_page (λ has. of_all (ends_in_minimum t.settings.page) m.memories k d (second (not (is_some (first_misplaced t.settings.page m.memories))) _ (second tunables.memory_init_cow _ has)) at)))));
+              (omega (arith, small_pages d (of_all is_built_memory m.memories k d (built_memories m built) at)), subst If (sym (asked_images made)) (subst On (sym page) (fits_made all id t.settings.page m.memories k d at some_page (λ has. of_all (ends_in_minimum t.settings.page) m.memories k d (second_true (not (is_some (first_misplaced t.settings.page m.memories))) _ (second_true tunables.memory_init_cow _ has)) at)))));
         };
         places = place_for_each all id t.settings.page m.memories;
       };

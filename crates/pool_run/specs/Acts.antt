@@ -1,9 +1,6 @@
 -- What a command acts on: commands that do alike have one case.
 use Rattle.std.specs.Prelude.{ℕ, List, slice_get, false, Option, option_map}
-use Rattle.pool_pages.specs.declared.module_types.ComponentInfo.{ComponentInfo}
-use Rattle.pool_pages.specs.declared.module_types.IndexType.TheVariants.{I32}
-use Rattle.pool_pages.specs.declared.module_types.Limits.{Limits}
-use Rattle.pool_pages.specs.declared.module_types.MemoryType.{MemoryType}
+use Rattle.pool_run.specs.Imports.{ComponentInfo, I32, Limits, MemoryType}
 use Rattle.pool_run.specs.declared.command.Command.{Command}
 use Rattle.pool_run.specs.declared.command.Command.TheVariants.{Instantiate, Read, Write, Fill, Grow, Size, Get, Set, TableFill, TableGrow, TableSize, Drop, Purge, Release, Component, Stack, Heap}
 use Rattle.pool_run.specs.declared.command.TableValue.{TableValue}
@@ -47,6 +44,7 @@ pub data Act : Type 0 where
   purges : ℕ → Act
   releases : Act
 
+-- What a command asks for: a request, an operation on a memory or a table, a give-back, a purge or a release.
 abbrev pub act_of : Command → Act
 act_of (Instantiate number) = requests (an_instance number)
 act_of (Component core_instances memories tables core_bytes own_bytes) =

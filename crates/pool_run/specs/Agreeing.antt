@@ -22,7 +22,7 @@ pub record IsRunnable (input : Input) (maker : MakerTold) : Type 0 where
 abbrev pub want_of_memory : Reply
 want_of_memory = Refused (Alloc alloc.Memory)
 
--- the same commands have that reply
+-- In both runs the same commands are refused for want of memory.
 abbrev pub WantAlike : List (List Reply) → List (List Reply) → Type 0
 WantAlike told other = (i n : ℕ) → (slice_get (replies_to i told) n ≡ Some want_of_memory) ↔ (slice_get (replies_to i other) n ≡ Some want_of_memory)
 
@@ -31,6 +31,6 @@ WantAlike told other = (i n : ℕ) → (slice_get (replies_to i told) n ≡ Some
 abbrev pub IsOnlyRun : Type 0 → Input → MakerTold → RunOutput → Type 0
 IsOnlyRun P input maker output = maker.tells ≡ true → IsSome maker.plan → (other : RunOutput) → IsRun P input maker other → WantAlike output.replies other.replies → other ≡ output
 
--- That of each run is.
+-- Two runs of one input give the same output, where the maker tells pages and plan and the same commands want memory.
 abbrev pub RunsAgree : Type 0 → Type 0
 RunsAgree P = (input : Input) (maker : MakerTold) (output : RunOutput) → IsRunnable input maker → IsRun P input maker output → IsOnlyRun P input maker output

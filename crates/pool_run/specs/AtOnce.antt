@@ -1,24 +1,9 @@
 -- What the code makes of a command, as an act, and of the answers of a memory or a table, as replies.
 use Rattle.std.specs.Prelude.{◌≡◌, ℕ, List, [], ◌∷◌, slice_get, slice_set, Option, Some, Result, Ok, Err}
-use Rattle.pool_limits.specs.Growth.{GrowthRule}
-use Rattle.pool_limits.specs.Growing.{GrowthGiven}
-use Rattle.pool_limits.specs.LimiterTold.{LimiterTold}
-use Rattle.pool_limits.specs.declared.errors.GrowFault.{GrowFault}
+use Rattle.pool_run.specs.Imports.{GrowthRule, GrowthGiven, LimiterTold, GrowFault, Trap, IsGrowth, StackState, PlainHeap, IsTableGrowth, StoreTold, listed_store, ListedStore, GcTableError, Lease, IsUsable, LeasedTable, LiesInRegion, Grant, stack, heap}
 use Rattle.pool_limits.specs.declared.errors.GrowFault.TheVariants as fault
-use Rattle.pool_limits.specs.declared.errors.Trap.{Trap}
-use Rattle.pool_memory.specs.Growing.{IsGrowth}
-use Rattle.pool_slots.specs.PlainSlots.{StackState}
 use Rattle.pool_slots.specs.declared.errors.AllocError.TheVariants as alloc
-use Rattle.pool_slots.specs.declared.listed_heaps.PlainHeap.{PlainHeap}
-use Rattle.pool_table.specs.Growing.{IsTableGrowth}
-use Rattle.pool_table.specs.Stores.{StoreTold, listed_store}
-use Rattle.pool_table.specs.declared.gc_store.ListedStore.{ListedStore}
-use Rattle.pool_table.specs.declared.gc_store.GcTableError.{GcTableError}
 use Rattle.pool_table.specs.declared.gc_store.GcTableError.TheVariants as failed
-use Rattle.pool_alloc.specs.Leases.{Lease, IsUsable}
-use Rattle.pool_alloc.specs.TableLeases.{LeasedTable, LiesInRegion}
-use Rattle.pool_alloc.specs.declared.frame.Grant.{Grant}
-use Rattle.pool_alloc.specs.declared.frame.Grant.TheVariants.{Stack as stack, Heap as heap}
 use Rattle.pool_alloc.specs.declared.table_element.Element.{Element}
 use Rattle.pool_run.specs.Acts.{MemoryOp, reads, writes, fills, grows, asks_size, TableOp, gets, sets, lengthens, asks_length, Act, requests, on_memory, on_table, drops, purges, releases, Wanted, an_instance, a_component, a_stack, a_heap}
 use Rattle.pool_run.specs.Objects.{MovesNamed}
@@ -35,7 +20,7 @@ use Rattle.pool_run.specs.declared.reply.Reply.{Reply}
 use Rattle.pool_run.specs.declared.reply.Reply.TheVariants.{Done, Grown, Element as told_element, Refused, Trap as trapped}
 use Rattle.pool_run.specs.declared.reply.Refusal.TheVariants.{GcStoreFault, Alloc}
 
--- what the code is given, as an operation and an act
+-- The code's operation on a memory, as an act has it.
 abbrev pub given_op : GivenOp → MemoryOp
 given_op (op.Read at len) = reads at len
 given_op (op.Write at bytes) = writes at bytes.now
@@ -43,18 +28,21 @@ given_op (op.Fill at len byte) = fills at len byte
 given_op (op.Grow pages) = grows pages
 given_op op.Size = asks_size
 
+-- The code's operation on a table, as an act has it.
 abbrev pub given_table_op : GivenTableOp → TableOp
 given_table_op (table_op.Get at) = gets at
 given_table_op (table_op.Set at value len) = sets at len value
 given_table_op (table_op.Grow by) = lengthens by
 given_table_op table_op.Size = asks_length
 
+-- What the code's request is for, as an act has it.
 abbrev pub given_wanted : GivenWanted → Wanted
 given_wanted (wanted.Instance number) = an_instance number
 given_wanted (wanted.Component info) = a_component info
 given_wanted wanted.Stack = a_stack
 given_wanted (wanted.Heap limits) = a_heap limits
 
+-- The code's act, as the one that a command is.
 abbrev pub given_act : GivenAct → Act
 given_act (act.Request wanted) = requests (given_wanted wanted)
 given_act (act.OnMemory of k by) = on_memory of k (given_op by)
@@ -63,21 +51,23 @@ given_act (act.Drop of) = drops of
 given_act (act.Purge number) = purges number
 given_act act.Release = releases
 
--- the reply to a write with this answer, and to a growth
+-- The reply to a write with this answer.
 abbrev pub write_reply : Result (Unit {0}) Trap → Reply
 write_reply (Ok u) = Done
 write_reply (Err trap) = trapped trap
 
+-- The reply to a growth: the old size, that it didn't grow, or the refusal of a fault.
 abbrev pub growth_reply : Result (Option ℕ) GrowFault → Reply
 growth_reply (Ok size) = Grown size
 growth_reply (Err fault.Memory) = Refused (Alloc alloc.Memory)
 growth_reply (Err (fault.LimiterFault e)) = Refused (Alloc (alloc.LimiterFault e))
 
--- the reply to a look at an element with this answer, and to a fill
+-- The reply to a look at an element with this answer.
 abbrev pub element_reply : Result Element Trap → Reply
 element_reply (Ok e) = told_element e
 element_reply (Err trap) = trapped trap
 
+-- The reply to the setting of references: done, the trap, or that the store failed.
 abbrev pub fill_reply : Result (Unit {0}) GcTableError → Reply
 fill_reply (Ok u) = Done
 fill_reply (Err (failed.Trap trap)) = trapped trap
@@ -110,7 +100,7 @@ module _ {P : Type 0} where
   MovesGrantBytes op rule k (heap lease memory) reply new = (l : Lease) × (new ≡ heap lease l) × MovesOnly (LeaseMoves op rule) k memory reply l
   MovesGrantBytes op rule k grant reply new = MovesNamed (LeaseMoves op rule) (slice_get (leases_of grant) k) (with_lease k) grant reply new
 
-  -- the same of a grant that was taken out of its place, and is put back
+  -- An operation on bytes of a grant that was taken out of its place and is put back.
   abbrev pub MovesTakenBytes : MemoryOp → GrowthRule → ℕ → ℕ → Grant P PlainHeap → List (Option (Grant P PlainHeap)) → Reply → List (Option (Grant P PlainHeap)) → Type 0
   MovesTakenBytes op rule of k (stack lease) live reply new =
       MovesNamed (StackLeaseMoves op) (slice_get (lease ∷ []) k) (λ l at. slice_set at of (Some (with_stack_lease k l (stack lease)))) (slice_set live of (Some (stack lease))) reply new

@@ -1,11 +1,6 @@
 -- The inputs that can be run so far, and the rule that their settings break.
 use Rattle.std.specs.Prelude.{◌&&◌, not, nat_le, Bool, Option}
-use Rattle.std.specs.List.{list_all}
-use Rattle.pool_pages.specs.SettingsRules.{first_broken_rule}
-use Rattle.pool_pages.specs.declared.bad_config.BadConfig.{BadConfig}
-use Rattle.pool_pages.specs.declared.module_types.MemoryDecl.{MemoryDecl}
-use Rattle.pool_pages.specs.declared.module_types.ModuleInfo.{ModuleInfo}
-use Rattle.pool_pages.specs.declared.offered.Offered.{Offered}
+use Rattle.pool_run.specs.Imports.{list_all, first_broken_rule, BadConfig, MemoryDecl, ModuleInfo, Offered}
 use Rattle.pool_run.specs.declared.input.Input.{Input}
 
 -- a memory whose own pages are of 64 KiB at most

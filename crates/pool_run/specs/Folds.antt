@@ -1,24 +1,17 @@
 -- A run of several parties, turn by turn: in the order of the schedule, and then party by party until none has anything
 -- left.
 use Rattle.std.specs.Prelude.{◌≡◌, ℕ, ◌+◌, ◌<◌, ◌≤◌, List, [], ◌∷◌, ◌++◌, length, map, replicate, slice_get, slice_index_or, slice_set, sum_by, true, false, Option, Some, None, IfSome}
-use Rattle.pool_pages.specs.MakerTold.{MakerTold}
-use Rattle.pool_alloc.specs.declared.pool_core.PoolCore.{PoolCore}
-use Rattle.pool_alloc.specs.Asked.{ModuleAsked}
-use Rattle.pool_run.specs.Turns.{host_of_party}
+use Rattle.pool_run.specs.Imports.{MakerTold, PoolCore, ModuleAsked, IsIdle, stage_of, is_idle, PlainHeap}
+use Rattle.pool_run.specs.Turns.{host_of_party, Turned, Turns, with_reply}
 use Rattle.pool_run.specs.Private.{no_grants}
 use Rattle.pool_run.specs.Rooms.{World, under, in_stripe}
-use Rattle.pool_run.specs.Turns.{Turned, Turns, with_reply}
-use Rattle.pool_alloc.specs.Calls.{IsIdle}
-use Rattle.pool_alloc.specs.Stages.{stage_of}
 use Rattle.pool_run.specs.RunsMade.{is_drawing}
-use Rattle.pool_alloc.specs.Stepping.{is_idle}
 use Rattle.pool_run.specs.Ties.{IsPrivate, IsRunning, IsAlone}
 use Rattle.pool_run.specs.Limits.{live_instances, live_components, IsWithinCounts}
 use Rattle.pool_run.specs.Worlds.{IsWorldOf, AreCallsFor}
 use Rattle.pool_run.specs.declared.command.Command.{Command}
 use Rattle.pool_run.specs.declared.reply.Reply.{Reply}
 use Rattle.pool_run.specs.declared.running_party.RunningParty.{RunningParty}
-use Rattle.pool_slots.specs.declared.listed_heaps.PlainHeap.{PlainHeap}
 
 -- what a run has: the pool, the calls for its modules, and the parties
 pub record RunParts (P : Type 0) : Type 0 where
@@ -26,17 +19,18 @@ pub record RunParts (P : Type 0) : Type 0 where
   pub modules : List ModuleAsked
   pub parties : List (RunningParty P)
 
--- the same, and the replies to each of the parties so far
+-- What a run has, and the replies to each party so far.
 pub record RunState (P : Type 0) : Type 0 where
   pub core : PoolCore P PlainHeap
   pub modules : List ModuleAsked
   pub parties : List (RunningParty P)
   pub replies : List (List Reply)
 
--- the commands of party i, and the replies to it
+-- The commands of party i.
 abbrev pub commands_of : List (List Command) → ℕ → List Command
 commands_of inputs i = slice_index_or inputs i []
 
+-- The replies to party i so far.
 abbrev pub replies_to : ℕ → List (List Reply) → List Reply
 replies_to i replies = slice_index_or replies i []
 
@@ -50,6 +44,7 @@ party_by_party i [] = []
 party_by_party i (n ∷ counts) = replicate n i ++ party_by_party (i + 1) counts
 
 module _ {P : Type 0} where
+  -- A run as it stands, with the replies to each party so far.
   abbrev pub told_state : RunParts P → List (List Reply) → RunState P
   told_state run told = record { core = run.core; modules = run.modules; parties = run.parties; replies = told }
 
@@ -74,6 +69,7 @@ module _ {P : Type 0} where
   TurnsIf modules commands i None s new = new ≡ s
   TurnsIf modules commands i (Some p) s new = (t : Turned P) × Turns modules commands s.core p t × (new ≡ with_turn i t s)
 
+  -- One turn of party i; where there is no such party, nothing happens.
   abbrev pub TurnsOf : List ModuleAsked → List (List Command) → ℕ → RunState P → RunState P → Type 0
   TurnsOf modules inputs i s new = TurnsIf modules (commands_of inputs i) i (slice_get s.parties i) s new
 
@@ -91,6 +87,7 @@ module _ {P : Type 0} where
     pub idle : is_idle p.frame.phase ≡ true
     pub all : length commands ≤ p.done
 
+  -- No party has anything left to do.
   abbrev pub IsFinished : List (List Command) → RunState P → Type 0
   IsFinished inputs s = (i : ℕ) → IfSome (slice_get s.parties i) (HasNothingLeft (commands_of inputs i))
 
@@ -101,7 +98,7 @@ module _ {P : Type 0} where
     pub folds : Folds modules inputs (party_by_party 0 counts) s end
     pub finished : IsFinished inputs end
 
-  -- a whole run
+  -- A whole run: the turns of the schedule, and then of party after party until none has anything left.
   pub record Runs (modules : List ModuleAsked) (inputs : List (List Command)) (schedule : List ℕ) (s end : RunState P) : Type 0 where
     pub scheduled : RunState P
     pub folds : Folds modules inputs schedule s scheduled

@@ -1,10 +1,7 @@
--- How often the maker of heaps fails: replies tell of it at most as often as its list says, with a pool and on demand.
+-- How often the maker of heaps fails: replies tell of it at most as often as its list says.
 use Rattle.std.specs.Prelude.{ℕ, zero, suc, ◌+◌, ◌^◌, ◌<◌, ◌≤◌, ◌==◌, List, length, take, count_by, Bool, true, false}
-use Rattle.std.specs.List.{list_any}
-use Rattle.pool_slots.specs.declared.errors.AllocError.TheVariants.{HeapFault}
-use Rattle.pool_index.specs.Shard.{one_if}
+use Rattle.pool_run.specs.Imports.{list_any, HeapFault, one_if}
 use Rattle.pool_run.specs.Acts.{Act, requests, act_of, a_heap}
-use Rattle.pool_run.specs.OnDemandFaults.{IsRunOnDemand}
 use Rattle.pool_run.specs.Private.{Terms, IsPrivateRun}
 use Rattle.pool_run.specs.declared.command.Command.{Command}
 use Rattle.pool_run.specs.declared.reply.Reply.{Reply}
@@ -21,10 +18,11 @@ abbrev pub is_heap_fault : Reply → Bool
 is_heap_fault (Refused (Alloc HeapFault)) = true
 is_heap_fault _ = false
 
--- how many of these commands request a heap, and how many of these replies tell of such a failure
+-- How many of these commands request a heap.
 abbrev pub heaps_asked : List Command → ℕ
 heaps_asked commands = count_by (λ command. asks_heap (act_of command)) commands
 
+-- How many of the replies tell that the maker of heaps failed.
 abbrev pub heaps_failed : List Reply → ℕ
 heaps_failed replies = count_by is_heap_fault replies
 
@@ -38,9 +36,6 @@ listed_to listed (suc n) = one_if (list_any (λ k. k == n + 1) listed) + listed_
 abbrev pub FewHeapFaults : List ℕ → List Command → List Reply → Type 0
 FewHeapFaults unmade commands replies = (n : ℕ) → heaps_failed (take n replies) ≤ listed_to unmade (heaps_asked (take n commands))
 
--- The replies of each private run are such, and so are those of each run on demand.
+-- The replies of each private run are such.
 abbrev pub HeapFaultsAreListed : Type 0
 HeapFaultsAreListed = (t : Terms) (commands : List Command) (replies : List Reply) → length commands < 2 ^ 64 → IsPrivateRun t commands replies → FewHeapFaults t.host.unmade commands replies
-
-abbrev pub HeapFaultsAreListedOnDemand : Type 0
-HeapFaultsAreListedOnDemand = (t : Terms) (commands : List Command) (replies : List Reply) (met : ℕ) → length commands < 2 ^ 64 → IsRunOnDemand t commands replies met → FewHeapFaults t.host.unmade commands replies

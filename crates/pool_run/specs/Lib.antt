@@ -5,16 +5,11 @@ pub mod Built
 pub mod Folds
 pub mod GrowthEnds
 pub mod HeapFaults
+mod Imports
 pub mod Limits
 pub mod Made
 pub mod Numbers
 pub mod Objects
-pub mod OnDemand
-pub mod OnDemandAlike
-pub mod OnDemandFaults
-pub mod OnDemandLeft
-pub mod OnDemandRuns
-pub mod OnDemandSeen
 pub mod PartyRules
 pub mod Placed
 pub mod Private
@@ -25,10 +20,6 @@ pub mod Rooms
 pub mod Runs
 pub mod RunsMade
 pub mod Schedules
-pub mod SharedEvents
-pub mod SharedRuns
-pub mod SharedSteps
-pub mod SharedValidity
 pub mod TableValues
 pub mod Ties
 pub mod Turns

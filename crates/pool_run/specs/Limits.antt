@@ -1,11 +1,8 @@
 -- How many instances and components are granted at once, with those that requests on their way may still be granted.
 use Rattle.std.specs.Prelude.{ℕ, ◌+◌, ◌≤◌, List, sum_by}
-use Rattle.pool_alloc.specs.Stages.{Stage, asks, admitted, stage_of}
-use Rattle.pool_alloc.specs.Stepping.{grant_instances, grant_components}
-use Rattle.pool_alloc.specs.declared.pool_core.PoolCore.{PoolCore}
+use Rattle.pool_run.specs.Imports.{Stage, asks, admitted, stage_of, grant_instances, grant_components, PoolCore, PlainHeap}
 use Rattle.pool_run.specs.Ties.{granted_to}
 use Rattle.pool_run.specs.declared.running_party.RunningParty.{RunningParty}
-use Rattle.pool_slots.specs.declared.listed_heaps.PlainHeap.{PlainHeap}
 
 -- A call was admitted for an instance, from where it was counted below the limit until it is granted or refused. A request
 -- that is refused, also one at the limit, has counted an instance until it has given back all, but isn't granted it any
@@ -15,10 +12,11 @@ admitted_at (asks (admitted n)) = 1
 admitted_at _ = 0
 
 module _ {P : Type 0} where
-  -- how many instances of a party are live, and how many components
+  -- How many instances are granted to a party.
   abbrev pub live_instances : RunningParty P → ℕ
   live_instances p = sum_by (granted_to grant_instances) p.live
 
+  -- How many components are granted to a party.
   abbrev pub live_components : RunningParty P → ℕ
   live_components p = sum_by (granted_to grant_components) p.live
 

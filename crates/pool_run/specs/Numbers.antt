@@ -1,17 +1,10 @@
 -- The numbers of a run: the calls on all regions, wherever they are.
 use Rattle.std.specs.Prelude.{List, fold, Option, Some, None}
-use Rattle.pool_pages.specs.declared.pages.PageCalls.{PageCalls}
-use Rattle.pool_pages.specs.CallSums.{added}
-use Rattle.pool_memory.specs.Memories.{slot_of}
-use Rattle.pool_alloc.specs.Sums.{calls_of_instance, calls_kept, calls_in_frame}
-use Rattle.pool_alloc.specs.declared.pool_core.PoolCore.{PoolCore}
-use Rattle.pool_alloc.specs.declared.frame.Grant.{Grant}
-use Rattle.pool_alloc.specs.declared.frame.Grant.TheVariants.{Instance as instance, Component as component, Stack as stack, Heap as heap}
+use Rattle.pool_run.specs.Imports.{PageCalls, added, slot_of, calls_of_instance, calls_kept, calls_in_frame, PoolCore, Grant, instance, component, stack, heap, PlainHeap}
 use Rattle.pool_run.specs.declared.running_party.RunningParty.{RunningParty}
-use Rattle.pool_slots.specs.declared.listed_heaps.PlainHeap.{PlainHeap}
 
 module _ {P : Type 0} where
-  -- the calls with those on the regions of a live grant, and of all that a party has
+  -- Page calls with those on the regions of a live grant.
   abbrev pub with_grant : PageCalls → Option (Grant P PlainHeap) → PageCalls
   with_grant calls None = calls
   with_grant calls (Some (instance lease)) = added calls (calls_of_instance lease)
@@ -19,6 +12,7 @@ module _ {P : Type 0} where
   with_grant calls (Some (stack lease)) = added calls lease.stack.slot.region.calls
   with_grant calls (Some (heap lease memory)) = added calls (slot_of memory.memory).region.calls
 
+  -- Page calls with those on all regions that a party has: in its frame and in its live grants.
   abbrev pub with_party : PageCalls → RunningParty P → PageCalls
   with_party calls p = fold with_grant (added calls (calls_in_frame p.frame)) p.live
 

@@ -17,10 +17,11 @@ MovesNamed Move None put old reply new = (reply ≡ Refused NoSuchGrant) × (new
 MovesNamed {X = X} Move (Some x) put old reply new = (moved : X) × Move x moved reply × (new ≡ put moved old)
 
 module _ {G X : Type 0} (objects : Objects G X) where
-  -- object k of the live grant of command `of`, and the live grants with another in its place
+  -- Object k of the live grant of a command.
   abbrev pub object_at : ℕ → ℕ → List (Option G) → Option X
   object_at of k live = option_and_then (λ g. slice_get (objects.in_grant g) k) (slice_index_or live of None)
 
+  -- The live grants with one object changed: object k of the grant of a command.
   abbrev pub with_object : ℕ → ℕ → X → List (Option G) → List (Option G)
   with_object of k x live = slice_set live of (option_map (objects.put_in k x) (slice_index_or live of None))
 

@@ -1,16 +1,7 @@
 -- Where each slot of the pool is between two turns: in one place.
 use Rattle.std.specs.Prelude.{◌≡◌, ◌≢◌, ℕ, ◌<◌, if◌then◌else◌, slice_get, Option, Some}
-use Rattle.std.specs.Option.{option_map_or}
-use Rattle.pool_index.specs.Shard.{ShardState, is_used, pick_answer, slot_number}
-use Rattle.pool_index.specs.declared.ids.MemoryInModule.{MemoryInModule}
-use Rattle.pool_index.specs.declared.ids.SlotId.{SlotId}
-use Rattle.pool_pages.specs.MakerTold.{MakerTold}
+use Rattle.pool_run.specs.Imports.{option_map_or, ShardState, is_used, pick_answer, slot_number, MemoryInModule, SlotId, MakerTold, right_to, queued_count, shard_at, queue_at, of_kind, home_of, SlotName}
 use Rattle.pool_slots.specs.declared.part.PoolPart.TheVariants as part
-use Rattle.pool_alloc.specs.Places.{right_to, queued_count}
-use Rattle.pool_alloc.specs.Steps.{shard_at, queue_at}
-use Rattle.pool_slots.specs.SlotNames.{of_kind}
-use Rattle.pool_slots.specs.Plans.{home_of}
-use Rattle.pool_slots.specs.declared.slot_name.SlotName.{SlotName}
 use Rattle.pool_run.specs.Folds.{RunState, HoldsBetween}
 use Rattle.pool_run.specs.Ties.{held_by_party}
 

@@ -1,37 +1,7 @@
 -- What a party may see: its grants as private lists of bytes, which its commands read and write, and no pool.
 use Rattle.std.specs.Prelude.{◌≡◌, ℕ, ◌+◌, ◌-◌, ◌*◌, ◌^◌, ◌<◌, ◌==◌, ◌||◌, ◌&&◌, List, [], ◌∷◌, ◌++◌, length, slice_get, slice_index_or, slice_set, replicate, map, min, ◌⊎◌, Bool, true, false, not, nat_lt, if◌then◌else◌, Option, Some, None, is_some, option_map, unwrap_or, Result, Ok, Err}
-use Rattle.std.specs.Int.{div_ceil}
-use Rattle.std.specs.Option.{option_or}
-use Rattle.std.specs.List.{list_all}
-use Rattle.pool_pages.specs.Contents.{put}
-use Rattle.pool_pages.specs.MemoryTypes.{minimum_byte_size, page_size, allow_growth_to}
-use Rattle.pool_pages.specs.Told.{risen}
-use Rattle.pool_pages.specs.declared.module_types.MemoryDecl.{MemoryDecl}
-use Rattle.pool_pages.specs.declared.module_types.ModuleInfo.{ModuleInfo}
-use Rattle.pool_pages.specs.declared.module_types.ComponentInfo.{ComponentInfo}
-use Rattle.pool_pages.specs.declared.module_types.MemoryType.{MemoryType}
-use Rattle.pool_pages.specs.declared.module_types.Tunables.{Tunables}
-use Rattle.pool_pages.specs.declared.unsupported.Unsupported.{Unsupported}
-use Rattle.pool_pages.specs.declared.table_type.TableType.{TableType}
-use Rattle.pool_limits.specs.Growth.{GrowthRule, memory_answer, table_answer, memory_failure}
-use Rattle.pool_images.specs.Images.{Image, images_from, start, first_misplaced, ends_in_minimum}
-use Rattle.pool_memory.specs.Growing.{exceeds}
-use Rattle.pool_memory.specs.Making.{minimum_asked, maximum_asked, limits_answer}
-use Rattle.pool_memory.specs.Static.{static_capacity}
-use Rattle.pool_memory.specs.declared.memory_error.MemoryError.{MemoryError}
-use Rattle.pool_slots.specs.declared.errors.AllocError.{AllocError}
+use Rattle.pool_run.specs.Imports.{div_ceil, option_or, list_all, put, minimum_byte_size, page_size, allow_growth_to, risen, MemoryDecl, ModuleInfo, ComponentInfo, MemoryType, Tunables, Unsupported, TableType, GrowthRule, memory_answer, table_answer, memory_failure, Image, images_from, start, first_misplaced, ends_in_minimum, exceeds, minimum_asked, maximum_asked, limits_answer, static_capacity, MemoryError, AllocError, MemoryStripe, Tables, Fibers, GcHeaps, CoreInstances, empty, kind_of, room_of, type_maximum, refusal_of, module_refused, component_refused, type_refused, no_component_left, no_module, table_refused, table_bytes, MemoryWant, Want, new_memory, new_table, new_stack, new_heap, wants_from, Settings}
 use Rattle.pool_slots.specs.declared.errors.AllocError.TheVariants as alloc
-use Rattle.pool_slots.specs.declared.errors.ConcurrencyKind.TheVariants.{MemoryStripe, Tables, Fibers, GcHeaps, CoreInstances}
-use Rattle.pool_table.specs.Elements.{empty}
-use Rattle.pool_table.specs.Making.{kind_of, room_of}
-use Rattle.pool_table.specs.Tables.{type_maximum}
-use Rattle.pool_alloc.specs.Own.{refusal_of}
-use Rattle.pool_alloc.specs.Refusals.{module_refused, component_refused, type_refused}
-use Rattle.pool_alloc.specs.Rows.{no_component_left}
-use Rattle.pool_alloc.specs.Steps.{no_module}
-use Rattle.pool_alloc.specs.TableSteps.{table_refused, table_bytes}
-use Rattle.pool_alloc.specs.Wants.{MemoryWant, Want, new_memory, new_table, new_stack, new_heap, wants_from}
-use Rattle.pool_alloc.specs.declared.pool_core.Settings.{Settings}
 use Rattle.pool_run.specs.Objects.{Objects, MovesNamed, MovesObject, object_at, with_object}
 use Rattle.pool_run.specs.Acts.{MemoryOp, reads, writes, fills, grows, asks_size, Act, requests, on_memory, on_table, drops, purges, releases, act_of, Wanted, an_instance, a_component, a_stack, a_heap, heap_type}
 use Rattle.pool_run.specs.PrivateStacks.{ReadsBytes, WritesBytes, StackTerms, PrivateStack, BeginsStack, StackMoves}
@@ -70,6 +40,7 @@ pub data PrivateGrant : Type 0 where
 abbrev pub Grants : Type 0
 Grants = List (Option PrivateGrant)
 
+-- The live grant of a command; none where it was refused, given back, or isn't there.
 abbrev pub grant_at : Grants → ℕ → Option PrivateGrant
 grant_at grants of = slice_index_or grants of None
 
@@ -114,7 +85,7 @@ pub record Request : Type 0 where
   pub memories : List MemoryWant
   pub tables : List TableType
 
--- all that it is for: memories, and then tables
+-- All that a request is for, in order: memories, and then tables.
 abbrev pub wants_of : Request → List Want
 wants_of request = map new_memory request.memories ++ map new_table request.tables
 
@@ -126,6 +97,7 @@ request_for t number m = record {
   tables = m.tables;
 }
 
+-- The request for an instance of the module with this number.
 abbrev pub request_of : Terms → ℕ → Request
 request_of t number = request_for t number (module_of t number)
 
@@ -177,12 +149,12 @@ own_refusal t (new_table ty) = table_refused (table_answer (Some t.host.rule) (O
 own_refusal t new_stack = None
 own_refusal t new_heap = None
 
--- that of the first of them which has one
+-- The own refusal of the first of these things that has one.
 abbrev pub first_refusal : Terms → List Want → Option AllocError
 first_refusal t [] = None
 first_refusal t (want ∷ wants) = option_or (own_refusal t want) (first_refusal t wants)
 
--- for how many of them a slot is taken: up to that one
+-- For how many of these things a slot is taken: up to the first that has an own refusal.
 abbrev pub slots_asked : Terms → List Want → ℕ
 slots_asked t [] = 0
 slots_asked t (want ∷ wants) = 1 + (if is_some (own_refusal t want) then 0 else slots_asked t wants)
@@ -195,18 +167,20 @@ pub data GivenRefusal : Type 0 where
   no_slot : ℕ → GivenRefusal
   page_fault : ℕ → GivenRefusal
 
--- how it is refused then
+-- The refusal for room where there is no slot for this thing: the limit of the stripe, or of tables.
 abbrev pub limit_for : Terms → Option Want → AllocError
 limit_for t (Some (new_table ty)) = alloc.Limit (record { limit = t.table_slots; kind = Tables })
 limit_for t _ = alloc.Limit (record { limit = stripe_slots t; kind = MemoryStripe t.stripe })
 
+-- The refusal that a given cause is: want of memory, the count of instances, no slot for a thing, or a failed page
+-- call.
 abbrev pub refused_as : Terms → List Want → GivenRefusal → AllocError
 refused_as t wants no_memory = alloc.Memory
 refused_as t wants no_instance = alloc.Limit (record { limit = t.settings.max_core_instances; kind = CoreInstances })
 refused_as t wants (no_slot i) = limit_for t (slice_get wants i)
 refused_as t wants (page_fault i) = alloc.PageFault
 
--- for a thing of a memory's kind pages are called on as it is made
+-- The thing is a memory, for which pages are called on as it is made.
 abbrev pub is_memory : Option Want → Bool
 is_memory (Some (new_memory want)) = true
 is_memory _ = false
@@ -218,6 +192,7 @@ IsInTime t wants no_instance = Unit {0}
 IsInTime t wants (no_slot i) = i < slots_asked t wants
 IsInTime t wants (page_fault i) = (i < slots_asked t wants) × (is_memory (slice_get wants i) ≡ true)
 
+-- The refusal is one that may be given, and comes no later than the first own one would.
 abbrev pub IsGiven : Terms → List Want → AllocError → Type 0
 IsGiven t wants e = (given : GivenRefusal) × (e ≡ refused_as t wants given) × IsInTime t wants given
 
@@ -227,6 +202,7 @@ abbrev pub IsRefused : Option Unsupported → Terms → List Want → AllocError
 IsRefused (Some rule) t wants e = (e ≡ alloc.Unsupported rule) ⊎ (e ≡ alloc.Memory)
 IsRefused None t wants e = (first_refusal t wants ≡ Some e) ⊎ IsGiven t wants e
 
+-- Why this request is refused; a refusal of another kind is no cause.
 abbrev pub IsCause : Terms → Request → Refusal → Type 0
 IsCause t request (Alloc e) = IsRefused request.broken t (wants_of request) e
 IsCause t request _ = ⊥
@@ -287,6 +263,7 @@ size_wanted pages m = min (m.size + pages * page_size m.ty) (2 ^ 64 - page_size 
 abbrev pub memory_grown : ℕ → PrivateMemory → PrivateMemory
 memory_grown size m = record m { size = size; bytes = option_map (λ b. b ++ replicate {A = ℕ} (size - m.size) 0) m.bytes }
 
+-- The reply to a growth that fails once the limiter allowed it: not grown, or an error by the party's rule.
 abbrev pub report : GrowthRule → Reply
 report rule = reported (memory_failure (Some rule) (Ok tt))
 
@@ -317,7 +294,7 @@ left_of has_grown size m = memory_grown size m
 abbrev pub grown_by : GrowthRule → Bool → ℕ → PrivateMemory → PrivateMemory × Reply
 grown_by rule fault pages m = (left_of (growth rule fault pages m).0 (size_wanted pages m) m, (growth rule fault pages m).1)
 
--- whether a call on the pages fails is given
+-- A growth of a memory ended by its rules; whether a call on its pages failed is left open.
 abbrev pub Grows : GrowthRule → ℕ → PrivateMemory → PrivateMemory → Reply → Type 0
 Grows rule pages m new reply = (fault : Bool) × ((new, reply) ≡ grown_by rule fault pages m)
 
@@ -329,40 +306,47 @@ MemoryMoves (fills at len byte) rule m new reply = Writes at (replicate len byte
 MemoryMoves (grows pages) rule m new reply = Grows rule pages m new reply
 MemoryMoves asks_size rule m new reply = (reply ≡ Size m.size) × (new ≡ m)
 
--- the memories of a grant, the grant with another in the place of one, and the same of its tables; a heap has one memory
+-- The memories of a grant; a heap has one.
 abbrev pub memories_in_grant : PrivateGrant → List PrivateMemory
 memories_in_grant (instance_grant g) = g.memories
 memories_in_grant (heap_grant slot m) = m ∷ []
 memories_in_grant _ = []
 
+-- A grant with its memory k replaced.
 abbrev pub put_memory : ℕ → PrivateMemory → PrivateGrant → PrivateGrant
 put_memory k m (instance_grant g) = instance_grant (record g { memories = slice_set g.memories k m })
 put_memory k m (heap_grant slot old) = heap_grant slot (if k == 0 then m else old)
 put_memory k m g = g
 
+-- The tables of a grant, which an instance alone has.
 abbrev pub tables_in_grant : PrivateGrant → List PrivateTable
 tables_in_grant (instance_grant g) = g.tables
 tables_in_grant _ = []
 
+-- A grant with its table k replaced.
 abbrev pub put_table : ℕ → PrivateTable → PrivateGrant → PrivateGrant
 put_table k x (instance_grant g) = instance_grant (record g { tables = slice_set g.tables k x })
 put_table k x g = g
 
--- a stack is the only one of its grant
+-- The stack of a grant, which is the only one.
 abbrev pub stacks_in_grant : PrivateGrant → List PrivateStack
 stacks_in_grant (stack_grant s) = s ∷ []
 stacks_in_grant _ = []
 
+-- A grant with its stack replaced.
 abbrev pub put_stack : ℕ → PrivateStack → PrivateGrant → PrivateGrant
 put_stack k s (stack_grant old) = stack_grant s
 put_stack k s g = g
 
+-- Where the memories of a grant stand in it.
 abbrev pub private_memories : Objects PrivateGrant PrivateMemory
 private_memories = record { in_grant = memories_in_grant; put_in = put_memory }
 
+-- Where the tables of a grant stand in it.
 abbrev pub private_tables : Objects PrivateGrant PrivateTable
 private_tables = record { in_grant = tables_in_grant; put_in = put_table }
 
+-- Where the stack of a grant stands in it.
 abbrev pub private_stacks : Objects PrivateGrant PrivateStack
 private_stacks = record { in_grant = stacks_in_grant; put_in = put_stack }
 
@@ -376,11 +360,12 @@ abbrev pub Drops : Option PrivateGrant → Grants → ℕ → Reply → Grants �
 Drops None grants of reply new = (reply ≡ Refused NoSuchGrant) × (new ≡ grants)
 Drops (Some g) grants of reply new = (reply ≡ Returned) × (new ≡ slice_set grants of None)
 
--- The reply to a purge: a number, whichever that is. A release answers one too, or that there was no memory for it.
+-- The reply to a purge: a number, whichever that is.
 abbrev pub IsPurged : Reply → Type 0
 IsPurged (Purged n) = Unit {0}
 IsPurged _ = ⊥
 
+-- The reply to a release: how many bytes were released, or that there was no memory for it.
 abbrev pub IsReleased : Reply → Type 0
 IsReleased (Released n) = Unit {0}
 IsReleased (Refused refusal) = refusal ≡ Alloc alloc.Memory
@@ -396,10 +381,11 @@ pub record PrivateState : Type 0 where
 abbrev pub OnGrants : (Grants → Reply → Grants → Type 0) → PrivateState → Reply → PrivateState → Type 0
 OnGrants Move s reply new = (grants : Grants) × Move s.grants reply grants × (new ≡ record s { grants = grants })
 
--- a table of a grant beside the calls on the store, and the state with both put back
+-- A table of a live grant, beside the calls on the party's store so far.
 abbrev pub table_at : ℕ → ℕ → PrivateState → Option StoredTable
 table_at of k s = option_map (λ t. record { table = t; calls = s.stores }) (object_at private_tables of k s.grants)
 
+-- A party's state with one table replaced, and with the calls on its store that came with that.
 abbrev pub with_table : ℕ → ℕ → StoredTable → PrivateState → PrivateState
 with_table of k t s = record s { grants = with_object private_tables of k t.table s.grants; stores = t.calls }
 
@@ -433,6 +419,7 @@ abbrev pub HeapRefusal : Terms → MemoryType → AllocError → Type 0
 HeapRefusal t ty alloc.HeapFault = heap_refusal t ty ≡ None
 HeapRefusal t ty e = IsHeapRefused t ty e
 
+-- Why a heap is refused: for what bars it where something does, else for its memory or its maker.
 abbrev pub RefusesHeap : Option AllocError → Terms → MemoryType → AllocError → Type 0
 RefusesHeap (Some barred) t ty e = e ≡ barred
 RefusesHeap None t ty e = HeapRefusal t ty e
@@ -443,7 +430,8 @@ abbrev pub CountsRefused : List ℕ → AllocError → ℕ → ℕ → Type 0
 CountsRefused unmade alloc.HeapFault calls after = (goes_through unmade calls ≡ false) × (after ≡ risen calls)
 CountsRefused unmade e calls after = after ≡ calls
 
--- And one that is granted: the slot has a heap already, which is given, or the maker makes it, where its list lets it.
+-- How often the maker of heaps was called before and after a heap is granted: not at all where its slot had a heap,
+-- else once more, where its list lets it.
 abbrev pub CountsGranted : List ℕ → ℕ → ℕ → Type 0
 CountsGranted unmade calls after = (after ≡ calls) ⊎ ((goes_through unmade calls ≡ true) × (after ≡ risen calls))
 
@@ -473,6 +461,7 @@ Moves t n s (drops of) reply new = OnGrants (λ grants. Drops (grant_at grants o
 Moves t n s (purges number) reply new = IsPurged reply × (new ≡ s)
 Moves t n s releases reply new = IsReleased reply × (new ≡ s)
 
+-- The reply to one command, and what its party has then: by its own terms, and with no pool in it.
 abbrev pub PrivateStep : Terms → ℕ → PrivateState → Command → Reply → PrivateState → Type 0
 PrivateStep t n s command reply new = Moves t n s (act_of command) reply new
 
@@ -483,10 +472,11 @@ StepsBy Step n commands [] s end = end ≡ s
 StepsBy Step n [] (reply ∷ replies) s end = ⊥
 StepsBy Step n (command ∷ commands) (reply ∷ replies) s end = (mid : PrivateState) × Step n s command reply mid × StepsBy Step (n + 1) commands replies mid end
 
--- a party with these grants which called neither, and one of which no command was given yet
+-- What a party has with these grants, before it called its store or its maker of heaps.
 abbrev pub with_grants : Grants → PrivateState
 with_grants grants = record { grants = grants; stores = 0; heaps = 0 }
 
+-- A party's grants before its first command: a place for each command, and no grant.
 abbrev pub no_grants : List Command → Grants
 no_grants commands = replicate (length commands) None
 
@@ -494,7 +484,7 @@ no_grants commands = replicate (length commands) None
 abbrev pub IsPrivateRun : Terms → List Command → List Reply → Type 0
 IsPrivateRun t commands replies = (end : PrivateState) × StepsBy (PrivateStep t) 0 commands replies (with_grants (no_grants commands)) end
 
--- and each command has its reply
+-- The replies are those of a private run, and each command has its reply.
 pub record IsWholeRun (t : Terms) (commands : List Command) (replies : List Reply) : Type 0 where
   pub private : IsPrivateRun t commands replies
   pub all : length replies ≡ length commands

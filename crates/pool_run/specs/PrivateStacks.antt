@@ -1,7 +1,6 @@
 -- The bytes of a memory or of a stack as its party sees them; and a stack, and what each command on it makes of it.
 use Rattle.std.specs.Prelude.{◌≡◌, ℕ, ◌+◌, ◌<◌, ◌≤◌, List, length, replicate, slice_range, Bool, true, is_some, Option, None, IfSome, option_map}
-use Rattle.pool_pages.specs.Contents.{put}
-use Rattle.pool_limits.specs.declared.errors.Trap.TheVariants.{MemoryOutOfBounds}
+use Rattle.pool_run.specs.Imports.{put, MemoryOutOfBounds}
 use Rattle.pool_slots.specs.declared.errors.AllocError.TheVariants as alloc
 use Rattle.pool_run.specs.Acts.{MemoryOp, reads, writes, fills, grows, asks_size}
 use Rattle.pool_run.specs.declared.reply.Reply.{Reply}
@@ -48,6 +47,7 @@ pub record BeginsStack (t : StackTerms) (tells : Bool) (at : ℕ) (s : PrivateSt
 abbrev pub stack_written : ℕ → List ℕ → PrivateStack → PrivateStack
 stack_written at new s = record s { bytes = option_map (put at new) s.bytes }
 
+-- A write to a stack: a trap past its size, else the bytes are there.
 abbrev pub StackWrites : ℕ → List ℕ → PrivateStack → PrivateStack → Reply → Type 0
 StackWrites at bytes s new reply = WritesBytes s.size at (length bytes) (stack_written at bytes s) s new reply
 

@@ -1,13 +1,7 @@
 -- A table as its party sees it, and what each command on it makes of it.
 use Rattle.std.specs.Prelude.{◌≡◌, ℕ, zero, suc, ◌+◌, ◌-◌, ◌^◌, ◌<◌, ◌≤◌, ◌==◌, ◌++◌, List, slice_get, replicate, Bool, true, not, nat_lt, if◌then◌else◌, Option, Some, IfSome, option_map, Ok}
-use Rattle.std.specs.List.{list_any}
-use Rattle.pool_pages.specs.Contents.{put_all}
-use Rattle.pool_pages.specs.Told.{risen}
-use Rattle.pool_limits.specs.Growth.{GrowthRule, table_answer, table_failure}
-use Rattle.pool_limits.specs.declared.errors.Trap.TheVariants.{TableOutOfBounds}
-use Rattle.pool_table.specs.Elements.{ElementKind, functions, gc_refs, continuations, empty, type_of}
+use Rattle.pool_run.specs.Imports.{list_any, put_all, risen, GrowthRule, table_answer, table_failure, TableOutOfBounds, ElementKind, functions, gc_refs, continuations, empty, type_of, element_of}
 use Rattle.pool_table.specs.Elements as elem
-use Rattle.pool_alloc.specs.TableLeases.{element_of}
 use Rattle.pool_run.specs.Acts.{TableOp, gets, sets, lengthens, asks_length}
 use Rattle.pool_run.specs.GrowthEnds.{GrowthEnd, as_it_was, has_grown, if_allowed, reported}
 use Rattle.pool_run.specs.TableValues.{element_for}
@@ -89,6 +83,7 @@ filled_by failing at count e t =
 abbrev pub table_grown : ℕ → PrivateTable → PrivateTable
 table_grown by t = record t { size = t.size + by; elements = option_map (λ es. es ++ replicate by (empty t.kind)) t.elements }
 
+-- The reply to a table's growth that fails once the limiter allowed it.
 abbrev pub table_report : GrowthRule → Reply
 table_report rule = reported (table_failure (Some rule) (Ok tt))
 

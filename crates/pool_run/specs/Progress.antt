@@ -1,12 +1,7 @@
 -- How far the parties are: how many calls began, whether one is under way, and at most how many turns it still takes.
 use Rattle.std.specs.Prelude.{◌≡◌, ◌≢◌, ℕ, ◌+◌, ◌<◌, ◌≤◌, List, length, replicate, slice_get, slice_index_or, nat_lt, ◌&&◌, Bool, true, false, not, Option, Some, None}
-use Rattle.pool_index.specs.Shard.{one_if}
-use Rattle.pool_alloc.specs.Bounds.{bound_of, steps_left}
-use Rattle.pool_alloc.specs.Stepping.{is_idle}
-use Rattle.pool_alloc.specs.declared.pool_core.PoolCore.{PoolCore}
+use Rattle.pool_run.specs.Imports.{one_if, bound_of, steps_left, is_idle, PoolCore, Grant, ModuleAsked, PlainHeap}
 use Rattle.pool_alloc.specs.declared.frame.Call.TheVariants as call
-use Rattle.pool_alloc.specs.declared.frame.Grant.{Grant}
-use Rattle.pool_alloc.specs.Asked.{ModuleAsked}
 use Rattle.pool_run.specs.Folds.{RunState, Folds, IsUnderWay}
 use Rattle.pool_run.specs.RunsMade.{Background, commands_in}
 use Rattle.pool_run.specs.Worlds.{NameModules}
@@ -14,7 +9,6 @@ use Rattle.pool_run.specs.Acts.{Act, requests, on_memory, on_table, drops, purge
 use Rattle.pool_run.specs.declared.command.Command.{Command}
 use Rattle.pool_run.specs.declared.input.Party.{Party}
 use Rattle.pool_run.specs.declared.running_party.RunningParty.{RunningParty}
-use Rattle.pool_slots.specs.declared.listed_heaps.PlainHeap.{PlainHeap}
 
 module _ {P : Type 0} where
   -- the party's call is under way
@@ -32,6 +26,7 @@ module _ {P : Type 0} where
   abbrev pub begun_by : RunningParty P → ℕ
   begun_by p = p.done + one_if p.keyed + one_if (not (is_idle p.frame.phase))
 
+  -- How many calls a party began; none where there is no such party.
   abbrev pub calls_begun : Option (RunningParty P) → ℕ
   calls_begun None = 0
   calls_begun (Some p) = begun_by p
@@ -40,6 +35,7 @@ module _ {P : Type 0} where
   abbrev pub begins_by : ℕ → RunningParty P → Bool
   begins_by count p = is_idle p.frame.phase && nat_lt p.done count
 
+  -- The next turn of a party begins a call.
   abbrev pub begins_call : ℕ → Option (RunningParty P) → Bool
   begins_call count None = false
   begins_call count (Some p) = begins_by count p
@@ -49,20 +45,23 @@ module _ {P : Type 0} where
   turns_left c None = 0
   turns_left c (Some p) = steps_left c p.frame
 
-  -- At most how many turns a call takes, by the sizes of the pool and by what is asked for, given back or purged alone, and
-  -- one where that isn't there.
+  -- At most how many turns a request for an instance takes, by the sizes of the pool and of the module; one where there
+  -- is no such module.
   abbrev pub bound_asked : PoolCore P PlainHeap → Option ModuleAsked → ℕ
   bound_asked c None = 1
   bound_asked c (Some m) = bound_of c (call.Module m)
 
+  -- At most how many turns the give-back of a grant takes.
   abbrev pub bound_returned : PoolCore P PlainHeap → Option (Grant P PlainHeap) → ℕ
   bound_returned c None = 1
   bound_returned c (Some grant) = bound_of c (call.GiveBack grant)
 
+  -- At most how many turns the purge of a module takes.
   abbrev pub bound_purged : PoolCore P PlainHeap → Option ModuleAsked → ℕ
   bound_purged c None = 1
   bound_purged c (Some m) = bound_of c (call.Purge m.id)
 
+  -- At most how many turns the call takes that an act begins; an operation on bytes or elements takes one.
   abbrev pub bound_begun : List ModuleAsked → Act → PoolCore P PlainHeap → RunningParty P → ℕ
   bound_begun modules (requests (an_instance number)) c p = bound_asked c (slice_get modules number)
   bound_begun modules (requests (a_component info)) c p = bound_of c (call.Component info)
@@ -74,15 +73,17 @@ module _ {P : Type 0} where
   bound_begun modules (purges number) c p = bound_purged c (slice_get modules number)
   bound_begun modules releases c p = bound_of c call.Release
 
-  -- the same of the party's next call; its stripe is drawn in one turn
+  -- At most how many turns a party's next call takes, by whether its stripe is drawn already, which takes one turn.
   abbrev pub bound_keyed : Bool → List ModuleAsked → Option Command → PoolCore P PlainHeap → RunningParty P → ℕ
   bound_keyed false modules next c p = 1
   bound_keyed true modules None c p = 1
   bound_keyed true modules (Some command) c p = bound_begun modules (act_of command) c p
 
+  -- At most how many turns the next call of this party takes.
   abbrev pub bound_by : List ModuleAsked → List Command → PoolCore P PlainHeap → RunningParty P → ℕ
   bound_by modules commands c p = bound_keyed p.keyed modules (slice_get commands p.done) c p
 
+  -- At most how many turns the next call of a party takes.
   abbrev pub bound_next : List ModuleAsked → List Command → PoolCore P PlainHeap → Option (RunningParty P) → ℕ
   bound_next modules commands c None = 1
   bound_next modules commands c (Some p) = bound_by modules commands c p

@@ -1,13 +1,8 @@
 -- What the replies to a party tell of the pool beside its private run: the slots of its memories, and that a request is
 -- granted where there is room for it.
 use Rattle.std.specs.Prelude.{◌≡◌, ◌≢◌, ℕ, ◌+◌, ◌<◌, ◌≤◌, List, [], ◌∷◌, length, sum_by, slice_index_or, All, ◌⊎◌, Bool, true, false, Option, Some, None, IfSome}
-use Rattle.pool_pages.specs.MakerTold.{MakerTold, plan_for}
-use Rattle.pool_pages.specs.declared.pages.RegionName.TheVariants.{Memory as memory_region}
-use Rattle.pool_limits.specs.Growth.{always}
-use Rattle.pool_slots.specs.declared.errors.AllocError.{AllocError}
+use Rattle.pool_run.specs.Imports.{MakerTold, plan_for, memory_region, always, AllocError, ConcurrencyKind, MemoryStripe, Tables, GcHeaps, CoreInstances}
 use Rattle.pool_slots.specs.declared.errors.AllocError.TheVariants as alloc
-use Rattle.pool_slots.specs.declared.errors.ConcurrencyKind.{ConcurrencyKind}
-use Rattle.pool_slots.specs.declared.errors.ConcurrencyKind.TheVariants.{MemoryStripe, Tables, GcHeaps, CoreInstances}
 use Rattle.pool_run.specs.Private.{PrivateMemory, PrivateGrant, instance_grant, component_grant, heap_grant, PrivateState, PrivateStep, Grants, Terms, grant_at, memories_in_grant, tables_in_grant, stacks_in_grant, private_memories, Request, request_of, wants_of, stripe_slots, slots_asked, growth, StepsBy, with_grants, no_grants}
 use Rattle.pool_run.specs.PrivateTables.{Host}
 use Rattle.pool_run.specs.Objects.{object_at}
@@ -17,52 +12,62 @@ use Rattle.pool_run.specs.declared.reply.Reply.{Reply}
 use Rattle.pool_run.specs.declared.reply.Reply.TheVariants.{Instance, Component, Stack, Heap, Refused}
 use Rattle.pool_run.specs.declared.reply.Refusal.TheVariants.{Alloc}
 
--- how many memories are live, how many tables, and how many stacks
+-- How many memories a live grant has.
 abbrev pub memories_in : Option PrivateGrant → ℕ
 memories_in None = 0
 memories_in (Some g) = length (memories_in_grant g)
 
+-- How many tables a live grant has.
 abbrev pub tables_in : Option PrivateGrant → ℕ
 tables_in None = 0
 tables_in (Some g) = length (tables_in_grant g)
 
+-- How many stacks a live grant has.
 abbrev pub stacks_in : Option PrivateGrant → ℕ
 stacks_in None = 0
 stacks_in (Some g) = length (stacks_in_grant g)
 
+-- How many memories a party's live grants have, with those of heaps.
 abbrev pub live_count : Grants → ℕ
 live_count grants = sum_by memories_in grants
 
+-- How many tables a party's live grants have.
 abbrev pub table_count : Grants → ℕ
 table_count grants = sum_by tables_in grants
 
+-- How many stacks a party's live grants have.
 abbrev pub stack_count : Grants → ℕ
 stack_count grants = sum_by stacks_in grants
 
--- and how many instances, and how many components
+-- 1 for a live grant that is an instance.
 abbrev pub instances_in : Option PrivateGrant → ℕ
 instances_in (Some (instance_grant g)) = 1
 instances_in _ = 0
 
+-- 1 for a live grant that is a component.
 abbrev pub components_in : Option PrivateGrant → ℕ
 components_in (Some component_grant) = 1
 components_in _ = 0
 
--- The slots of a grant's heaps: it is one heap, or has none. And how many heaps there are.
+-- The slots of a grant's heaps: it is one heap, or has none.
 abbrev pub heaps_in_grant : PrivateGrant → List ℕ
 heaps_in_grant (heap_grant slot m) = slot ∷ []
 heaps_in_grant _ = []
 
+-- How many heaps a live grant has.
 abbrev pub heaps_in : Option PrivateGrant → ℕ
 heaps_in None = 0
 heaps_in (Some g) = length (heaps_in_grant g)
 
+-- How many live grants of a party are instances.
 abbrev pub instance_count : Grants → ℕ
 instance_count grants = sum_by instances_in grants
 
+-- How many live grants of a party are components.
 abbrev pub component_count : Grants → ℕ
 component_count grants = sum_by components_in grants
 
+-- How many heaps a party's live grants have.
 abbrev pub heap_count : Grants → ℕ
 heap_count grants = sum_by heaps_in grants
 
@@ -78,26 +83,31 @@ pub record World : Type 0 where
 abbrev pub open_host : Host
 open_host = record { rule = always; failing = []; unmade = [] }
 
--- the world of a party with this host, of one in this stripe, and that of party i in its stripe
+-- The world as a party with this host sees it.
 abbrev pub under : Host → World → World
 under host w = record w { terms = record w.terms { host = host } }
 
+-- The world as a party of this stripe sees it.
 abbrev pub in_stripe : ℕ → World → World
 in_stripe stripe w = record w { terms = record w.terms { stripe = stripe } }
 
+-- The world as party i sees it, in its stripe and with its host.
 abbrev pub world_at : World → ℕ → ℕ → World
 world_at w i stripe = in_stripe stripe (under (slice_index_or w.hosts i open_host) w)
 
--- no live memory is in this slot, no live table in that one, no live stack in the third, and no live heap in the last
+-- No live memory of the party is in this slot.
 abbrev pub HasNoMemoryIn : ℕ → Grants → Type 0
 HasNoMemoryIn slot grants = (i : ℕ) → IfSome (grant_at grants i) (λ g. All (λ m. m.slot ≢ slot) (memories_in_grant g))
 
+-- No live table of the party is in this slot.
 abbrev pub HasNoTableIn : ℕ → Grants → Type 0
 HasNoTableIn slot grants = (i : ℕ) → IfSome (grant_at grants i) (λ g. All (λ t. t.slot ≢ slot) (tables_in_grant g))
 
+-- No live stack of the party is in this slot.
 abbrev pub HasNoStackIn : ℕ → Grants → Type 0
 HasNoStackIn slot grants = (i : ℕ) → IfSome (grant_at grants i) (λ g. All (λ s. s.slot ≢ slot) (stacks_in_grant g))
 
+-- No live heap of the party is in this slot.
 abbrev pub HasNoHeapIn : ℕ → Grants → Type 0
 HasNoHeapIn slot grants = (i : ℕ) → IfSome (grant_at grants i) (λ g. All (λ at. at ≢ slot) (heaps_in_grant g))
 
@@ -131,6 +141,7 @@ IsFull w request grants _ = ⊥
 abbrev pub MayFault : World → ℕ → Type 0
 MayFault w i = IfSome (plan_for (memory_region i) w.maker) (λ plan. 0 < length plan)
 
+-- The plan lists a call on the region of some memory slot.
 abbrev pub SomeMayFault : World → Type 0
 SomeMayFault w = (i : ℕ) × (i < w.terms.slots) × MayFault w i
 
@@ -167,6 +178,7 @@ IsHeapFull w grants (MemoryStripe s) = stripe_slots w.terms ≤ live_count grant
 IsHeapFull w grants GcHeaps = w.terms.heap_slots ≤ heap_count grants
 IsHeapFull w grants _ = ⊥
 
+-- What a heap's refusal tells: a party alone is refused for room only where its own grants fill the pool.
 abbrev pub IsForHeapRoom : World → Grants → AllocError → Type 0
 IsForHeapRoom w grants (alloc.Limit e) = w.alone ≡ true → IsHeapFull w grants e.kind
 IsForHeapRoom w grants (alloc.PageFault) = SomeMayFault w × (live_count grants < w.terms.slots)
@@ -194,10 +206,12 @@ TellsRequest w (a_heap limits) grants reply = TellsHeapRoom w grants reply
 abbrev pub TellsGrowth : World → ℕ → PrivateMemory → Reply → Type 0
 TellsGrowth w pages m reply = (reply ≡ (growth w.terms.host.rule false pages m).1) ⊎ MayFault w m.slot
 
+-- What the reply to an operation on a memory tells of the pool: only that to a growth tells something.
 abbrev pub TellsMove : World → MemoryOp → PrivateMemory → Reply → Type 0
 TellsMove w (grows pages) m reply = TellsGrowth w pages m reply
 TellsMove w _ m reply = Unit {0}
 
+-- What the reply to a command tells of the pool.
 abbrev pub TellsOfPool : World → Grants → Act → Reply → Type 0
 TellsOfPool w grants (requests wanted) reply = TellsRequest w wanted grants reply
 TellsOfPool w grants (on_memory of k op) reply = IfSome (object_at private_memories of k grants) (λ m. TellsMove w op m reply)

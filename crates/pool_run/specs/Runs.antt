@@ -1,21 +1,7 @@
 -- What a run of an input is: the turns of its schedule over a pool as it is made, and then of each party until it has
 -- nothing left; and the output, which tells each party a private run.
 use Rattle.std.specs.Prelude.{◌++◌, ◌≡◌, ℕ, ◌<◌, ◌&&◌, ◌||◌, ◌==◌, List, [], ◌∷◌, ◌+◌, length, map, slice_get, nat_lt, if◌then◌else◌, ◌⊎◌, Bool, true, false, Option, Some, None, IfSome}
-use Rattle.std.specs.List.{Any, list_any, range_with_len}
-use Rattle.pool_pages.specs.Count.{rounded_up}
-use Rattle.pool_pages.specs.FaultPlans.{failing_maker, planned_faults}
-use Rattle.pool_pages.specs.MakerTold.{MakerTold, Planned, calls_of, fails_making, plan_for}
-use Rattle.pool_pages.specs.SettingsRules.{slab_stripes}
-use Rattle.pool_pages.specs.Told.{Told, Rose}
-use Rattle.pool_pages.specs.declared.bad_config.BadConfig.{BadConfig as BrokenRule}
-use Rattle.pool_pages.specs.declared.pages.RegionName.{RegionName}
-use Rattle.pool_pages.specs.declared.pages.RegionName.TheVariants.{Memory as memory_region, Table as table_region, Stack as stack_region}
-use Rattle.pool_pages.specs.declared.module_types.ModuleInfo.{ModuleInfo}
-use Rattle.pool_pages.specs.declared.module_types.Tunables.{Tunables}
-use Rattle.pool_images.specs.Images.{makes_listed_images}
-use Rattle.pool_alloc.specs.Made.{IsMadeCore, settings_of}
-use Rattle.pool_alloc.specs.Sums.{metrics_of}
-use Rattle.pool_alloc.specs.Asked.{ModuleAsked}
+use Rattle.pool_run.specs.Imports.{Any, list_any, range_with_len, rounded_up, failing_maker, planned_faults, MakerTold, Planned, calls_of, fails_making, plan_for, slab_stripes, Told, Rose, BrokenRule, RegionName, memory_region, table_region, stack_region, ModuleInfo, Tunables, makes_listed_images, IsMadeCore, settings_of, metrics_of, ModuleAsked}
 use Rattle.pool_run.specs.Folds.{RunParts, RunState, HoldsThroughout, Folds, Runs, commands_of, replies_to, told_state}
 use Rattle.pool_run.specs.Made.{calls_made}
 use Rattle.pool_run.specs.Numbers.{calls_of_run}
@@ -88,15 +74,17 @@ stripes_of input = slab_stripes input.config input.tunables input.page input.off
 abbrev pub memory_calls : ℕ → List ℕ
 memory_calls stripes = if nat_lt 1 stripes then 0 ∷ 1 ∷ [] else 0 ∷ []
 
+-- All regions that are made with the pool of an input, each with the calls that make it.
 abbrev pub makings_for : Input → List Making
 makings_for input =
     (makings_of memory_region (memory_calls (stripes_of input)) input.config.limits.total_memories ++ makings_of table_region (0 ∷ []) input.config.limits.total_tables)
     ++ makings_of stack_region (0 ∷ 1 ∷ []) input.config.limits.total_stacks
 
--- the making of the region is listed as one that fails; or one of all the calls that make it
+-- The making of a region is listed as one that fails.
 abbrev pub region_unmade : List Planned → Making → Bool
 region_unmade plan m = fails_making m.region plan
 
+-- One of the calls that make a region is listed as one that fails.
 abbrev pub region_listed : List Planned → Making → Bool
 region_listed plan m = list_any (λ call. list_any (λ n. n == call) (calls_of m.region plan)) m.calls
 
@@ -104,15 +92,16 @@ region_listed plan m = list_any (λ call. list_any (λ n. n == call) (calls_of m
 abbrev pub module_listed : Tunables → ℕ → ℕ → List Planned → ModuleInfo → Bool
 module_listed tunables page n plan m = has_images tunables page m.memories && makes_listed_images (record { 0 = n }) plan m.memories
 
--- those of some module are, of which the first has this number
+-- The images of some module are made and listed as failing; the first module has this number.
 abbrev pub images_listed : Tunables → ℕ → ℕ → List Planned → List ModuleInfo → Bool
 images_listed tunables page n plan [] = false
 images_listed tunables page n plan (m ∷ ms) = module_listed tunables page n plan m || images_listed tunables page (n + 1) plan ms
 
--- a making of a region of the pool, or of an image, is listed as one that fails; or another call that makes such a region
+-- The plan lists the making of a region of the pool, or of an image.
 abbrev pub making_listed : Input → List Planned → Bool
 making_listed input plan = list_any (region_unmade plan) (makings_for input) || images_listed input.tunables input.page 0 plan input.modules
 
+-- The plan lists some call without which the pool or its images aren't made.
 abbrev pub start_listed : Input → List Planned → Bool
 start_listed input plan = list_any (region_listed plan) (makings_for input) || images_listed input.tunables input.page 0 plan input.modules
 
@@ -166,13 +155,14 @@ NamesRule broken (BadConfig e) = broken ≡ Some e
 NamesRule broken PageFault = broken ≡ None
 NamesRule broken Memory = broken ≡ None
 
--- No image of the module of this number, or of some module, could be made: the maker's count of faults rose. Its own list
--- has that making, or the maker behind it failed; and where its plan is told, that lists it.
+-- No image of the module of this number could be made: the maker's count of faults rose. Its own list has that making,
+-- or the maker behind it failed; and where its plan is told, that lists it.
 pub record ModuleFaults (tunables : Tunables) (page n : ℕ) (m : ModuleInfo) (old new : MakerTold) : Type 0 where
   pub rose : Rose old.faults new.faults
   pub cause : (module_listed tunables page n old.listed m ≡ true) ⊎ Rose old.behind new.behind
   pub planned : IfSome old.plan (λ plan. module_listed tunables page n plan m ≡ true)
 
+-- The images of some module could not be made, for a listed making or a fault of the maker behind.
 pub record ModulesFault (tunables : Tunables) (page : ℕ) (ms : List ModuleInfo) (old new : MakerTold) : Type 0 where
   pub rose : Rose old.faults new.faults
   pub cause : (images_listed tunables page 0 old.listed ms ≡ true) ⊎ Rose old.behind new.behind
@@ -187,6 +177,7 @@ pub record IsGivenUp {P : Type 0} (told : P → Told) (maker : MakerTold) (m : M
   pub counted : Rose 0 (told region).faults
   pub listed : IfSome (plan_for m.region maker) (λ calls. list_any (λ n. n == 1) calls ≡ true)
 
+-- Some region of the pool was made and given up.
 abbrev pub GivesUp : {P : Type 0} → (P → Told) → Input → MakerTold → Type 0
 GivesUp told input maker = Any (IsGivenUp told maker) (makings_for input)
 

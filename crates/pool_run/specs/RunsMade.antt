@@ -1,12 +1,6 @@
 -- A run as it is made, and what the type that keeps it promises at each moment.
 use Rattle.std.specs.Prelude.{◌≡◌, ℕ, ◌+◌, ◌^◌, ◌<◌, ◌≤◌, List, [], length, map, slice_index_or, replicate, sum_by, All, Bool, true, false, Option, Some, None}
-use Rattle.pool_alloc.specs.Stages.{Stage, keys, stage_of}
-use Rattle.pool_alloc.specs.Calls.{frame_made}
-use Rattle.pool_alloc.specs.Reserved.{Reserved, with_item}
-use Rattle.pool_alloc.specs.Whole.{IsPartitioned}
-use Rattle.pool_alloc.specs.declared.pool_core.PoolCore.{PoolCore}
-use Rattle.pool_alloc.specs.declared.pool_core.Settings.{Settings}
-use Rattle.pool_alloc.specs.Asked.{ModuleAsked}
+use Rattle.pool_run.specs.Imports.{Stage, keys, stage_of, frame_made, Reserved, with_item, IsPartitioned, PoolCore, Settings, ModuleAsked, PlainHeap}
 use Rattle.pool_run.specs.Rooms.{World}
 use Rattle.pool_run.specs.Limits.{IsWithinCounts}
 use Rattle.pool_run.specs.Ties.{held_by_party, IsReserved}
@@ -16,7 +10,6 @@ use Rattle.pool_run.specs.declared.input.PartyLimits.{PartyLimits}
 use Rattle.pool_run.specs.declared.reply.Reply.{Reply}
 use Rattle.pool_run.specs.declared.running_party.RunningParty.{RunningParty}
 use Rattle.pool_run.specs.declared.slot_lists.SlotLists.{SlotLists}
-use Rattle.pool_slots.specs.declared.listed_heaps.PlainHeap.{PlainHeap}
 
 -- the commands of each party
 abbrev pub commands_in : List Party → List (List Command)
@@ -32,15 +25,16 @@ pub record Background : Type 0 where
   pub modules : List ModuleAsked
   pub inputs : List (List Command)
 
--- and what each party was told so far
+-- What a run is of, and what each party was told so far.
 pub record SoFar : Type 0 where
   pub of : Background
   pub told : List (List Reply)
 
--- an empty list with room for a reply to each command of a party, and such a list with one reply more, if there is one
+-- An empty list with room for a reply to each command of a party.
 abbrev pub room_for : Party → Reserved Reply
 room_for p = record { items = []; room = length p.commands }
 
+-- The replies so far, with one more if the turn brought one.
 abbrev pub with_told : Option Reply → Reserved Reply → Reserved Reply
 with_told None told = told
 with_told (Some reply) told = with_item reply told
@@ -63,9 +57,11 @@ module _ {P : Type 0} where
     live = replicate places None;
   }
 
+  -- A party as a run begins, with what its host answers and with room for its grants.
   abbrev pub party_made_for : Settings → Party → RunningParty P
   party_made_for s p = party_made p.home p.limits p.gc_faults p.heap_faults s (length p.commands)
 
+  -- All parties as a run begins.
   abbrev pub parties_made : Settings → List Party → List (RunningParty P)
   parties_made s parties = map (party_made_for s) parties
 

@@ -1,29 +1,29 @@
 -- The values to which commands set elements of tables, and the elements that replies tell.
 use Rattle.std.specs.Prelude.{ℕ, ◌%◌, ◌^◌, ◌==◌, ◌&&◌, ◌||◌, nat_lt, Bool, true, false, if◌then◌else◌, Option, Some, None, is_some}
-use Rattle.pool_pages.specs.declared.table_type.TableElementType.{TableElementType}
-use Rattle.pool_pages.specs.declared.table_type.TableElementType.TheVariants as of_type
-use Rattle.pool_table.specs.Elements.{Element, func, gc_ref, cont}
-use Rattle.pool_table.specs.declared.element.VMContObj.{VMContObj}
+use Rattle.pool_run.specs.Imports.{TableElementType, Element, func, gc_ref, cont, VMContObj}
+use Rattle.pool_types.specs.declared.table_type.TableElementType.TheVariants as of_type
 use Rattle.pool_run.specs.declared.command.TableValue.{TableValue}
 use Rattle.pool_run.specs.declared.command.TableValue.TheVariants.{Null, Number, Continuation}
 
--- a function has an even number above zero, a GC reference one above zero of 32 bits
+-- The number can be a function: an even one above zero.
 abbrev pub is_function : ℕ → Bool
 is_function n = nat_lt 0 n && n % 2 == 0
 
+-- The number can be a reference to a collected object: above zero, in 32 bits.
 abbrev pub is_reference : ℕ → Bool
 is_reference n = nat_lt 0 n && nat_lt n (2 ^ 32)
 
--- The function, the reference or the continuation that a value is, and null where it is none of that kind. The input is
--- invalid then, unless the value is null.
+-- The function that a command's value is, or null. A value of another kind makes the input invalid.
 abbrev pub function_of : TableValue → Option ℕ
 function_of (Number n) = if is_function n then Some n else None
 function_of _ = None
 
+-- The reference that a command's value is, or null.
 abbrev pub reference_of : TableValue → Option ℕ
 reference_of (Number n) = if is_reference n then Some n else None
 reference_of _ = None
 
+-- The continuation that a command's value is, or null.
 abbrev pub continuation_of : TableValue → Option VMContObj
 continuation_of (Continuation object) = if nat_lt 0 object.contref then Some object else None
 continuation_of _ = None
@@ -34,6 +34,7 @@ element_for of_type.Func value = func (function_of value)
 element_for of_type.GcRef value = gc_ref (reference_of value)
 element_for of_type.Cont value = cont (continuation_of value)
 
+-- The value is null.
 abbrev pub is_null : TableValue → Bool
 is_null Null = true
 is_null _ = false

@@ -1,27 +1,6 @@
 -- What a party was told, and what it has: between two turns they fit each other.
 use Rattle.std.specs.Prelude.{◌≡◌, ℕ, ◌+◌, ◌<◌, ◌≤◌, List, [], length, slice_get, slice_index_or, slice_set, sum_by, All, Bool, true, false, Option, Some, None, IsSome, IfSome}
-use Rattle.pool_pages.specs.MakerTold.{MakerTold}
-use Rattle.pool_pages.specs.declared.module_types.ComponentInfo.{ComponentInfo}
-use Rattle.pool_pages.specs.declared.module_types.Limits.{Limits}
-use Rattle.pool_slots.specs.declared.errors.AllocError.{AllocError}
-use Rattle.pool_alloc.specs.Refusals.{component_refused}
-use Rattle.pool_alloc.specs.Reserved.{Reserved}
-use Rattle.pool_alloc.specs.Searches.{IsSearched}
-use Rattle.pool_alloc.specs.Stages.{Progress, untested, uncounted, admitted, tests_heap, seeks_heap, counts_heap, Stage, no_call, keys, asks, returning, refusing, purging, reserving, releasing, stage_of, seeks_stack, tests_component, counts_component}
-use Rattle.pool_alloc.specs.Steps.{memories_wanted, images_wanted, tables_wanted, info_wanted, IsModule}
-use Rattle.pool_alloc.specs.Wants.{Want, wants_from}
-use Rattle.pool_slots.specs.declared.slot_name.SlotName.{SlotName}
-use Rattle.pool_slots.specs.declared.listed_heaps.PlainHeap.{PlainHeap}
-use Rattle.pool_alloc.specs.Places.{Thing, right_to, region_of, away_count, kept_count, frame_count, frame_instances, phase_components, phase_stacks, phase_heaps, frame_memories, frame_tables}
-use Rattle.pool_alloc.specs.Stepping.{grant_count, grant_instances, grant_components, grant_memories, grant_tables, grant_stacks, grant_heaps}
-use Rattle.pool_alloc.specs.Calls.{IsGrant}
-use Rattle.pool_alloc.specs.Sound.{IsCore, IsFrame}
-use Rattle.pool_alloc.specs.Whole.{Holding, IsPartitioned}
-use Rattle.pool_alloc.specs.declared.pool_core.PoolCore.{PoolCore}
-use Rattle.pool_alloc.specs.declared.frame.Frame.{Frame}
-use Rattle.pool_alloc.specs.declared.frame.Asked.{Asked}
-use Rattle.pool_alloc.specs.declared.frame.Asked.TheVariants.{Heap as heap_asked}
-use Rattle.pool_alloc.specs.declared.frame.Grant.{Grant}
+use Rattle.pool_run.specs.Imports.{MakerTold, ComponentInfo, Limits, AllocError, component_refused, Reserved, IsSearched, Progress, untested, uncounted, admitted, tests_heap, seeks_heap, counts_heap, Stage, no_call, keys, asks, returning, refusing, purging, reserving, releasing, stage_of, seeks_stack, tests_component, counts_component, memories_wanted, images_wanted, tables_wanted, info_wanted, IsModule, Want, wants_from, SlotName, PlainHeap, Thing, right_to, region_of, away_count, kept_count, frame_count, frame_instances, phase_components, phase_stacks, phase_heaps, frame_memories, frame_tables, grant_count, grant_instances, grant_components, grant_memories, grant_tables, grant_stacks, grant_heaps, IsGrant, IsCore, IsFrame, Holding, IsPartitioned, PoolCore, Frame, Asked, heap_asked, Grant}
 use Rattle.pool_run.specs.Private.{Grants, Terms, module_of, Request, request_of, wants_of, grant_at, own_refusal, IsCause, IsComponentRefused, stack_refusal, heap_barred, heap_refusal, CountsGranted, CountsRefused, RefusesHeap, PrivateState, StepsBy, with_grants}
 use Rattle.pool_run.specs.Rooms.{World, PooledStep, IsForRoom, TellsComponentRoom, TellsStackRoom, TellsHeapRoom, instance_count}
 use Rattle.pool_run.specs.Turns.{grants_of}
@@ -44,6 +23,7 @@ pub record IsAdmitted (w : World) (request : Request) (told : Grants) (n : ℕ) 
   pub counted : instance_count told < w.terms.settings.max_core_instances
   pub allowed : (k : ℕ) → k < n → HasNoRefusal w.terms (wants_of request) k
 
+-- What is known of a request for an instance, by how far it is: no rule is broken once it is tested.
 abbrev pub IsSoFar : World → Request → Grants → Progress → Type 0
 IsSoFar w request told untested = Unit {0}
 IsSoFar w request told uncounted = request.broken ≡ None
@@ -67,21 +47,21 @@ pub record IsRequest (w : World) (commands : List Command) (done : ℕ) (asked :
   pub asked_for : IsFor w.terms number asked
   pub so_far : IsSoFar w (request_of w.terms number) told progress
 
--- it asks for a component of which this is known
+-- The command asks for a component of which this is known.
 abbrev pub IsForComponent : List Command → ℕ → ComponentInfo → Type 0
 IsForComponent commands done info = act_at commands done ≡ Some (requests (a_component info))
 
--- it asks for a stack
+-- The command asks for a stack.
 abbrev pub IsForStack : List Command → ℕ → Type 0
 IsForStack commands done = act_at commands done ≡ Some (requests a_stack)
 
--- it asks for a component that breaks no rule
+-- The command asks for a component that breaks no rule.
 pub record IsForSupported (w : World) (commands : List Command) (done : ℕ) : Type 0 where
   pub info : ComponentInfo
   pub act : IsForComponent commands done info
   pub supported : component_refused w.terms.settings info ≡ None
 
--- it asks for a heap with a memory of so many pages
+-- The command asks for a heap with a memory of so many pages.
 abbrev pub IsForHeap : List Command → ℕ → Limits → Type 0
 IsForHeap commands done limits = act_at commands done ≡ Some (requests (a_heap limits))
 
@@ -120,7 +100,7 @@ pub record IsToReturn (commands : List Command) (done : ℕ) (now told : Grants)
   pub there : IsSome (grant_at told of)
   pub ended : now ≡ slice_set told of None
 
--- it purges a module
+-- The command purges a module.
 pub record IsPurge (commands : List Command) (done : ℕ) : Type 0 where
   pub number : ℕ
   pub act : act_at commands done ≡ Some (purges number)
@@ -147,17 +127,19 @@ TiedAs w purging commands done asked now told = (now ≡ told) × IsPurge comman
 TiedAs w reserving commands done asked now told = (now ≡ told) × (act_at commands done ≡ Some releases)
 TiedAs w releasing commands done asked now told = (now ≡ told) × (act_at commands done ≡ Some releases)
 
--- a request for an instance is under way, to which the reply lists slots; or one for whatever it is
+-- A request for an instance is under way, to which the reply lists slots.
 abbrev pub is_for_instance : Progress → Bool
 is_for_instance untested = true
 is_for_instance uncounted = true
 is_for_instance (admitted n) = true
 is_for_instance _ = false
 
+-- A request is under way that may be for objects whose slots the reply lists.
 abbrev pub is_for_objects : Stage → Bool
 is_for_objects (asks progress) = is_for_instance progress
 is_for_objects _ = false
 
+-- A request is under way, whatever it asks for.
 abbrev pub is_asking : Stage → Bool
 is_asking (asks progress) = true
 is_asking (tests_component info) = true
@@ -181,11 +163,12 @@ module _ {P : Type 0} where
     pub count : length replies ≡ p.done
     pub tied : TiedAs w (stage_of p.frame) commands p.done p.frame.asked (seen_by_party p) told
 
-  -- what a party has of the pool: what its call has, and its live grants
+  -- What of this a party's live grant has; nothing where there is none.
   abbrev pub granted_to : (Grant P PlainHeap → ℕ) → Option (Grant P PlainHeap) → ℕ
   granted_to of None = 0
   granted_to of (Some grant) = of grant
 
+  -- What a party has of the pool: with its call under way, and in its live grants.
   abbrev pub held_by_party : RunningParty P → Holding
   held_by_party p = record {
     places = λ t. frame_count t p.frame + sum_by (granted_to (grant_count t)) p.live;
@@ -226,6 +209,7 @@ module _ {P : Type 0} where
     pub stacks : (held_by_party p).stacks ≤ c.counters.stacks
     pub heaps : (held_by_party p).heaps ≤ c.counters.gc_heaps
 
+  -- What a turn of a party needs: a sound pool, a sound party, and that these fit each other.
   pub record CanTurn (maker : MakerTold) (c : PoolCore P PlainHeap) (p : RunningParty P) : Type 0 where
     pub core : IsCore maker c
     pub party : IsParty maker c p

@@ -1,36 +1,9 @@
 -- A turn of a party in a run: the next step of its call, or the first step of its next command.
 use Rattle.std.specs.Prelude.{◌≡◌, ℕ, ◌+◌, ◌*◌, ◌<◌, List, [], ◌∷◌, ◌++◌, length, map, replicate, ◌==◌, nat_le, nat_lt, slice_get, slice_index_or, slice_range, slice_set, ◌⊎◌, Bool, true, false, if◌then◌else◌, Option, Some, None, option_map}
-use Rattle.std.specs.List.{concat}
-use Rattle.pool_pages.specs.Told.{Told, overwritten, risen}
-use Rattle.pool_limits.specs.Growth.{GrowthRule}
+use Rattle.pool_run.specs.Imports.{concat, Told, overwritten, risen, GrowthRule, InPlace, FailsInPlace, IsCallPlanned, MemoryState, bytes_of, memory_written, HeapsTold, listed_heaps, ListedHeaps, ElementKind, Element, width, word, type_of, ListedStore, Lease, IsUsable, PartyTold, LeasedTable, LiesInRegion, no_room, LeasedStack, LeasedHeap, Slot, StackState, plain_written, PlainHeap, begun_call, After, StepsTo, is_idle, PoolCore, Frame, ModuleAsked, Call, Grant, instance, component, stack, heap, Outcome, MemoryOutOfBounds}
 use Rattle.pool_limits.specs.declared.errors.GrowError.TheVariants.{PageFault}
-use Rattle.pool_memory.specs.Growing.{InPlace, FailsInPlace, IsCallPlanned}
-use Rattle.pool_memory.specs.Memories.{MemoryState, bytes_of, memory_written}
-use Rattle.pool_slots.specs.HeapsTold.{HeapsTold, listed_heaps}
 use Rattle.pool_slots.specs.declared.errors.AllocError.TheVariants as alloc
-use Rattle.pool_slots.specs.declared.listed_heaps.ListedHeaps.{ListedHeaps}
-use Rattle.pool_table.specs.Elements.{ElementKind, Element, width, word, type_of}
-use Rattle.pool_table.specs.declared.gc_store.ListedStore.{ListedStore}
-use Rattle.pool_alloc.specs.Leases.{Lease, IsUsable}
-use Rattle.pool_alloc.specs.PartyTold.{PartyTold}
-use Rattle.pool_alloc.specs.TableLeases.{LeasedTable, LiesInRegion}
-use Rattle.pool_alloc.specs.Reserved.{no_room}
-use Rattle.pool_alloc.specs.StackLeases.{LeasedStack}
-use Rattle.pool_alloc.specs.HeapLeases.{LeasedHeap}
-use Rattle.pool_images.specs.Slots.{Slot}
-use Rattle.pool_slots.specs.PlainSlots.{StackState, plain_written}
-use Rattle.pool_slots.specs.declared.listed_heaps.PlainHeap.{PlainHeap}
-use Rattle.pool_alloc.specs.Calls.{begun_call}
-use Rattle.pool_alloc.specs.Turns.{After}
-use Rattle.pool_alloc.specs.Stepping.{StepsTo, is_idle}
-use Rattle.pool_alloc.specs.declared.pool_core.PoolCore.{PoolCore}
-use Rattle.pool_alloc.specs.declared.frame.Frame.{Frame}
-use Rattle.pool_alloc.specs.Asked.{ModuleAsked}
-use Rattle.pool_alloc.specs.declared.frame.Call.{Call}
 use Rattle.pool_alloc.specs.declared.frame.Call.TheVariants as call
-use Rattle.pool_alloc.specs.declared.frame.Grant.{Grant}
-use Rattle.pool_alloc.specs.declared.frame.Grant.TheVariants.{Instance as instance, Component as component, Stack as stack, Heap as heap}
-use Rattle.pool_alloc.specs.declared.frame.Outcome.{Outcome}
 use Rattle.pool_alloc.specs.declared.frame.Outcome.TheVariants as answer
 use Rattle.pool_run.specs.PartyRules.{rule_of, host_of}
 use Rattle.pool_run.specs.PrivateStacks.{ReadsBytes, PrivateStack}
@@ -42,7 +15,6 @@ use Rattle.pool_run.specs.Acts.{MemoryOp, reads, writes, fills, grows, asks_size
 use Rattle.pool_run.specs.declared.command.Command.{Command}
 use Rattle.pool_run.specs.declared.reply.Reply.{Reply}
 use Rattle.pool_run.specs.declared.reply.Reply.TheVariants.{Instance, Done, Size, Returned, Purged, Released, Refused, Trap as trapped, Component, Stack, Heap, Grown}
-use Rattle.pool_limits.specs.declared.errors.Trap.TheVariants.{MemoryOutOfBounds}
 use Rattle.pool_run.specs.declared.reply.Refusal.TheVariants.{NoSuchGrant, GcStoreFault, Alloc}
 use Rattle.pool_run.specs.declared.running_party.RunningParty.{RunningParty}
 use Rattle.pool_run.specs.declared.slot_lists.SlotLists.{SlotLists}
@@ -51,6 +23,7 @@ use Rattle.pool_run.specs.declared.slot_lists.SlotLists.{SlotLists}
 abbrev pub seen_as : ℕ → MemoryState → PrivateMemory
 seen_as slot m = record { slot = slot; ty = m.ty; size = m.linear.size; capacity = m.linear.capacity; bytes = bytes_of m }
 
+-- A memory's lease as its party sees it.
 abbrev pub private_memory : Lease → PrivateMemory
 private_memory l = seen_as l.index l.memory
 
@@ -95,6 +68,7 @@ stack_bytes slot = option_map (λ c. slice_range c.bytes slot.base.bytes (slot.b
 abbrev pub seen_stack : StackState → PrivateStack
 seen_stack s = record { slot = s.index; size = s.slot.static_size; bytes = stack_bytes s.slot }
 
+-- A stack's lease as its party sees it.
 abbrev pub private_stack : LeasedStack → PrivateStack
 private_stack l = seen_stack l.stack
 
@@ -102,7 +76,7 @@ private_stack l = seen_stack l.stack
 abbrev pub StackStateWrites : ℕ → List ℕ → StackState → StackState → Reply → Type 0
 StackStateWrites at bytes s new reply = ◌≡◌ {A = StackState × Reply} (new, reply) (if nat_le (at + length bytes) s.slot.static_size then (record s { slot = plain_written at bytes s.slot }, Done) else (s, trapped MemoryOutOfBounds))
 
--- what an operation makes of a stack, and the reply; and of a stack that was granted
+-- What an operation makes of a stack, and the reply.
 abbrev pub StackStateMoves : MemoryOp → StackState → StackState → Reply → Type 0
 StackStateMoves (reads at len) s new reply = ReadsBytes (seen_stack s).size (seen_stack s).bytes at len reply × (new ≡ s)
 StackStateMoves (writes at bytes) s new reply = StackStateWrites at bytes s new reply
@@ -110,6 +84,7 @@ StackStateMoves (fills at len byte) s new reply = StackStateWrites at (replicate
 StackStateMoves (grows pages) s new reply = (reply ≡ Grown None) × (new ≡ s)
 StackStateMoves asks_size s new reply = (reply ≡ Size s.slot.static_size) × (new ≡ s)
 
+-- An operation on a stack's lease is one on its stack; its slot stays.
 abbrev pub StackLeaseMoves : MemoryOp → LeasedStack → LeasedStack → Reply → Type 0
 StackLeaseMoves op l new reply = StackStateMoves op l.stack new.stack reply × (new ≡ record l { stack = new.stack })
 
@@ -175,20 +150,24 @@ pub data Opening (P : Type 0) : Type 0 where
   makes_step : Frame P PlainHeap → List (Option (Grant P PlainHeap)) → Opening P
 
 module _ {P : Type 0} where
+  -- A grant of the pool as its party sees it.
   abbrev pub private_grant : Grant P PlainHeap → PrivateGrant
   private_grant (instance lease) = instance_grant (record { memories = map private_memory lease.memories.items; tables = map private_table lease.tables.items })
   private_grant component = component_grant
   private_grant (stack lease) = stack_grant (private_stack lease)
   private_grant (heap lease memory) = heap_grant lease.index (private_memory memory)
 
+  -- All live grants of a party, as it sees them.
   abbrev pub grants_of : List (Option (Grant P PlainHeap)) → Grants
   grants_of live = map (option_map private_grant) live
 
+  -- The memories of a grant: an instance's, or the one of a heap.
   abbrev pub leases_of : Grant P PlainHeap → List Lease
   leases_of (instance lease) = lease.memories.items
   leases_of (heap lease memory) = memory ∷ []
   leases_of _ = []
 
+  -- The tables of a grant, which an instance alone has.
   abbrev pub tables_of : Grant P PlainHeap → List LeasedTable
   tables_of (instance lease) = lease.tables.items
   tables_of _ = []
@@ -202,10 +181,11 @@ module _ {P : Type 0} where
   abbrev pub ended_with : Reply → PoolCore P PlainHeap → RunningParty P → Turned P
   ended_with reply c p = record { core = c; party = record p { done = p.done + 1 }; reply = Some reply }
 
-  -- its first step was its last
+  -- The frame of a command whose first step was its last.
   abbrev pub one_step : Frame P PlainHeap → Frame P PlainHeap
   one_step f = record f { step_count = 1 }
 
+  -- A turn that ends a command with its first step; its frame counts one step.
   abbrev pub ended_at_once : Reply → PoolCore P PlainHeap → RunningParty P → Turned P
   ended_at_once reply c p = ended_with reply c (record p { frame = one_step p.frame })
 
@@ -231,6 +211,7 @@ module _ {P : Type 0} where
   slots_after (Some (answer.Granted grant)) slots = no_lists
   slots_after _ slots = slots
 
+  -- A turn that makes a step of the party's call, and takes its answer if it ended.
   abbrev pub after_step : After P PlainHeap → RunningParty P → Turned P
   after_step a p = answered a.outcome a.core (record p { frame = a.frame })
 
@@ -244,11 +225,12 @@ module _ {P : Type 0} where
   abbrev pub Steps : PoolCore P PlainHeap → RunningParty P → Turned P → Type 0
   Steps c p t = (a : After P PlainHeap) × StepsUnder (rule_of p.limits) p.heaps t.party.heaps c p.frame a × (t ≡ after_step a (record p { heaps = t.party.heaps }))
 
-  -- the leases of the tables of a grant
+  -- A grant with table k's lease replaced.
   abbrev pub with_table_lease : ℕ → LeasedTable → Grant P PlainHeap → Grant P PlainHeap
   with_table_lease k l (instance lease) = instance (record lease { tables = record lease.tables { items = slice_set lease.tables.items k l } })
   with_table_lease k l grant = grant
 
+  -- Where the tables' leases of a grant stand in it.
   abbrev pub table_leases : Objects (Grant P PlainHeap) LeasedTable
   table_leases = record { in_grant = tables_of; put_in = with_table_lease }
 
@@ -256,12 +238,13 @@ module _ {P : Type 0} where
   abbrev pub host_of_party : RunningParty P → Host
   host_of_party p = host_of p.limits p.store.failing p.heaps.failing
 
-  -- the leases of the memories of a grant
+  -- A grant with memory k's lease replaced.
   abbrev pub with_lease : ℕ → Lease → Grant P PlainHeap → Grant P PlainHeap
   with_lease k l (instance lease) = instance (record lease { memories = record lease.memories { items = slice_set lease.memories.items k l } })
   with_lease k l (heap lease old) = heap lease (if k == 0 then l else old)
   with_lease k l grant = grant
 
+  -- Where the memories' leases of a grant stand in it.
   abbrev pub memory_leases : Objects (Grant P PlainHeap) Lease
   memory_leases = record { in_grant = leases_of; put_in = with_lease }
 
@@ -273,7 +256,7 @@ module _ {P : Type 0} where
   IsPlain (call.Heap ty) = ty.page_size_log2 < 64
   IsPlain _ = Unit {0}
 
-  -- it asks for a grant
+  -- The call asks for a grant.
   abbrev pub asks_grant : Call P PlainHeap → Bool
   asks_grant (call.Module m) = true
   asks_grant (call.Component info) = true
@@ -286,15 +269,17 @@ module _ {P : Type 0} where
   stack_of (stack lease) = lease ∷ []
   stack_of _ = []
 
-  -- and so is a heap
+  -- The heap of a grant, if it is one.
   abbrev pub heap_of : Grant P PlainHeap → List (LeasedHeap PlainHeap)
   heap_of (heap lease memory) = lease ∷ []
   heap_of _ = []
 
+  -- A grant with its stack's lease replaced, if it is a stack.
   abbrev pub with_stack_lease : ℕ → LeasedStack → Grant P PlainHeap → Grant P PlainHeap
   with_stack_lease k l (stack lease) = stack l
   with_stack_lease k l grant = grant
 
+  -- Where the stack's lease of a grant stands in it.
   abbrev pub stack_leases : Objects (Grant P PlainHeap) LeasedStack
   stack_leases = record { in_grant = stack_of; put_in = with_stack_lease }
 
@@ -356,9 +341,10 @@ module _ {P : Type 0} where
   Leaves (replies reply live store) c p t = t ≡ ended_at_once reply c (record p { live = live; store = store })
   Leaves (makes_step frame live) c p t = Steps c (record p { frame = frame; live = live }) t
 
+  -- A turn opens with one of the openings that may come, and leaves what that leaves.
   abbrev pub TurnsFrom : (Opening P → Type 0) → PoolCore P PlainHeap → RunningParty P → Turned P → Type 0
   TurnsFrom Opens c p t = (o : Opening P) × Opens o × Leaves o c p t
 
-  -- a turn of a party
+  -- A turn of a party: the next step of its call, or the first step of its next command.
   abbrev pub Turns : List ModuleAsked → List Command → PoolCore P PlainHeap → RunningParty P → Turned P → Type 0
   Turns modules commands c p t = TurnsFrom (OpensAt (is_idle p.frame.phase) modules commands p) c p t

@@ -1,13 +1,6 @@
 -- When an input can be run: its sizes are within the limits, and what it names is there.
 use Rattle.std.specs.Prelude.{ℕ, List, [], ◌∷◌, ◌++◌, length, ◌==◌, ◌^◌, not, ◌&&◌, nat_lt, nat_le, Bool, true, false, Option, Some, None}
-use Rattle.std.specs.List.{list_all, slice_get}
-use Rattle.std.specs.Option.{option_map_or, option_and_then}
-use Rattle.pool_pages.specs.declared.module_types.ImageDecl.{ImageDecl}
-use Rattle.pool_pages.specs.declared.module_types.MemoryDecl.{MemoryDecl}
-use Rattle.pool_pages.specs.declared.module_types.ModuleInfo.{ModuleInfo}
-use Rattle.pool_pages.specs.declared.module_types.Part.{Part}
-use Rattle.pool_pages.specs.declared.table_type.TableType.{TableType}
-use Rattle.pool_alloc.specs.Refusals.{instance_size}
+use Rattle.pool_run.specs.Imports.{list_all, slice_get, option_map_or, option_and_then, ImageDecl, MemoryDecl, ModuleInfo, Part, TableType, instance_size}
 use Rattle.pool_run.specs.TableValues.{is_value_of}
 use Rattle.pool_run.specs.Acts.{MemoryOp, reads, writes, TableOp, sets, Act, requests, on_memory, on_table, drops, purges, releases, act_of, act_at, grows, Wanted, an_instance, a_stack, a_heap}
 use Rattle.pool_run.specs.declared.command.Command.{Command}
@@ -20,10 +13,11 @@ use Rattle.pool_run.specs.Schedules.{turns_of}
 abbrev pub most_modules : ℕ
 most_modules = 1000
 
--- how many memories a module may have, and how many tables
+-- How many memories a module may have.
 abbrev pub most_memories : ℕ
 most_memories = 100
 
+-- How many tables a module may have.
 abbrev pub most_tables : ℕ
 most_tables = 100
 
@@ -74,9 +68,11 @@ grants_bytes modules op place (Some (requests a_stack)) = is_on_stack op place
 grants_bytes modules op place (Some (requests (a_heap limits))) = place == 0
 grants_bytes modules op place _ = false
 
+-- The command that is named requested a grant with this memory, on which the operation can be made.
 abbrev pub names_memory : List ModuleInfo → List Command → MemoryOp → ℕ → ℕ → Bool
 names_memory modules earlier op of memory = grants_bytes modules op memory (act_at earlier of)
 
+-- The type of the table that is named, if the command that is named requested an instance with it.
 abbrev pub table_named : List ModuleInfo → List Command → ℕ → ℕ → Option TableType
 table_named modules earlier of table = option_and_then (λ (info : ModuleInfo). slice_get info.tables table) (module_granted modules (act_at earlier of))
 
@@ -140,6 +136,7 @@ is_valid_memory decl = option_map_or (λ (image : ImageDecl). nat_le (length ima
 abbrev pub is_name_byte : ℕ → Bool
 is_name_byte byte = nat_le 32 byte && (nat_le byte 126 && not (byte == 92))
 
+-- The name of a part has only bytes that a line of text can have.
 abbrev pub is_named : Part → Bool
 is_named part = list_all is_name_byte part.name
 
@@ -147,12 +144,15 @@ is_named part = list_all is_name_byte part.name
 abbrev pub is_valid_state : ModuleInfo → Bool
 is_valid_state info = nat_le (instance_size info) most_instance_bytes && list_all is_named info.parts
 
+-- A module keeps the limits on memories, tables, their types and the state of an instance.
 abbrev pub is_valid_module : ModuleInfo → Bool
 is_valid_module info = nat_le (length info.memories) most_memories && (nat_le (length info.tables) most_tables && (list_all is_valid_memory info.memories && is_valid_state info))
 
+-- All modules of the input keep their limits, and there aren't too many.
 abbrev pub are_valid_modules : List ModuleInfo → Bool
 are_valid_modules modules = nat_le (length modules) most_modules && list_all is_valid_module modules
 
+-- The input can be run: its sizes are within the limits, and what its commands name is there.
 abbrev pub is_valid : Input → Bool
 is_valid input =
     are_valid_modules input.modules

@@ -1,20 +1,7 @@
 -- What a run relies on from its input: the pool has the sizes that replies speak of, and each call for a module is a call
 -- for its memories and their images.
 use Rattle.std.specs.Prelude.{◌≡◌, ℕ, ◌+◌, ◌-◌, ◌*◌, ◌<◌, List, length, slice_get, true, IfSome}
-use Rattle.std.specs.Int.{div_ceil}
-use Rattle.pool_hall.specs.declared.unit_name.SlotKind.{SlotKind}
-use Rattle.pool_hall.specs.declared.unit_name.SlotKind.TheVariants.{Table as table_kind, Stack as stack_kind, Heap as heap_kind}
-use Rattle.pool_slots.specs.Plans.{has_number}
-use Rattle.pool_slots.specs.SlotNames.{of_kind}
-use Rattle.pool_slots.specs.declared.plan.Plan.{Plan}
-use Rattle.pool_slots.specs.declared.listed_heaps.PlainHeap.{PlainHeap}
-use Rattle.pool_alloc.specs.Modules.{HasImages}
-use Rattle.pool_alloc.specs.Steps.{memories_wanted, images_wanted, memory_slots, stripe_allocator, allocator_of}
-use Rattle.pool_alloc.specs.Sound.{AreImagesOf}
-use Rattle.pool_alloc.specs.declared.pool_core.PoolCore.{PoolCore}
-use Rattle.pool_alloc.specs.declared.pool_core.Settings.{Settings}
-use Rattle.pool_alloc.specs.Asked.{ModuleAsked}
-use Rattle.pool_alloc.specs.declared.frame.Asked.TheVariants.{Module as module_asked}
+use Rattle.pool_run.specs.Imports.{div_ceil, SlotKind, table_kind, stack_kind, heap_kind, has_number, of_kind, Plan, PlainHeap, HasImages, memories_wanted, images_wanted, memory_slots, stripe_allocator, allocator_of, AreImagesOf, PoolCore, Settings, ModuleAsked, module_asked}
 use Rattle.pool_run.specs.Private.{Terms}
 use Rattle.pool_run.specs.PrivateStacks.{StackTerms}
 use Rattle.pool_run.specs.Rooms.{World}
@@ -31,7 +18,7 @@ pub record HasStripes (slots stripes : ℕ) (plan : Plan) : Type 0 where
   pub room : (s : ℕ) → s < stripes → (stripe_allocator plan s).capacity ≡ div_ceil (slots - s) stripes
   pub each : (s j : ℕ) → s < stripes → j < div_ceil (slots - s) stripes → has_number (stripe_allocator plan s) (s + j * stripes) ≡ true
 
--- and so many are all its slots of a kind other than a memory's, which have one allocator
+-- The pool has so many slots of a kind other than memories, which have one allocator.
 pub record HasSlots (kind : SlotKind) (slots : ℕ) (plan : Plan) : Type 0 where
   pub total : slots ≡ of_kind kind plan.totals
   pub room : (allocator_of plan kind 0).capacity ≡ slots
@@ -59,6 +46,7 @@ pub record IsFit (s : Settings) (m : ModuleAsked) : Type 0 where
   pub images : AreImagesOf s (memories_wanted (module_asked m)) (images_wanted (module_asked m))
   pub places : HasImages (module_asked m)
 
+-- Each call for a module has the images of that module's memories.
 abbrev pub AreFit : Settings → List ModuleAsked → Type 0
 AreFit s modules = (number : ℕ) → IfSome (slice_get modules number) (IsFit s)
 
@@ -77,5 +65,6 @@ NamesModule count (requests (an_instance number)) = number < count
 NamesModule count (purges number) = number < count
 NamesModule count _ = Unit {0}
 
+-- The commands name only modules that are there.
 abbrev pub NameModules : ℕ → List Command → Type 0
 NameModules count commands = (k : ℕ) → IfSome (slice_get commands k) (λ command. NamesModule count (act_of command))

@@ -3,11 +3,11 @@ ghost use Rattle.pool_run.specs.Acts.{act_of, heap_type};
 ghost use Rattle.pool_run.specs.AtOnce.{given_act};
 
 use crate::command::{Command, TableValue};
-use pool_pages::{ComponentInfo, IndexType, Limits, MemoryType};
+use pool_types::{ComponentInfo, IndexType, Limits, MemoryType};
 
 /// What a command does with a memory of a live grant.
 #[derive(Drop)]
-pub(crate) enum MemoryOp<'a> {
+pub enum MemoryOp<'a> {
     Read { at: u64, len: usize },
     Write { at: u64, bytes: &'a [u8] },
     Fill { at: u64, len: u64, byte: u8 },
@@ -17,7 +17,7 @@ pub(crate) enum MemoryOp<'a> {
 
 /// What a command does with a table of a live grant.
 #[derive(Drop)]
-pub(crate) enum TableOp {
+pub enum TableOp {
     Get {
         at: u64,
     },
@@ -34,7 +34,7 @@ pub(crate) enum TableOp {
 
 /// What a command asks for.
 #[derive(Clone, Copy)]
-pub(crate) enum Wanted {
+pub enum Wanted {
     /// An instance of the module with this number.
     Instance { module: usize },
     Component(ComponentInfo),
@@ -45,7 +45,7 @@ pub(crate) enum Wanted {
 
 /// What a command does: commands that do alike have one case.
 #[derive(Drop)]
-pub(crate) enum Act<'a> {
+pub enum Act<'a> {
     /// Requests a grant.
     Request(Wanted),
     /// Does something with memory `memory` of the grant of command `of`.
@@ -73,7 +73,7 @@ pub(crate) enum Act<'a> {
 }
 
 /// The type of a heap's memory with these limits, in pages of 64 KiB.
-pub(crate) fn heap_type(limits: Limits) -> MemoryType
+pub fn heap_type(limits: Limits) -> MemoryType
     ensures { result ≡ heap_type limits }
 {
     MemoryType {
@@ -85,7 +85,7 @@ pub(crate) fn heap_type(limits: Limits) -> MemoryType
 }
 
 /// What the command does.
-pub(crate) fn act_of(command: &Command) -> Act<'_>
+pub fn act_of(command: &Command) -> Act<'_>
     ensures { given_act result ≡ act_of command.now }
 {
     match command {

@@ -18,8 +18,9 @@ use crate::replies::{growth_reply, write_reply};
 use crate::reply::{Refusal, Reply};
 use pool_alloc::{Grant, InstanceLease, MemoryLease, ReservedList};
 use pool_limits::{GrowFault, Trap, Unlimited};
-use pool_pages::{ByteList, Pages};
+use pool_pages::Pages;
 use pool_slots::{AllocError as Cause, PlainHeap, Stack};
+use pool_types::ByteList;
 use std::alloc::Global;
 
 /// Does something with memory `memory` of the grant of command `of`, or with its stack, which is its memory 0. A memory grows
@@ -77,7 +78,7 @@ fn act_on_grant<P: Pages>(
 }
 
 // Does something with the bytes of a stack, which is memory 0 of its grant.
-pub(crate) fn act_on_stack<P: Pages>(
+pub fn act_on_stack<P: Pages>(
     alloc: Global,
     stack: &mut Stack<P>,
     memory: usize,

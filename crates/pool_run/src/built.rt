@@ -3,7 +3,7 @@ ghost use Rattle.std.specs.List.{list_all};
 ghost use Rattle.pool_run.specs.Built.{is_built, is_built_offer, is_built_module, is_built_memory};
 
 use crate::input::Input;
-use pool_pages::{MemoryDecl, ModuleInfo, Offered};
+use pool_types::{MemoryDecl, ModuleInfo, Offered};
 
 /// Whether the input is of those that can be run so far: no marks of dirty pages offered, and modules of memories
 /// whose own pages have at most 64 KiB.

@@ -1,6 +1,6 @@
 ghost use Rattle.std.specs.Prelude.{◌≡◌, true, Err, false, IfOk, IfErr, IfSome, OnOk, option_map};
 ghost use Rattle.std.specs.List.{list_all};
-ghost use Rattle.pool_pages.specs.Told.{Rose};
+ghost use Rattle.pool_types.specs.Rising.{Rose};
 ghost use Rattle.std.specs.Arc.{arc_value};
 ghost use Rattle.pool_run.specs.Built.{is_built_module};
 ghost use Rattle.pool_run.specs.Made.{call_made, calls_made};
@@ -12,12 +12,13 @@ use crate::images::make_images;
 use crate::output::RunFault;
 use pool_alloc::ModuleCall;
 use pool_images::ModuleMemoryImages;
-use pool_pages::{CompiledModuleId, ModuleInfo, PageMaker, Tunables};
+use pool_pages::PageMaker;
+use pool_types::{CompiledModuleId, ModuleInfo, Tunables};
 use std::alloc::{AllocError, Global};
 use std::sync::Arc;
 
 /// Makes a call for each module, with its images.
-pub(crate) fn make_calls<M: PageMaker>(
+pub fn make_calls<M: PageMaker>(
     alloc: Global,
     maker: &mut M,
     tunables: &Tunables,

@@ -1,5 +1,5 @@
-use pool_pages::ByteList;
 use pool_table::VMContObj;
+use pool_types::ByteList;
 
 /// What a command sets an element of a table to: null, a function or a GC reference by its number, or a continuation.
 #[derive(Clone, Copy, Debug, PartialEq, Eq)]

@@ -1,6 +1,6 @@
 ghost use Rattle.std.specs.Prelude.{◌≡◌, IfOk, option_map, vec_len};
 
-use pool_pages::{ByteList, ImageDecl, MemoryDecl, ModuleInfo, Part, PlainList, Text};
+use pool_types::{ByteList, ImageDecl, MemoryDecl, ModuleInfo, Part, PlainList, Text};
 use std::alloc::{AllocError, Global};
 
 /// A copy of what is known of a module.
@@ -70,7 +70,7 @@ fn copy_image(alloc: Global, image: &ImageDecl) -> Result<ImageDecl, AllocError>
 }
 
 /// As many zeros.
-pub(crate) fn zeros(alloc: Global, len: usize) -> Result<Vec<u8>, AllocError>
+pub fn zeros(alloc: Global, len: usize) -> Result<Vec<u8>, AllocError>
     ensures { IfOk result (λ v. vec_len v ≡ len) }
 {
     vec![in alloc; 0; len]

@@ -1,5 +1,5 @@
 ghost use Rattle.std.specs.Prelude.{◌≡◌, true, Err, false, IfOk, IfErr, IfSome, OnOk};
-ghost use Rattle.pool_pages.specs.Told.{Rose};
+ghost use Rattle.pool_types.specs.Rising.{Rose};
 ghost use Rattle.pool_run.specs.Built.{is_built_module};
 ghost use Rattle.pool_run.specs.Private.{images_of};
 ghost use Rattle.pool_run.specs.Runs.{ModuleFaults, module_listed, is_refused};
@@ -7,7 +7,8 @@ ghost use Rattle.pool_run.specs.Validity.{is_valid_module};
 
 use crate::output::RunFault;
 use pool_images::{ImageError, ModuleMemoryImages};
-use pool_pages::{CompiledModuleId, ModuleInfo, PageMaker, Tunables};
+use pool_pages::PageMaker;
+use pool_types::{CompiledModuleId, ModuleInfo, Tunables};
 use std::alloc::Global;
 
 /// Makes the images of the module with this number. None, with nothing made, where memories don't begin as images at

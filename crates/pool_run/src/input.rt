@@ -1,5 +1,6 @@
 use crate::command::Command;
-use pool_pages::{Fault, ModuleInfo, Offered, PlainList, PoolingAllocationConfig, Tunables};
+use pool_pages::Fault;
+use pool_types::{ModuleInfo, Offered, PlainList, PoolingAllocationConfig, Tunables};
 
 /// What a party's memories and tables may grow to.
 #[derive(Clone, Copy, Debug, PartialEq, Eq)]

@@ -1,6 +1,5 @@
 ghost use Rattle.pool_run.specs.Agreeing.{RunsAgree};
-ghost use Rattle.pool_run.specs.HeapFaults.{HeapFaultsAreListed, HeapFaultsAreListedOnDemand};
-ghost use Rattle.pool_run.specs.OnDemandAlike.{AllocatorsAgree};
+ghost use Rattle.pool_run.specs.HeapFaults.{HeapFaultsAreListed};
 ghost use Rattle.pool_run.specs.Placed.{SlotsAreInOnePlace, UsedSlotsAreNotPicked};
 
 use pool_pages::Pages;
@@ -14,8 +13,7 @@ pub fn runs_agree<P: Pages>()
 /// A party is told that its maker of heaps failed at most as often as its list says, whatever its commands ask for. It does
 /// nothing.
 pub fn heap_faults_are_listed()
-    ensures pool { HeapFaultsAreListed }
-    ensures on_demand { HeapFaultsAreListedOnDemand }
+    ensures { HeapFaultsAreListed }
 {}
 
 /// Where the slots of the pool are between two turns. It does nothing.
@@ -24,10 +22,4 @@ pub fn slots_have_places<P: Pages>()
     ensures one { SlotsAreInOnePlace P }
     // What a pick gives is free, in the shard where it is at home.
     ensures picked { UsedSlotsAreNotPicked P }
-{}
-
-/// A pool and an allocator on demand give the same replies to the commands on a grant that both gave, whose memories are whole
-/// pages and whose contents are told, where both grant its growths and have memory for the replies. It does nothing.
-pub fn allocators_agree()
-    ensures { AllocatorsAgree }
 {}

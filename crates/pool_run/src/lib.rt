@@ -1,62 +1,80 @@
-//! A run of the pool: the input, the parties' commands and the replies.
+//! A run of the pool: an input's commands, by several parties, in the order of a schedule.
+//!
+//! Read `Input` first, with `Party`, `Command` and `ScheduleEntry`. `run_schedule` makes the pool and the images, has
+//! the parties take turns, and answers a `RunOutput`: a `Reply` to each command, and the pool's numbers. `is_valid` is
+//! the test of an input. A caller that makes the turns by itself makes a `Run` and calls `turn_of`, which is one step
+//! of one party.
+//!
+//! A command is read as an `Act`: a request, which is a call on the pool and takes many turns, or something done at
+//! once with a grant that the party has. `pool_run_on_demand` stands on the same reading.
+//!
+//! It is ours and no port. It stands on `pool_alloc` and the crates below, and knows no JSON.
+//!
+//! ```rust
+//! let output = run_schedule(alloc, &input, &mut pages)?;
+//! ```
 #![tactic(auto)]
 
-mod act;
-mod at_once;
+// The input, and whether it is valid
 mod built;
-mod calls;
 mod command;
-mod copies;
-mod images;
 mod input;
-mod laws;
-mod leases;
-mod limiter;
-mod on_demand;
-mod on_demand_act;
-mod on_demand_grant;
-mod on_demand_party;
-mod on_demand_request;
-mod on_demand_tables;
-mod output;
-mod pools;
-mod replies;
-mod reply;
-mod reserved_vec;
-mod run;
-mod run_input;
-mod running_party;
-mod schedule;
-mod shared_events;
-mod shared_input;
-mod shared_reply;
-mod shared_run;
-mod shared_validity;
-mod slot_lists;
-mod table_commands;
-mod table_values;
-mod told_run;
-mod turn;
 mod validity;
 
+// What a run gives
+mod output;
+mod replies;
+mod reply;
+
+// A run from its input to its output
+mod calls;
+mod copies;
+mod images;
+mod pools;
+mod run;
+mod run_input;
+mod schedule;
+mod told_run;
+
+// A party's turn
+mod act;
+mod leases;
+mod limiter;
+mod running_party;
+mod slot_lists;
+mod turn;
+
+// What is done at once with a grant
+mod at_once;
+mod table_commands;
+mod table_values;
+
+// Lists
+mod reserved_vec;
+
+// Laws
+mod laws;
+
+pub use act::{Act, MemoryOp, TableOp, Wanted, act_of, heap_type};
+pub use at_once::act_on_stack;
 pub use built::is_built;
+pub use calls::make_calls;
 pub use command::{Command, TableValue};
+pub use copies::zeros;
 pub use input::{Input, Party, PartyLimits, ScheduleEntry};
-pub use laws::{allocators_agree, heap_faults_are_listed, runs_agree, slots_have_places};
+pub use laws::{heap_faults_are_listed, runs_agree, slots_have_places};
 pub use leases::Leases;
-pub use on_demand::run_on_demand;
+pub use limiter::limiter_of;
 pub use output::{RunFault, RunOutput};
 pub use pool_alloc::Element;
+pub use replies::{element_reply, fill_reply, growth_reply, write_reply};
 pub use reply::{Refusal, Reply, ReplyList, SlotList};
 pub use reserved_vec::ReservedVec;
 pub use run::Run;
 pub use run_input::run_schedule;
-pub use running_party::RunningParty;
-pub use shared_input::{SharedEvent, SharedInput};
-pub use shared_reply::SharedReply;
-pub use shared_run::run_shared;
-pub use shared_validity::{MOST_EVENTS, MOST_MINIMUM, WAITERS, is_valid_shared};
+pub use running_party::{RunningParty, heaps_for, store_for};
 pub use slot_lists::SlotLists;
+pub use table_values::element_for;
 pub use turn::turn_of;
 pub use validity::{
     HOMES, MOST_BYTES, MOST_COMMANDS, MOST_INSTANCE_BYTES, MOST_MEMORIES, MOST_MODULES,

@@ -16,7 +16,7 @@ fn with_elements(limits: StoreLimitsBuilder, most: Option<usize>) -> StoreLimits
 }
 
 /// The limiter of a party with these limits.
-pub(crate) fn limiter_of(limits: PartyLimits) -> StoreLimits
+pub fn limiter_of(limits: PartyLimits) -> StoreLimits
     ensures { result.growth ≡ growth_of limits }
 {
     let limiter = StoreLimitsBuilder::new().trap_on_grow_failure(limits.trap_on_grow_failure);

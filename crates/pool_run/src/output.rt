@@ -1,6 +1,7 @@
 use crate::reply::ReplyList;
 use pool_alloc::Metrics;
-use pool_pages::{BadConfig, PageCalls, PlainList};
+use pool_pages::PageCalls;
+use pool_types::{BadConfig, PlainList};
 use thiserror::Error;
 
 /// What a run gives: each party's replies, the pool's numbers at the end, and the calls on all its regions.

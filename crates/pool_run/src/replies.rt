@@ -7,7 +7,7 @@ use pool_limits::{GrowFault, Trap};
 use pool_slots::AllocError as Cause;
 use pool_table::GcTableError;
 
-pub(crate) fn write_reply(answer: Result<(), Trap>) -> Reply
+pub fn write_reply(answer: Result<(), Trap>) -> Reply
     ensures { result ≡ write_reply answer }
 {
     match answer {
@@ -16,7 +16,7 @@ pub(crate) fn write_reply(answer: Result<(), Trap>) -> Reply
     }
 }
 
-pub(crate) fn growth_reply(answer: Result<Option<usize>, GrowFault>) -> Reply
+pub fn growth_reply(answer: Result<Option<usize>, GrowFault>) -> Reply
     ensures { result ≡ growth_reply answer }
 {
     match answer {
@@ -27,7 +27,7 @@ pub(crate) fn growth_reply(answer: Result<Option<usize>, GrowFault>) -> Reply
     }
 }
 
-pub(crate) fn element_reply(answer: Result<Element, Trap>) -> Reply
+pub fn element_reply(answer: Result<Element, Trap>) -> Reply
     ensures { result ≡ element_reply answer }
 {
     match answer {
@@ -36,7 +36,7 @@ pub(crate) fn element_reply(answer: Result<Element, Trap>) -> Reply
     }
 }
 
-pub(crate) fn fill_reply(answer: Result<(), GcTableError>) -> Reply
+pub fn fill_reply(answer: Result<(), GcTableError>) -> Reply
     ensures { result ≡ fill_reply answer }
 {
     match answer {

@@ -1,7 +1,7 @@
 use pool_alloc::Element;
 use pool_limits::Trap;
-use pool_pages::{ByteList, PlainList};
 use pool_slots::AllocError;
+use pool_types::{ByteList, PlainList};
 
 /// The slots of a grant, in order.
 pub type SlotList = PlainList<u32>;

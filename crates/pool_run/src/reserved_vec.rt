@@ -1,7 +1,7 @@
 ghost use Rattle.std.specs.Prelude.{◌≡◌, ◌<◌, [], length, IfOk};
 ghost use Rattle.pool_alloc.specs.Reserved.{no_room, with_item};
 
-use pool_pages::PlainList;
+use pool_types::PlainList;
 use std::alloc::{AllocError, Global};
 use std::marker::Model;
 
@@ -38,7 +38,7 @@ impl<T> ReservedVec<T> {
         })
     }
 
-    pub(crate) fn len(&self) -> usize
+    pub fn len(&self) -> usize
         ensures { result ≡ length self.now.items }
     {
         self.items.len()

@@ -1,6 +1,6 @@
 ghost use Rattle.std.specs.Prelude.{◌≡◌, ◌↔◌, ℕ, ◌+◌, ◌^◌, ◌<◌, ◌≤◌, Err, Some, length, map, replicate, slice_get, slice_index_or, true, false, fold, None, IfOk, IfErr, OnOk};
 ghost use Rattle.pool_pages.specs.MakerTold.{MakerTold};
-ghost use Rattle.pool_pages.specs.declared.bad_config.BadConfig.{BadConfig};
+ghost use Rattle.pool_types.specs.declared.bad_config.BadConfig.{BadConfig};
 ghost use Rattle.pool_alloc.specs.Sound.{IsCore};
 ghost use Rattle.pool_alloc.specs.Sums.{metrics_of};
 ghost use Rattle.pool_alloc.specs.Whole.{IsUntouched};

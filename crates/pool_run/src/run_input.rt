@@ -1,6 +1,6 @@
 ghost use Rattle.std.specs.Prelude.{◌≡◌, ◌↔◌, ◌≤◌, [], Err, Some, length, true, false, vec_capacity, None, IfOk, IfErr, OnOk};
 ghost use Rattle.pool_pages.specs.MakerTold.{MakerTold};
-ghost use Rattle.pool_pages.specs.declared.bad_config.BadConfig.{BadConfig};
+ghost use Rattle.pool_types.specs.declared.bad_config.BadConfig.{BadConfig};
 ghost use Rattle.pool_pages.specs.declared.failing.Failing.{Failing};
 ghost use Rattle.pool_alloc.specs.Sums.{metrics_of};
 ghost use Rattle.pool_run.specs.Agreeing.{IsOnlyRun};
@@ -19,7 +19,8 @@ use crate::run::Run;
 use crate::schedule::{finish, follow};
 use crate::told_run::ToldRun;
 use crate::validity::is_valid;
-use pool_pages::{Failing, FailingMaker, PageMaker, PageSize, Pages};
+use pool_pages::{Failing, FailingMaker, PageMaker, Pages};
+use pool_types::PageSize;
 use std::alloc::{AllocError, Global};
 
 // Makes the turns of the schedule, and where the input says so those of each party until it has nothing left.

@@ -3,9 +3,10 @@ ghost use Rattle.std.specs.Prelude.{◌≡◌, IfOk};
 use crate::input::PartyLimits;
 use crate::leases::Leases;
 use pool_alloc::Frame;
-use pool_pages::{Pages, PlainList};
+use pool_pages::Pages;
 use pool_slots::{ListedHeaps, PlainHeap};
 use pool_table::ListedStore;
+use pool_types::PlainList;
 use std::alloc::{AllocError, Global};
 
 /// A party in a run: its frame, the limits on its growth, its store, its maker of heaps, how many of its commands have
@@ -26,7 +27,7 @@ pub struct RunningParty<P: Pages> {
 
 /// A party's store, of which these calls fail.
 #[tactic(auto, using(crate::proofs::RunMade::store_made))]
-pub(crate) fn store_for(alloc: Global, failing: &[u64]) -> Result<ListedStore, AllocError>
+pub fn store_for(alloc: Global, failing: &[u64]) -> Result<ListedStore, AllocError>
     ensures { IfOk result (λ store. store ≡ record { failing = failing.now; made = 0; faults = 0 }) }
 {
     Ok(ListedStore::new(numbers(alloc, failing)?))
@@ -34,7 +35,7 @@ pub(crate) fn store_for(alloc: Global, failing: &[u64]) -> Result<ListedStore, A
 
 /// A party's maker of heaps, of which these makings fail.
 #[tactic(auto, using(crate::proofs::RunMade::heaps_made))]
-pub(crate) fn heaps_for(alloc: Global, failing: &[u64]) -> Result<ListedHeaps, AllocError>
+pub fn heaps_for(alloc: Global, failing: &[u64]) -> Result<ListedHeaps, AllocError>
     ensures { IfOk result (λ heaps. heaps ≡ record { failing = failing.now; made = 0; faults = 0 }) }
 {
     Ok(ListedHeaps::new(numbers(alloc, failing)?))

@@ -5,8 +5,8 @@ ghost use Rattle.pool_run.specs.TableValues.{function_of, reference_of, continua
 
 use crate::command::TableValue;
 use pool_alloc::Element;
-use pool_pages::TableElementType;
 use pool_table::{ContTableElem, FuncTableElem};
+use pool_types::TableElementType;
 
 fn function_of(value: TableValue) -> FuncTableElem
     ensures value { result ≡ function_of value }
@@ -39,7 +39,7 @@ fn continuation_of(value: TableValue) -> ContTableElem
 }
 
 /// The element that a value is in a table with elements of this type.
-pub(crate) fn element_for(element_type: TableElementType, value: TableValue) -> Element
+pub fn element_for(element_type: TableElementType, value: TableValue) -> Element
     ensures value { element_of result ≡ element_for element_type value }
     ensures fits { (kind : ElementKind) → type_of kind ≡ element_type → CanBeSet kind (element_of result) }
 {

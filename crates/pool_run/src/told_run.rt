@@ -11,7 +11,8 @@ use crate::reply::{Reply, ReplyList};
 use crate::reserved_vec::ReservedVec;
 use crate::run::Run;
 use pool_alloc::Metrics;
-use pool_pages::{PageCalls, Pages, PlainList};
+use pool_pages::{PageCalls, Pages};
+use pool_types::PlainList;
 use std::alloc::{AllocError, Global};
 use std::marker::Model;
 

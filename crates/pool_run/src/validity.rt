@@ -10,7 +10,7 @@ use crate::command::Command;
 use crate::input::{Input, Party, ScheduleEntry};
 use crate::table_values::is_value_of;
 use pool_alloc::instance_size;
-use pool_pages::{MemoryDecl, ModuleInfo, Part, TableType};
+use pool_types::{MemoryDecl, ModuleInfo, Part, TableType};
 
 /// How many modules an input may have.
 pub const MOST_MODULES: usize = 1_000;

@@ -4,12 +4,9 @@ use Rattle.std.specs.List.{filter, remove}
 use Rattle.std.proofs.lemmas.Bool.{or_parts, or_from, cases_Bool, both_ways, eqb-true, false_from_ne_true}
 use Rattle.std.proofs.lemmas.Bool.Decides.{nat_tests}
 use Rattle.std.proofs.lemmas.List.Folds.{list_any-append, list_any_at}
+use Rattle.pool_pages.proofs.Small.{or_false}
 use Rattle.pool_shared.specs.Spot.{is_of, is_waiting, AreDistinct, its_wait_is, is_marked, is_late, has_passed, without, is_among, marked_if}
 use Rattle.pool_shared.specs.declared.waiting.Waiting.{Waiting}
-
-pub or_nothing : (b : Bool) → (b || false) ≡ b
-or_nothing true = refl
-or_nothing false = refl
 
 pub other_way : (j k : ℕ) → eqb j k ≡ false → eqb k j ≡ false
 other_way j k h = grind (arith, nat_tests)
@@ -79,7 +76,7 @@ pub its_wait_at : (test : Waiting → Bool) (k i : ℕ) (ws : List Waiting) (d :
 its_wait_at test k i [] d h l o = absurd (omega arith)
 its_wait_at test k zero (w ∷ ws) d h l o =
     let none = no_wait test k ws (subst (λ (j : ℕ). is_waiting j ws ≡ false) (eqb-true w.waiter k o) h.0) in
-    rw (o, none) (or_nothing (test w))
+    rw (o, none) (or_false (test w))
 its_wait_at test k (suc i) (w ∷ ws) d h l o =
     rw (first_is_other k i w ws d h.0 (omega arith) o) (its_wait_at test k i ws d h.1 (omega arith) o)
 

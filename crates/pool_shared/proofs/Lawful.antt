@@ -2,22 +2,19 @@
 use Rattle.std.proofs.Common.{◌≡◌, ◌≢◌, ℕ, zero, suc, ◌<◌, Bool, true, false, cond, ◌&&◌, ◌||◌, not, List, [], ◌∷◌, length, map, drop, get_or, eqb, refl, sym, ap, subst, ◌∙◌, inl, inr, arith}
 use Rattle.std.specs.List.{filter}
 use Rattle.std.proofs.lemmas.Bool.{cases_Bool, and_parts, and_left, eqb-true, ne_eqb, eq-eqb, or_right, false_from_ne_true, true_from_ne_false, both_ways}
+use Rattle.pool_pages.proofs.Small.{and_false, or_false}
 use Rattle.pool_shared.specs.Spot.{is_of, is_parked_at, parked_at, is_waiting, is_marked, is_among, first_waiters, marked_if}
 use Rattle.pool_shared.specs.Laws.{EarlyWaitersAreMarked, NotifyMarksTheFirst, NotifyTakesTheFirst, NotifyKeepsOtherLists, OthersStayInOrder}
 use Rattle.pool_shared.specs.declared.waiting.Waiting.{Waiting}
 use Rattle.pool_shared.proofs.Marking.{marking, marking_is, not_first}
-use Rattle.pool_shared.proofs.Distinct.{or_nothing, same_waiter}
-
-and_not_true : (b : Bool) → (b && false) ≡ false
-and_not_true true = refl
-and_not_true false = refl
+use Rattle.pool_shared.proofs.Distinct.{same_waiter}
 
 marking_takes : (addr n : ℕ) (ws : List Waiting) → parked_at addr (marking addr n ws) ≡ drop n (parked_at addr ws)
 marking_takes addr zero ws = refl
 marking_takes addr (suc n) [] = refl
 marking_takes addr (suc n) (w ∷ ws) =
     elim (cases_Bool (is_parked_at addr w)) [
-      | inl e ↦ rw (e, and_not_true (eqb w.addr addr)) (marking_takes addr n ws)
+      | inl e ↦ rw (e, and_false (eqb w.addr addr)) (marking_takes addr n ws)
       | inr e ↦ rw (e, e) (marking_takes addr (suc n) ws)
     ]
 
@@ -34,7 +31,7 @@ marking_keeps addr other zero ws ne = refl
 marking_keeps addr other (suc n) [] ne = refl
 marking_keeps addr other (suc n) (w ∷ ws) ne =
     elim (cases_Bool (is_parked_at addr w)) [
-      | inl e ↦ rw (e, elsewhere addr other w ne e, and_not_true (eqb w.addr other)) (marking_keeps addr other n ws ne)
+      | inl e ↦ rw (e, elsewhere addr other w ne e, and_false (eqb w.addr other)) (marking_keeps addr other n ws ne)
       | inr e ↦ rw e (ap (λ (vs : List Waiting). cond (is_parked_at other w) (w ∷ vs) vs) (marking_keeps addr other (suc n) ws ne))
     ]
 
@@ -110,5 +107,5 @@ marks_the_first addr n waiter spot =
           let waits : is_waiting waiter spot ≡ true = true_from_ne_false (is_waiting waiter spot) (λ f. both_ways (is_among ks waiter) (not_first addr n waiter spot f) e) in
           let all = marks_come ks waiter spot e in
           rw (e) (rw waits at all)
-      | inr e ↦ rw (e) (marks_stay ks waiter spot e ∙ sym (or_nothing (is_marked waiter spot)))
+      | inr e ↦ rw (e) (marks_stay ks waiter spot e ∙ sym (or_false (is_marked waiter spot)))
     ]

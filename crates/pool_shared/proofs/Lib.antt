@@ -1,4 +1,3 @@
-pub mod Bounded
 pub mod Distinct
 pub mod Growth
 pub mod Lawful

@@ -1,13 +1,12 @@
 -- A shared memory as it is made.
-use Rattle.std.proofs.Common.{Some, Result, Ok, Err, ◌≡◌, ℕ, ◌+◌, ◌^◌, ◌<◌, ◌≤◌, true, sym, ap, ◌∙◌, subst, replicate, Option}
-use Rattle.std.specs.Prelude.{◌↔◌, IfSome}
-use Rattle.pool_pages.specs.declared.unsupported.Unsupported.{Unsupported}
+use Rattle.std.proofs.Common.{Some, Result, Ok, Err, ◌≡◌, ℕ, ◌+◌, ◌^◌, ◌<◌, ◌≤◌, true, sym, ap, ◌∙◌, subst, replicate, Option, ◌↔◌, IfSome}
+use Rattle.pool_types.specs.declared.unsupported.Unsupported.{Unsupported}
 use Rattle.pool_memory.specs.declared.memory_error.MemoryError.{MemoryError}
 use Rattle.pool_memory.specs.declared.memory_error.MemoryError.TheVariants as refused
 use Rattle.pool_pages.specs.MakerTold.{MakerTold}
-use Rattle.pool_pages.specs.MemoryTypes.{page_size, minimum_byte_size}
-use Rattle.pool_pages.specs.declared.module_types.MemoryType.{MemoryType}
-use Rattle.pool_pages.specs.declared.module_types.MemoryTunables.{MemoryTunables}
+use Rattle.pool_types.specs.MemoryTypes.{page_size, minimum_byte_size}
+use Rattle.pool_types.specs.declared.module_types.MemoryType.{MemoryType}
+use Rattle.pool_types.specs.declared.module_types.MemoryTunables.{MemoryTunables}
 use Rattle.pool_memory.specs.Layouts.{first_layout}
 use Rattle.pool_memory.specs.Linear.{Linear, linear_bytes}
 use Rattle.pool_memory.specs.Making.{Granted}

@@ -70,11 +70,6 @@ pub record MarkedSoFar (addr n : ℕ) (old new : List Waiting) (place marked : �
   pub within : marked ≤ n
   pub long : length new ≡ length old
 
-pub so_far_none : (addr n : ℕ) (old : List Waiting) → MarkedSoFar addr n old old 0 0
-so_far_none addr n old =
-    let all : n - 0 ≡ n = omega arith in
-    record { rest = rw all refl; count = rw all (omega arith); within = omega arith; long = refl }
-
 pub so_far_yes : (addr n : ℕ) (old new : List Waiting) (place marked : ℕ) (d : Waiting) → MarkedSoFar addr n old new place marked → place < length new → marked < n → is_parked_at addr (get_or new place d) ≡ true → MarkedSoFar addr n old (set new place (marked_wait (get_or new place d))) (place + 1) (marked + 1)
 so_far_yes addr n old new place marked d h l m e =
     let w = get_or new place d in

@@ -15,6 +15,7 @@ turn_of late answer.Mismatch = turn.Ended ended.Mismatch
 turn_of late answer.TimedOut = if late then turn.Ended ended.TimedOut else turn.Parked
 turn_of late answer.Parked = turn.Parked
 
+-- What one hold of the lock comes to: the wait ends, parks or goes on, or its fault.
 abbrev pub turn_in : Bool → Result WaitStep WaitFault → Result Turn WaitFault
 turn_in late (Ok step) = Ok (turn_of late step)
 turn_in late (Err fault) = Err fault

@@ -2,11 +2,11 @@
 use Rattle.std.specs.Prelude.{◌≡◌, ℕ, ◌+◌, ◌==◌, Bool, true, false, ◌&&◌, ◌||◌, not, List, [], length, min, slice_range, if◌then◌else◌, Option, Some, None, IfSome, option_map, Result, Ok, Err}
 use Rattle.std.specs.Int.{Width, byte_len, from_le_bytes}
 use Rattle.pool_pages.specs.MakerTold.{MakerTold}
-use Rattle.pool_pages.specs.MemoryTypes.{minimum_byte_size, refused_limits, allow_growth_to}
-use Rattle.pool_pages.specs.declared.module_types.MemoryType.{MemoryType}
-use Rattle.pool_pages.specs.declared.module_types.MemoryTunables.{MemoryTunables}
-use Rattle.pool_pages.specs.declared.unsupported.Unsupported.{Unsupported}
-use Rattle.pool_pages.specs.declared.unsupported.Unsupported.TheVariants.{NotShared}
+use Rattle.pool_types.specs.MemoryTypes.{minimum_byte_size, refused_limits, allow_growth_to}
+use Rattle.pool_types.specs.declared.module_types.MemoryType.{MemoryType}
+use Rattle.pool_types.specs.declared.module_types.MemoryTunables.{MemoryTunables}
+use Rattle.pool_types.specs.declared.unsupported.Unsupported.{Unsupported}
+use Rattle.pool_types.specs.declared.unsupported.Unsupported.TheVariants.{NotShared}
 use Rattle.pool_limits.specs.declared.errors.GrowError.TheVariants as failed
 use Rattle.pool_limits.specs.declared.errors.GrowFault.{GrowFault}
 use Rattle.pool_limits.specs.declared.errors.Trap.{Trap}
@@ -66,6 +66,7 @@ abbrev pub notify_answer : Result ℕ Trap → ℕ → List Waiting → Result �
 notify_answer (Err trap) n spot = Err trap
 notify_answer (Ok addr) n spot = Ok (min n (length (parked_at addr spot)))
 
+-- The waits after a notification: a trap leaves them as they were.
 abbrev pub after_notify_at : Result ℕ Trap → ℕ → List Waiting → List Waiting
 after_notify_at (Err trap) n spot = spot
 after_notify_at (Ok addr) n spot = after_notify addr n spot
@@ -80,10 +81,13 @@ PagesGrow size old new (Ok (Some sizes)) = (sizes ≡ (old.size, size)) × Grows
 PagesGrow size old new (Ok None) = IsUngrown failed.PageFault size old new
 PagesGrow size old new (Err e) = ⊥
 
+-- A growth that is forbidden answers that it didn't grow and leaves the memory; else it ends as the call on the pages
+-- does.
 abbrev pub GrowsUnless : Bool → ℕ → Linear → Linear → Result (Option (ℕ × ℕ)) GrowFault → Type 0
 GrowsUnless true size old new result = (result ≡ Ok None) × (new ≡ old)
 GrowsUnless false size old new result = PagesGrow size old new result
 
+-- A growth by nothing answers the size at once; another is tested first.
 abbrev pub GrowsBy : Bool → Bool → ℕ → Linear → Linear → Result (Option (ℕ × ℕ)) GrowFault → Type 0
 GrowsBy true forbidden size old new result = (result ≡ Ok (Some (old.size, old.size))) × (new ≡ old)
 GrowsBy false forbidden size old new result = GrowsUnless forbidden size old new result
@@ -102,6 +106,7 @@ or_refused (Some u) second = Some u
 abbrev pub kind_refusal : Bool → MemoryType → Option Unsupported
 kind_refusal enabled ty = if enabled && ty.shared then None else Some NotShared
 
+-- The reason why a memory isn't supported, where that is why it wasn't made.
 abbrev pub refusal_in : {X : Type 0} → Result X MemoryError → Option Unsupported
 refusal_in (Ok x) = None
 refusal_in (Err refused.Memory) = None
@@ -118,7 +123,7 @@ minimum_refusal ty = refusal_in (limits_answer (Ok true) ty)
 abbrev pub type_refusal : Bool → MemoryType → Option Unsupported
 type_refusal enabled ty = or_refused (kind_refusal enabled ty) (or_refused (refused_limits ty.limits) (minimum_refusal ty))
 
--- the error says so
+-- The error says that a memory isn't supported, and why.
 abbrev pub IsUnsupported : Option Unsupported → MemoryError → Type 0
 IsUnsupported refusal refused.Memory = ⊥
 IsUnsupported refusal (refused.Unsupported u) = refusal ≡ Some u

@@ -6,11 +6,11 @@ use Rattle.pool_shared.specs.declared.waiting.Waiting.{Waiting}
 use Rattle.pool_shared.specs.declared.wait_step.WaitStep.{WaitStep}
 use Rattle.pool_shared.specs.declared.wait_step.WaitStep.TheVariants as answer
 
--- it is a wait of this waiter
+-- The wait is one of this waiter.
 abbrev pub is_of : ℕ → Waiting → Bool
 is_of waiter wait = wait.waiter == waiter
 
--- it is parked at this address: it began there, and its waiter wasn't notified
+-- The wait is parked at this address: it began there, and its waiter wasn't notified.
 abbrev pub is_parked_at : ℕ → Waiting → Bool
 is_parked_at addr wait = (wait.addr == addr) && not wait.marked
 

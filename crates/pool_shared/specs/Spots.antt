@@ -14,10 +14,13 @@ abbrev pub asked_address : Asked → ℕ
 asked_address (asked.Word32 addr expected) = addr
 asked_address (asked.Word64 addr expected) = addr
 
+-- The fault of a wait is that the host has no memory for it; a trap is none.
 abbrev pub IsWantOfMemory : WaitFault → Type 0
 IsWantOfMemory fault.Memory = Unit {0}
 IsWantOfMemory (fault.Trap trap) = ⊥
 
+-- What a wait on a valid address answers and leaves, by whether the word was as expected. Memory may be short only
+-- where it would park.
 abbrev pub SpotWaitsAt : ℕ → ℕ → Bool → Option ℕ → ℕ → List Waiting → List Waiting → Result WaitStep WaitFault → Type 0
 SpotWaitsAt addr waiter same deadline now old new (Ok step) = (step ≡ wait_answer same deadline now) × (new ≡ after_wait addr waiter same deadline now old)
 SpotWaitsAt addr waiter same deadline now old new (Err fault.Memory) = (wait_answer same deadline now ≡ answer.Parked) × (new ≡ old)

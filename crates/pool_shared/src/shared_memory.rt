@@ -1,7 +1,7 @@
 ghost use Rattle.std.specs.Prelude.{◌≡◌, ◌↔◌, ◌+◌, ◌<◌, ◌≤◌, length, true, Some, None, Ok, Err, IsOk, IfErr, OnOk, OnErr};
 ghost use Rattle.std.specs.Int.{w32, w64};
 ghost use Rattle.pool_limits.specs.declared.errors.WaitResult.TheVariants as ended;
-ghost use Rattle.pool_pages.specs.MemoryTypes.{minimum_byte_size};
+ghost use Rattle.pool_types.specs.MemoryTypes.{minimum_byte_size};
 ghost use Rattle.pool_shared.specs.Shared.{kind_refusal, type_refusal, shared_refusal, MakingBy, layout_for};
 ghost use Rattle.pool_shared.specs.Bounds.{deadline_after, IsAligned, IsPast, IsTrapped, IsRefused};
 ghost use Rattle.pool_shared.specs.Spot.{has_passed};
@@ -14,7 +14,8 @@ use crate::wait_fault::WaitFault;
 use crate::waiter::Waiter;
 use pool_limits::{GrowFault, Trap, WaitResult};
 use pool_memory::{LocalMemory, MemoryError, MmapMemory, RuntimeLinearMemory};
-use pool_pages::{MemoryTunables, MemoryType, PageMaker, Pages, Unsupported};
+use pool_pages::{PageMaker, Pages};
+use pool_types::{MemoryTunables, MemoryType, Unsupported};
 use std::alloc::Global;
 use std::sync::{Condvar, Mutex, Wait};
 use std::time::Clock as HostClock;

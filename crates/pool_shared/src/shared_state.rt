@@ -1,5 +1,5 @@
 ghost use Rattle.std.specs.Prelude.{◌≡◌, ◌↔◌, ◌+◌, ◌≤◌, ◌^◌, ◌<◌, length, replicate, slice_range, Some, None, Err, IfOk, IfErr, IfSome, OnOk, OnErr, true, not};
-ghost use Rattle.pool_pages.specs.MemoryTypes.{page_size, minimum_byte_size};
+ghost use Rattle.pool_types.specs.MemoryTypes.{page_size, minimum_byte_size};
 ghost use Rattle.pool_memory.specs.Linear.{IsLinear, is_mapped};
 ghost use Rattle.pool_memory.specs.Making.{Granted};
 ghost use Rattle.pool_memory.specs.Memories.{bytes_of, memory_written, access_answer};
@@ -8,7 +8,8 @@ ghost use Rattle.pool_shared.specs.Shared.{Grows, kind_refusal, type_refusal, sh
 use crate::spot_state::SpotState;
 use pool_limits::{GrowFault, Trap, Unlimited};
 use pool_memory::{LocalMemory, MemoryError, MmapMemory, RuntimeLinearMemory, granted_limits};
-use pool_pages::{MemoryTunables, MemoryType, PageMaker, Pages, Unsupported};
+use pool_pages::{PageMaker, Pages};
+use pool_types::{MemoryTunables, MemoryType, Unsupported};
 use std::alloc::Global;
 use std::marker::Model;
 

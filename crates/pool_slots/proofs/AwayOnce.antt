@@ -1,23 +1,9 @@
 -- Over a right plan no slot is given out twice, and no region of one: each has one place that can give it out.
-use Rattle.std.proofs.Common.{◌≡◌, ◌≢◌, ℕ, ◌+◌, ◌-◌, ◌*◌, ◌/◌, ◌%◌, ◌<◌, ◌≤◌, ◌⊎◌, Bool, true, false, List, [], ◌∷◌, ◌++◌, length, refl, sym, ap, ◌∙◌, subst, inl, inr, arith, Option, None, Some}
-use Rattle.std.specs.Prelude.{map, min, ◌==◌, ◌&&◌, nat_le, nat_lt, if◌then◌else◌}
-use Rattle.std.specs.List.{AllByRecursion}
-use Rattle.std.proofs.lemmas.Bool.{cases_Bool, and_parts, and_from, eq-eqb, le-leb, leb-true, lt-ltb, ltb-true, true≢false}
-use Rattle.std.proofs.lemmas.Nat.{div-mul-add}
-use Rattle.std.proofs.Math.Nat.{mul-mod_left, mul-div_left}
+use Rattle.std.proofs.Common.{◌≡◌, ◌≢◌, ℕ, ◌+◌, ◌-◌, ◌*◌, ◌/◌, ◌%◌, ◌<◌, ◌≤◌, ◌⊎◌, Bool, true, false, List, [], ◌∷◌, ◌++◌, length, refl, sym, ap, ◌∙◌, subst, inl, inr, arith, Option, None, Some, map, min, ◌==◌, ◌&&◌, nat_le, nat_lt, if◌then◌else◌}
+use Rattle.pool_slots.proofs.Imports.{AllByRecursion, cases_Bool, and_parts, and_from, eq-eqb, le-leb, leb-true, lt-ltb, ltb-true, true≢false, div-mul-add, mul-mod_left, mul-div_left, one_if, total, same, times, pick_unit, SlotKind, UnitName, inside, same_is, used_units, shard_units, ShardState, MemoryInModule, is_out, out_once}
 use mathlib.Core.Option.{some}
 use lib.ListN.{get_elem?}
-use Rattle.pool_hall.specs.Sum.{one_if, total}
-use Rattle.pool_hall.specs.Unit.{same, times, pick_unit}
-use Rattle.pool_hall.specs.declared.unit_name.SlotKind.{SlotKind}
 use Rattle.pool_hall.specs.declared.unit_name.SlotKind.TheVariants as of_slot
-use Rattle.pool_hall.specs.declared.unit_name.UnitName.{UnitName}
-use Rattle.pool_hall.proofs.Totals.{inside}
-use Rattle.pool_hall.proofs.Units.{same_is}
-use Rattle.pool_index.specs.Part.{used_units, shard_units}
-use Rattle.pool_index.specs.Shard.{ShardState}
-use Rattle.pool_index.specs.declared.ids.MemoryInModule.{MemoryInModule}
-use Rattle.pool_index.proofs.SlotUnits.{is_out, out_once}
 use Rattle.pool_slots.specs.Cells.{Cell, unmapped, unknown, previously_used, taken}
 use Rattle.pool_slots.specs.HeapLists.{heap_entry, heaps_away, is_out as is_out_entry}
 use Rattle.pool_slots.specs.HeapUnits.{heap_slot}

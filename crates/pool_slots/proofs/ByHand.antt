@@ -1,26 +1,7 @@
 -- A plain slot that can be zeroed by hand: it still can be when a range of it is decommitted, also where that fails
 -- half-way, and once it is zeroed it is clean.
-use Rattle.std.proofs.Common.{◌≡◌, ℕ, ◌+◌, ◌-◌, ◌*◌, ◌/◌, ◌%◌, ◌<◌, ◌≤◌, true, false, List, length, get_or, refl, sym, ap, ◌∙◌, subst, inl, inr, arith, slice_range, replicate, Option, None, Some, Result, Err}
-use Rattle.std.specs.Prelude.{IfSome, option_map, slice_index_or}
-use Rattle.std.proofs.lemmas.Bool.{cases_lt}
-use Rattle.std.proofs.lemmas.List.{length-replicate, get_or-replicate}
-use Rattle.pool_pages.specs.Count.{count}
-use Rattle.pool_pages.specs.Contents.{Contents, IsShaped, IsIn, Page, page_at, page_origin, decommitted, put, written}
-use Rattle.pool_pages.specs.Told.{Told, IsPartly, MayChangePartly, Faulted, TellsShaped, overwritten, decommitting}
-use Rattle.pool_pages.specs.declared.pages.DecommitBehavior.{DecommitBehavior}
-use Rattle.pool_pages.proofs.Multiples.{page_of, add_whole}
-use Rattle.pool_pages.proofs.Puts.{get_or-range, length-put, get_or-put_in, get_or-put_above, same_at, same_range, same_by_pages, range_within}
-use Rattle.pool_images.specs.declared.image_slot.ImageName.{ImageName}
-use Rattle.pool_images.specs.declared.ranges.ByteRange.{ByteRange}
-use Rattle.pool_images.specs.Slots.{Slot, IsSlot, Keeps, IsSound, IsReady, IsClean, IsPart, CallFaulted, Holds, origin_image, restored_image, placed, size_of}
-use Rattle.pool_images.proofs.Backs.{back_there, tells_shaped}
-use Rattle.pool_images.proofs.Decommits.{by_page}
-use Rattle.pool_images.proofs.Fitting.{keeps_decommitted}
-use Rattle.pool_images.proofs.Making.{written_ready}
-use Rattle.pool_images.proofs.Queued.{next, fits_next}
-use Rattle.pool_images.proofs.Ready.{lifted, followed, paired}
-use Rattle.pool_pages.proofs.Shapes.{written_shaped}
-use Rattle.pool_images.proofs.Identity.{same_faulted}
+use Rattle.std.proofs.Common.{◌≡◌, ℕ, ◌+◌, ◌-◌, ◌*◌, ◌/◌, ◌%◌, ◌<◌, ◌≤◌, true, false, List, length, get_or, refl, sym, ap, ◌∙◌, subst, inl, inr, arith, slice_range, replicate, Option, None, Some, Result, Err, IfSome, option_map, slice_index_or}
+use Rattle.pool_slots.proofs.Imports.{cases_lt, length-replicate, get_or-replicate, count, Contents, IsShaped, IsIn, Page, page_at, page_origin, decommitted, put, written, Told, IsPartly, MayChangePartly, Faulted, TellsShaped, overwritten, decommitting, DecommitBehavior, page_of, add_whole, length-put, get_or-put_in, get_or-put_above, same_at, same_range, same_by_pages, range_within, ImageName, ByteRange, Slot, IsSlot, Keeps, IsSound, IsReady, IsClean, IsPart, CallFaulted, Holds, origin_image, restored_image, placed, size_of, back_there, tells_shaped, by_page, to_page, from_page, keeps_decommitted, written_ready, next, fits_next, lifted, followed, paired, written_shaped, same_faulted}
 use Rattle.pool_slots.specs.SlotQueues.{plain_slot, CanBeZeroed, IsLeftSlot, zeroed_slot}
 
 -- what holds of told pages of a slot that isn't in use and holds zeros from n on
@@ -67,20 +48,6 @@ zeroed_next n r s part z =
 -- a place in a page holds what it goes back to
 abbrev HoldsAt : ℕ → ℕ → Page → Type 0
 HoldsAt i x p = get_or p.bytes i x ≡ get_or p.origin i x
-
-to_page : (c : Contents) (a b k i x : ℕ) → slice_range c.bytes a b ≡ slice_range c.origin a b → i < c.page → a ≤ k * c.page + i → k * c.page + i < b → HoldsAt i x (page_at k c)
-to_page c a b k i x same inside from below =
-    let under : i < k * c.page + c.page - k * c.page = omega arith in
-    get_or-range c.bytes (k * c.page) (k * c.page + c.page) i x under
-    ∙ same_at c.bytes c.origin a b (k * c.page + i) x same from below
-    ∙ sym (get_or-range c.origin (k * c.page) (k * c.page + c.page) i x under)
-
-from_page : (d : Contents) (k i x : ℕ) → i < d.page → HoldsAt i x (page_at k d) → get_or d.bytes (k * d.page + i) x ≡ get_or d.origin (k * d.page + i) x
-from_page d k i x inside holds =
-    let under : i < k * d.page + d.page - k * d.page = omega arith in
-    sym (get_or-range d.bytes (k * d.page) (k * d.page + d.page) i x under)
-    ∙ holds
-    ∙ get_or-range d.origin (k * d.page) (k * d.page + d.page) i x under
 
 module _ (n start len : ℕ) (s : Slot) (c d : Contents) (fits : IsSlot s) (inside : start + len ≤ size_of s) (i : IsIdle n s c) (partly : IsPartly (decommitting (s.base.bytes + start) len) c d) (shaped : IsShaped s.region.page s.region.len d) where
   part_page : d.page ≡ c.page

@@ -1,20 +1,7 @@
 -- A slot that is clean once ranges are decommitted has no other page that is to be.
-use Rattle.std.proofs.Common.{◌≡◌, ℕ, ◌+◌, ◌-◌, ◌*◌, ◌/◌, ◌%◌, ◌<◌, ◌≤◌, List, [], ◌∷◌, length, sym, ap, ◌∙◌, subst, inl, inr, arith, slice_range, Option, None, Some}
-use Rattle.std.specs.Prelude.{IfSome, All, option_map, ◌⊎◌}
-use Rattle.std.proofs.lemmas.Bool.{cases_lt}
-use Rattle.std.proofs.lemmas.List.Elements.{All-head, All-tail}
-use Rattle.std.proofs.Math.Nat.{mul-mod_left}
-use Rattle.pool_pages.specs.Contents.{Contents, IsShaped, IsIn, Page, page_at, page_bytes, page_origin, decommitted}
-use Rattle.pool_pages.specs.PageLaws.{IsPages}
-use Rattle.pool_pages.proofs.Multiples.{whole, add_whole, page_below}
-use Rattle.pool_pages.proofs.PageChanges.{decommit_law}
-use Rattle.pool_pages.proofs.Puts.{range_range}
-use Rattle.pool_images.specs.declared.ranges.ByteRange.{ByteRange}
-use Rattle.pool_images.specs.Slots.{Slot, IsSlot, IsSound, IsClean, IsPart, size_of, decommitted_all}
-use Rattle.pool_images.proofs.Marks.{page_lt}
-use Rattle.pool_images.proofs.Queued.{next, fits_next}
+use Rattle.std.proofs.Common.{◌≡◌, ℕ, ◌+◌, ◌-◌, ◌*◌, ◌/◌, ◌%◌, ◌<◌, ◌≤◌, List, [], ◌∷◌, length, sym, ap, ◌∙◌, subst, inl, inr, arith, slice_range, Option, None, Some, IfSome, All, option_map, ◌⊎◌}
+use Rattle.pool_slots.proofs.Imports.{cases_lt, All-head, All-tail, mul-mod_left, told_both, Contents, IsShaped, IsIn, Page, page_at, page_bytes, page_origin, decommitted, IsPages, whole, add_whole, page_below, decommit_law, range_range, ByteRange, Slot, IsSlot, IsSound, IsClean, IsPart, size_of, decommitted_all, page_lt, next, fits_next}
 use Rattle.pool_slots.specs.SlotQueues.{IsInSome}
-use Rattle.pool_slots.proofs.Plans.{both_told}
 
 -- parts of two ranges that are equal are equal
 same_part : (xs ys : List ℕ) (base n at len : ℕ) → base ≤ at → at + len ≤ base + n → slice_range xs base (base + n) ≡ slice_range ys base (base + n) → slice_range xs at (at + len) ≡ slice_range ys at (at + len)
@@ -83,7 +70,7 @@ covered_of [] s fits parts clean =
     let S : Contents → Type 0 = IsSound s.region.page s.region.len s.base.bytes size in
     let H : Contents → Type 0 = λ c. slice_range c.bytes (s.base.bytes + 0) (s.base.bytes + size) ≡ slice_range c.origin (s.base.bytes + 0) (s.base.bytes + size) in
     let C : Contents → Type 0 = λ c. (k : ℕ) → IsIn s.base.bytes size s.region.page k → (page_bytes k c ≡ page_origin k c) ⊎ IsInSome s.base.bytes s.region.page k [] in
-    both_told S H C s.region.contents
+    told_both S H C s.region.contents
     (λ c sound holds k is.
     let page : c.page ≡ s.region.page = sound.shaped.same_page in
     let to : k * s.region.page + s.region.page ≤ s.base.bytes + size = page_below k (s.base.bytes + size) s.region.page (slot_whole s fits) is.below in
@@ -99,5 +86,5 @@ covered_of (r ∷ rs) s fits parts clean =
     let Q : Contents → Type 0 = λ c. (k : ℕ) → IsIn s.base.bytes (size_of s) s.region.page k → (page_bytes k c ≡ page_origin k c) ⊎ IsInSome s.base.bytes s.region.page k rs in
     let C : Contents → Type 0 = λ c. (k : ℕ) → IsIn s.base.bytes (size_of s) s.region.page k → (page_bytes k c ≡ page_origin k c) ⊎ IsInSome s.base.bytes s.region.page k (r ∷ rs) in
     let rest : IfSome (option_map (decommitted (s.base.bytes + r.start) r.len) s.region.contents) Q = covered_of rs (next r s) (fits_next r s fits first) (All-tail P r rs parts) clean in
-    both_told S (λ c. Q (decommitted (s.base.bytes + r.start) r.len c)) C s.region.contents (λ c sound there. first_covered s r rs c fits first sound there)
+    told_both S (λ c. Q (decommitted (s.base.bytes + r.start) r.len c)) C s.region.contents (λ c sound there. first_covered s r rs c fits first sound there)
     fits.told (from_mapped (decommitted (s.base.bytes + r.start) r.len) Q s.region.contents rest)

@@ -1,15 +1,6 @@
 -- A flush: the decommits of all runs of ranges from the first on, up to the first that fails, and the return of the slots.
-use Rattle.std.proofs.Common.{◌≡◌, ℕ, ◌+◌, ◌<◌, Bool, true, false, List, [], ◌∷◌, ◌++◌, length, refl, sym, ap, ◌∙◌, subst, inl, inr, arith}
-use Rattle.std.specs.Prelude.{map, filter, not}
-use Rattle.std.specs.List.{AllZip}
-use Rattle.std.proofs.lemmas.Bool.{cases_Bool}
-use Rattle.std.proofs.lemmas.List.{append-nil, append_assoc, map-append}
-use Rattle.pool_pages.specs.Count.{Count}
-use Rattle.pool_pages.specs.Told.{Told, PageCall, decommitting}
-use Rattle.pool_images.specs.declared.ranges.ByteRange.{ByteRange}
-use Rattle.pool_images.specs.Orders.{Follows}
-use Rattle.pool_images.specs.Slots.{Slot, SlotIdentity, decommitted_all}
-use Rattle.pool_images.proofs.Ordering.{follows_then}
+use Rattle.std.proofs.Common.{◌≡◌, ℕ, ◌+◌, ◌<◌, Bool, true, false, List, [], ◌∷◌, ◌++◌, length, refl, sym, ap, ◌∙◌, subst, inl, inr, arith, map, filter, not}
+use Rattle.pool_slots.proofs.Imports.{AllZip, cases_Bool, append-nil, append_assoc, map-append, Count, Told, PageCall, decommitting, ByteRange, Follows, Slot, SlotIdentity, decommitted_all, follows_then}
 use Rattle.pool_slots.specs.declared.queued_range.QueuedRange.{QueuedRange}
 use Rattle.pool_slots.specs.declared.slot_name.SlotName.{SlotName}
 use Rattle.pool_slots.specs.SlotQueues.{Queued, Queue, front, behind, same_slot, owner, is_of, ranges_of, HasOwners, change_at, first_slot, after_run_of, after_run, IsFaulted, IsLeftBy, IsSlotLeft, forgotten_slot, settle, settled}

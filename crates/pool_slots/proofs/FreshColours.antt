@@ -1,25 +1,8 @@
 -- An image slot can be made of a region that was given its colour.
-use Rattle.std.proofs.Common.{◌≡◌, ℕ, zero, suc, ◌+◌, ◌-◌, ◌*◌, ◌/◌, ◌%◌, ◌^◌, ◌<◌, ◌≤◌, Bool, true, false, replicate, refl, ap, ◌∙◌, sym, arith, inl, inr, Option, Some, None, get_or, slice_range}
-use Rattle.std.specs.Prelude.{IfSome}
-use Rattle.std.proofs.Math.Nat.{zero-div, zero-mod}
-use Rattle.std.proofs.lemmas.Bool.{cases_lt}
-use Rattle.pool_pages.specs.Count.{count, rounded_up}
-use Rattle.pool_pages.specs.Contents.{Contents, CanReach, recoloured}
-use Rattle.pool_pages.specs.Told.{Told}
-use Rattle.pool_pages.specs.MakerTold.{MakerTold, fresh, made_region}
-use Rattle.pool_pages.specs.declared.pages.DecommitBehavior.{DecommitBehavior}
+use Rattle.std.proofs.Common.{◌≡◌, ℕ, ◌+◌, ◌-◌, ◌*◌, ◌/◌, ◌%◌, ◌^◌, ◌<◌, ◌≤◌, Bool, true, false, replicate, refl, ap, ◌∙◌, sym, arith, inl, inr, Option, Some, None, slice_range, IfSome}
+use Rattle.pool_slots.proofs.Imports.{zero-div, zero-mod, cases_lt, rounded_is_whole, replicated, told_weaker, count, rounded_up, Contents, CanReach, recoloured, Told, MakerTold, fresh, made_region, DecommitBehavior, page_above, IsFresh, HasColour, coloured, marked_in, range-zeros}
 use Rattle.pool_pages.specs.declared.pages.RegionName.TheVariants.{Memory}
-use Rattle.pool_pages.proofs.PageNumbers.{page_above}
-use Rattle.pool_images.specs.Slots.{IsFresh, HasColour, coloured}
-use Rattle.pool_images.proofs.Marks.{marked_in, range-zeros}
 use Rattle.pool_slots.specs.Colourings.{ColouredRegionsAreFresh, stripe_colour}
-use Rattle.pool_slots.proofs.Layouts.{rounded_is_whole}
-use Rattle.pool_slots.proofs.Plans.{mapped_told}
-
-replicated : (n k : ℕ) → get_or (replicate {A = ℕ} n 0) k 0 ≡ 0
-replicated zero k = refl
-replicated (suc n) zero = refl
-replicated (suc n) (suc k) = replicated n k
 
 -- what a region tells that an image slot of a colour can be made of
 pub record Tells (len : ℕ) (colour : Option ℕ) (c : Contents) : Type 0 where
@@ -73,10 +56,10 @@ region_fresh colour page static_size t bounded paged long told =
       inside = rw paged (rw long (omega arith));
       bounded = rw paged bounded;
       within = omega arith;
-      origin = mapped_told (Tells size colour) (λ c. c.origin ≡ replicate t.len 0) t.contents (λ c h. rw long h.origin) told;
-      zeros = mapped_told (Tells size colour) (λ c. slice_range c.bytes 0 (0 + rounded_up t.page static_size) ≡ replicate (rounded_up t.page static_size) 0) t.contents (λ c h. rw paged h.zeros) told;
-      reach = mapped_told (Tells size colour) (CanReach 0 0) t.contents (λ c h. h.reach) told;
-      has_colour = mapped_told (Tells size colour) (HasColour 0 (rounded_up t.page static_size) colour) t.contents (λ c h. rw paged h.has_colour) told;
+      origin = told_weaker (Tells size colour) (λ c. c.origin ≡ replicate t.len 0) t.contents (λ c h. rw long h.origin) told;
+      zeros = told_weaker (Tells size colour) (λ c. slice_range c.bytes 0 (0 + rounded_up t.page static_size) ≡ replicate (rounded_up t.page static_size) 0) t.contents (λ c h. rw paged h.zeros) told;
+      reach = told_weaker (Tells size colour) (CanReach 0 0) t.contents (λ c h. h.reach) told;
+      has_colour = told_weaker (Tells size colour) (HasColour 0 (rounded_up t.page static_size) colour) t.contents (λ c h. rw paged h.has_colour) told;
     }
 
 same_shape : (colour : Option ℕ) (start len : ℕ) (t : Told) → ((coloured colour start len t).page ≡ t.page) × ((coloured colour start len t).len ≡ t.len)

@@ -1,6 +1,5 @@
 -- The list of heaps as it is made.
-use Rattle.std.proofs.Common.{◌≡◌, ℕ, ◌^◌, ◌<◌, Bool, true, false, List, Option, None, sym, subst, replicate, slice_index_or, arith}
-use Rattle.std.specs.Prelude.{IfSome}
+use Rattle.std.proofs.Common.{◌≡◌, ℕ, ◌^◌, ◌<◌, Bool, true, false, List, Option, None, sym, subst, replicate, slice_index_or, arith, IfSome}
 use Rattle.pool_index.proofs.Tables.{get_or-replicate-any}
 use Rattle.pool_slots.specs.HeapLists.{heap_of, noted_by, heaps_made, IsSoundHeapList}
 use Rattle.pool_slots.specs.declared.heap_list.HeapEntry.{HeapEntry}

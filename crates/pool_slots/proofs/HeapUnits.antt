@@ -1,12 +1,7 @@
 -- What calls on the list of heaps do to the units that it has given out.
 use Rattle.std.proofs.Common.{◌≡◌, ◌≢◌, ℕ, zero, suc, ◌+◌, ◌<◌, ◌≤◌, ◌==◌, ◌&&◌, Bool, true, false, List, [], ◌∷◌, length, Option, None, refl, sym, ap, ◌∙◌, ⊎_elim, arith, true≢false, replicate, slice_index_or, slice_set}
-use Rattle.std.proofs.lemmas.Bool.{cases_Bool, eq-eqb, eqb-true}
-use Rattle.std.proofs.lemmas.List.{get_or-set_other, get_or-set_same, length-set}
-use Rattle.pool_hall.specs.Sum.{one_if, total}
-use Rattle.pool_hall.specs.Unit.{same, times}
+use Rattle.pool_slots.proofs.Imports.{cases_Bool, eq-eqb, eqb-true, get_or-set_other, get_or-set_same, length-set, one_if, total, same, times, UnitName, same_is}
 use Rattle.pool_hall.specs.declared.unit_name.SlotKind.TheVariants as of_slot
-use Rattle.pool_hall.specs.declared.unit_name.UnitName.{UnitName}
-use Rattle.pool_hall.proofs.Units.{same_is}
 use Rattle.pool_slots.specs.HeapLists.{heap_unit, is_out, heap_of, noted_by, heap_entry, heap_in, memory_of, IsHere, IsOut, heaps_made, heap_taken, heap_returned, away_from, heaps_away}
 use Rattle.pool_slots.specs.HeapUnits.{heap_slot, TakesOneHeap, ReturnsOneHeap, HeapsKeepToTheirSlots, HeapTakesCount, HeapReturnsCount, NoHeapsOutAtFirst, IsOfOutHeap, HeapsAwayAreOut, HeapUnitsAreOfOutSlots}
 use Rattle.pool_slots.specs.ListUnits.{bare, is_right, is_region}

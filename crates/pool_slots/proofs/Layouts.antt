@@ -1,42 +1,9 @@
 -- The arithmetic of a slab's layout.
-use Rattle.std.proofs.Common.{◌≡◌, ℕ, zero, suc, ◌+◌, ◌-◌, ◌*◌, ◌/◌, ◌%◌, ◌^◌, ◌<◌, ◌≤◌, nat_lt, Bool, true, false, ◌&&◌, refl, sym, ap, ◌∙◌, subst, arith, inl, inr}
-use Rattle.std.specs.Prelude.{max, min, nat_le, if◌then◌else◌}
-use Rattle.std.specs.Int.{div_ceil}
-use Rattle.std.proofs.Math.Nat.{mul-le-mul_right, mul-mod_left}
-use Rattle.std.proofs.lemmas.Nat.{div-mul-add}
-use Rattle.std.proofs.lemmas.Grind.{div_ceil_times}
-use Rattle.std.proofs.lemmas.Bool.{cases_lt}
-use Rattle.std.proofs.lemmas.Bool.Decides.{nat_tests}
-use Rattle.pool_pages.specs.Count.{rounded_up}
-use Rattle.pool_pages.specs.SettingsRules.{is_address}
-use Rattle.pool_pages.proofs.Multiples.{whole, page_of, page_below}
+use Rattle.std.proofs.Common.{◌≡◌, ℕ, zero, suc, ◌+◌, ◌-◌, ◌*◌, ◌/◌, ◌%◌, ◌^◌, ◌<◌, ◌≤◌, nat_lt, Bool, true, false, ◌&&◌, refl, sym, ap, ◌∙◌, subst, arith, inl, inr, max, min, nat_le, if◌then◌else◌}
+use Rattle.pool_slots.proofs.Imports.{div_ceil, mul-le-mul_right, mul-mod_left, div-mul-add, div_ceil_times, cases_lt, nat_tests, rounded_up_above, rounded_up, is_address, whole, page_of, page_below}
 use Rattle.pool_slots.specs.declared.slab.SlabConstraints.{SlabConstraints}
 use Rattle.pool_slots.specs.declared.slab.SlabLayout.{SlabLayout}
 use Rattle.pool_slots.specs.Slabs.{IsLayout, SlotsLieApart, faulting_region, has_room, is_striped, layout_of, slot_size, stripe_count, striped_slot, stripe_distance, total_bytes}
-
--- whole pages stay as they are
-pub rounded_whole : (page n : ℕ) → 0 < page → n % page ≡ 0 → rounded_up page n ≡ n
-rounded_whole page n some pages =
-    let up : ℕ = (n + page - 1) / page * page in
-    let near = page_of (n + page - 1) page some in
-    let most : up ≤ n + page - 1 = near.0 in
-    let least : n + page - 1 < up + page = near.1 in
-    let is : page * (n / page) ≡ n = whole n page pages in
-    let other : n / page * page ≡ n = omega (arith, is) in
-    elim (cases_lt n up) [
-      | inl more ↦ absurd (omega (arith, page_below (n / page) up page (mul-mod_left ((n + page - 1) / page) page) (omega arith)))
-      | inr same ↦ omega arith
-    ]
-
--- a number is at most what it is rounded up to
-pub rounded_above : (page n : ℕ) → 0 < page → n ≤ rounded_up page n
-rounded_above page n some =
-    let near = page_of (n + page - 1) page some in
-    let least : n + page - 1 < (n + page - 1) / page * page + page = near.1 in
-    omega (arith, least)
-
-pub rounded_is_whole : (page n : ℕ) → rounded_up page n % page ≡ 0
-rounded_is_whole page n = mul-mod_left ((n + page - 1) / page) page
 
 -- and stays at or below whole pages that it was at or below
 pub rounded_within : (page n bound : ℕ) → 0 < page → bound % page ≡ 0 → n ≤ bound → rounded_up page n ≤ bound
@@ -104,7 +71,7 @@ module _ (c : SlabConstraints) (page_some : 0 < c.guard_bytes.page) (pages : fau
   fits_striped slot stripes some is =
       let share : ℕ = div_ceil f stripes in
       let size : ℕ = max share g in
-      let over : size ≤ rounded_up c.guard_bytes.page size = rounded_above c.guard_bytes.page size page_some in
+      let over : size ≤ rounded_up c.guard_bytes.page size = rounded_up_above c.guard_bytes.page size page_some in
       let bound : size ≤ f = omega (arith, share_within f stripes some) in
       let under : rounded_up c.guard_bytes.page size ≤ f = rounded_within c.guard_bytes.page size f page_some pages bound in
       let covers : f ≤ share * stripes = (div_ceil_times f stripes some).0 in

@@ -1,3 +1,4 @@
+mod Imports
 pub mod Lists
 pub mod Coverings
 pub mod Resets

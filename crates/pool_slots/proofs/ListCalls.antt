@@ -1,10 +1,6 @@
 -- What each call on a part makes of the units of all parts.
 use Rattle.std.proofs.Common.{◌≡◌, ℕ, ◌+◌, ◌<◌, Bool, true, false, List, Option, length, refl, sym, ap, ◌∙◌, subst, arith}
-use Rattle.pool_hall.specs.Sum.{one_if, total}
-use Rattle.pool_hall.specs.Unit.{same, times}
-use Rattle.pool_hall.specs.declared.unit_name.UnitName.{UnitName}
-use Rattle.pool_index.specs.Part.{slot_unit}
-use Rattle.pool_index.specs.Round.{found_units}
+use Rattle.pool_slots.proofs.Imports.{one_if, total, same, times, UnitName, slot_unit, found_units}
 use Rattle.pool_slots.specs.Cells.{Cell, taken}
 use Rattle.pool_slots.specs.HeapLists.{heap_unit}
 use Rattle.pool_slots.specs.ListUnits.{all_away, all_kept, PickCounts, FreeCounts, TakeCounts, PutCounts, MergeCounts, QueueTakeCounts, HeapTakeCounts, HeapPutCounts}

@@ -1,12 +1,8 @@
 -- What all parts of a pool have given out and keep, by what each of them does.
-use Rattle.std.proofs.Common.{◌≡◌, ◌≢◌, ℕ, zero, suc, ◌+◌, ◌<◌, ◌≤◌, List, [], ◌∷◌, length, refl, ap, ◌∙◌, inl, inr, arith}
-use Rattle.std.specs.Prelude.{slice_index_or}
-use Rattle.std.proofs.lemmas.Bool.{cases_lt}
+use Rattle.std.proofs.Common.{◌≡◌, ◌≢◌, ℕ, zero, suc, ◌+◌, ◌<◌, ◌≤◌, List, [], ◌∷◌, length, refl, ap, ◌∙◌, inl, inr, arith, slice_index_or}
+use Rattle.pool_slots.proofs.Imports.{cases_lt, total, UnitName, element, inside, total_append, total_set, total_only, total_zero}
 use mathlib.Core.Option.{some, some-injective}
 use lib.ListN.{get_elem?}
-use Rattle.pool_hall.specs.Sum.{total}
-use Rattle.pool_hall.specs.declared.unit_name.UnitName.{UnitName}
-use Rattle.pool_hall.proofs.Totals.{element, inside, total_append, total_set, total_only, total_zero}
 use Rattle.pool_slots.specs.ListUnits.{all_away, all_kept, AwayFollows, KeptFollows}
 use Rattle.pool_slots.specs.PartUnits.{part_away, part_kept}
 use Rattle.pool_slots.specs.Parts.{part_at, with_part}

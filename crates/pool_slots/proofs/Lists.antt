@@ -1,6 +1,5 @@
 -- Facts that hold of each element of a list, or of two lists element by element.
-use Rattle.std.proofs.Common.{◌≡◌, ℕ, zero, suc, ◌<◌, Bool, true, false, List, [], ◌∷◌, ◌++◌, length, get_or, refl, ap, arith, Ok, Err}
-use Rattle.std.specs.Prelude.{map, filter, cond, Result, OnErr}
+use Rattle.std.proofs.Common.{◌≡◌, ℕ, suc, Bool, true, false, List, [], ◌∷◌, ◌++◌, length, refl, ap, Ok, Err, map, filter, cond, Result, OnErr}
 use Rattle.std.specs.List.{AllByRecursion, AllZip}
 
 pub each_append : {X : Type 0} (P : X → Type 0) (xs ys : List X) → AllByRecursion P xs → AllByRecursion P ys → AllByRecursion P (xs ++ ys)
@@ -14,11 +13,6 @@ each_weaker P Q (x ∷ xs) step a = (step x a.0, each_weaker P Q xs step a.1)
 pub each_map : {X : Type 0} (P Q : X → Type 0) (f : X → X) (xs : List X) → ((x : X) → P x → Q (f x)) → AllByRecursion P xs → AllByRecursion Q (map f xs)
 each_map P Q f [] step a = tt
 each_map P Q f (x ∷ xs) step a = (step x a.0, each_map P Q f xs step a.1)
-
-pub each_at : {X : Type 0} (P : X → Type 0) (xs : List X) (i : ℕ) (d : X) → i < length xs → AllByRecursion P xs → P (get_or xs i d)
-each_at P [] i d below a = absurd (omega arith)
-each_at P (x ∷ xs) zero d below a = a.0
-each_at P (x ∷ xs) (suc i) d below a = each_at P xs i d (omega arith) a.1
 
 pub each_both : {X : Type 0} (P Q R : X → Type 0) (xs : List X) → ((x : X) → P x → Q x → R x) → AllByRecursion P xs → AllByRecursion Q xs → AllByRecursion R xs
 each_both P Q R [] step a b = tt

@@ -1,13 +1,7 @@
 -- The parts of a pool, made one behind the other, stand at the places that the plan has for them.
-use Rattle.std.proofs.Common.{◌≡◌, ℕ, zero, suc, ◌+◌, ◌-◌, ◌<◌, ◌≤◌, List, [], ◌∷◌, ◌++◌, length, get_or, refl, sym, ap, ◌∙◌, subst, append_assoc, append-nil, inl, inr, Ok, Err, arith}
-use Rattle.std.specs.Prelude.{map, min, Bool, false, Option, None, Some, IfSome, Result, IfErr, MatchResult}
-use Rattle.std.specs.List.{AllByRecursion, range_with_len}
-use Rattle.std.proofs.lemmas.Bool.{cases_lt, lt-ltb, le-ltb}
-use Rattle.std.proofs.lemmas.List.{length-append, get_or_append_left, get_or-append_right}
-use Rattle.std.proofs.lemmas.List.FromFn.{length-map-range_with_len, get_or-map-range_with_len}
-use Rattle.pool_hall.specs.declared.unit_name.SlotKind.{SlotKind}
+use Rattle.std.proofs.Common.{◌≡◌, ℕ, zero, suc, ◌+◌, ◌-◌, ◌<◌, ◌≤◌, List, [], ◌∷◌, ◌++◌, length, get_or, refl, sym, ap, ◌∙◌, subst, append_assoc, append-nil, inl, inr, Ok, Err, arith, map, min, Bool, false, Option, None, Some, IfSome, Result, IfErr, MatchResult}
+use Rattle.pool_slots.proofs.Imports.{AllByRecursion, range_with_len, cases_lt, lt-ltb, le-ltb, length-append, get_or_append_left, get_or-append_right, length-map-range_with_len, get_or-map-range_with_len, SlotKind, MakerTold, Planned}
 use Rattle.pool_hall.specs.declared.unit_name.SlotKind.TheVariants as of_slot
-use Rattle.pool_pages.specs.MakerTold.{MakerTold, Planned}
 use Rattle.pool_slots.specs.Cells.{taken}
 use Rattle.pool_slots.specs.Colourings.{RaisesUnlessGivenUp, RaisesBehindUnlessGivenUp}
 use Rattle.pool_slots.specs.Makings.{IsListedPoolFault}

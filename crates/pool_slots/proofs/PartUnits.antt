@@ -1,15 +1,6 @@
 -- What the calls on cells and queues do to the units that they have given out or keep.
-use Rattle.std.proofs.Common.{◌≡◌, ℕ, ◌+◌, true, false, List, [], ◌∷◌, ◌++◌, length, refl, ap, subst, inl, inr, arith, Option, None}
-use Rattle.std.specs.Prelude.{IsSome, slice_index_or}
-use Rattle.std.proofs.lemmas.Bool.{cases_lt}
-use Rattle.std.proofs.lemmas.List.{get_or_past}
-use Rattle.pool_index.specs.declared.ids.MemoryInModule.{MemoryInModule}
-use Rattle.pool_index.specs.declared.probe.Probe.TheVariants.{Pick}
-use Rattle.pool_index.proofs.Picking.{probe_picks}
-use Rattle.pool_index.proofs.SlotUnits.{out_less}
-use Rattle.pool_hall.specs.Sum.{total}
-use Rattle.pool_hall.specs.declared.unit_name.UnitName.{UnitName}
-use Rattle.pool_hall.proofs.Totals.{total_append}
+use Rattle.std.proofs.Common.{◌≡◌, ℕ, ◌+◌, true, false, List, [], ◌∷◌, ◌++◌, length, refl, ap, subst, inl, inr, arith, Option, None, IsSome, slice_index_or}
+use Rattle.pool_slots.proofs.Imports.{cases_lt, get_or_past, MemoryInModule, Pick, probe_picks, out_less, total, UnitName, total_append}
 use Rattle.pool_slots.specs.Cells.{Cell, unmapped, unknown, previously_used, taken}
 use Rattle.pool_slots.specs.RegionCells.{away_by, region_of}
 use Rattle.pool_slots.specs.SlotQueues.{Queued}

@@ -1,20 +1,11 @@
 -- The parts of a pool are made one behind the other, each at the place that the plan has for it.
-use Rattle.std.proofs.Common.{◌≡◌, ◌≢◌, ℕ, zero, suc, ◌+◌, ◌-◌, ◌*◌, ◌/◌, ◌%◌, ◌^◌, ◌<◌, ◌≤◌, List, [], ◌∷◌, ◌++◌, length, take, get_or, refl, sym, ap, ◌∙◌, subst, add-one, append-nil, append_assoc, inl, inr, arith}
-use Rattle.std.specs.Prelude.{map, min, replicate, Option, None, is_some, count_by}
-use Rattle.std.specs.List.{AllByRecursion, range_with_len}
-use Rattle.std.proofs.lemmas.Bool.{le-ltb}
-use Rattle.std.proofs.lemmas.List.{length-replicate}
-use Rattle.std.proofs.lemmas.List.Elements.{All-nil}
-use Rattle.std.proofs.lemmas.List.FromFn.{map-range_with_len_more}
-use Rattle.std.proofs.Math.Seq.{take-suc}
-use Rattle.pool_index.specs.declared.ids.MemoryInModule.{MemoryInModule}
-use Rattle.pool_index.specs.declared.warm_slot.WarmSlot.{WarmSlot}
+use Rattle.std.proofs.Common.{◌≡◌, ◌≢◌, ℕ, zero, suc, ◌+◌, ◌-◌, ◌*◌, ◌/◌, ◌%◌, ◌^◌, ◌<◌, ◌≤◌, List, [], ◌∷◌, ◌++◌, length, take, get_or, refl, sym, ap, ◌∙◌, subst, add-one, append-nil, append_assoc, inl, inr, arith, map, min, replicate, Option, None, is_some, count_by}
+use Rattle.pool_slots.proofs.Imports.{AllByRecursion, range_with_len, le-ltb, length-replicate, All-nil, map-range_with_len_more, take-suc, each_at, MemoryInModule, WarmSlot}
 use Rattle.pool_slots.specs.ListUnits.{IsShardOf}
 use Rattle.pool_slots.specs.Plans.{slots_at}
 use Rattle.pool_slots.specs.PartsMade.{shard_made, shard_part, shard_parts, queue_made, heaps_part, heaps_parts, HasNumbers, HaveNumbers}
 use Rattle.pool_slots.specs.declared.plan.Allocator.{Allocator}
 use Rattle.pool_slots.specs.declared.part.PoolPart.{PoolPart}
-use Rattle.pool_slots.proofs.Lists.{each_at}
 
 one_behind : {X : Type 0} (f : ℕ → X) (xs : List X) (k : ℕ) → xs ++ map f (range_with_len 0 (k + 1)) ≡ (xs ++ map f (range_with_len 0 k)) ++ f k ∷ []
 one_behind f xs k = ap (λ l. xs ++ l) (map-range_with_len_more f 0 k k (omega arith)) ∙ sym (append_assoc xs (map f (range_with_len 0 k)) (f k ∷ []))

@@ -1,23 +1,6 @@
 -- A plain slot is written, and reset.
-use Rattle.std.proofs.Common.{◌≡◌, ℕ, ◌+◌, ◌-◌, ◌%◌, ◌<◌, ◌≤◌, Bool, true, false, List, [], ◌∷◌, length, get_or, refl, sym, ap, ◌∙◌, subst, inl, inr, arith, min, replicate, slice_range, Option, None, Some}
-use Rattle.std.specs.Prelude.{IfSome, option_map, nat_lt, All, if◌then◌else◌}
-use Rattle.std.proofs.lemmas.Bool.{cases_lt, ltb-true, ltb-false}
-use Rattle.std.proofs.lemmas.List.Elements.{All-cons, All-nil}
-use Rattle.std.proofs.Math.Nat.{zero-mod}
-use Rattle.pool_pages.proofs.Multiples.{sub_whole}
-use Rattle.std.proofs.lemmas.List.{length-replicate, get_or-replicate, same_lists}
-use Rattle.pool_pages.specs.Contents.{Contents, IsShaped, CanReach, put, written, decommitted}
-use Rattle.pool_pages.specs.declared.pages.DecommitBehavior.{DecommitBehavior}
-use Rattle.pool_pages.proofs.Puts.{length-put, get_or-put_in, range-put_above, range_joined, same_range, same_at, length-range, get_or-range}
-use Rattle.pool_pages.proofs.Shapes.{written_shaped}
-use Rattle.pool_images.specs.declared.image_slot.ImageName.{ImageName}
-use Rattle.pool_images.specs.declared.ranges.ByteRange.{ByteRange}
-use Rattle.pool_images.specs.Slots.{Slot, IsSlot, IsSound, IsReady, IsClean, IsPart, Holds, restored_image, placed, size_of, reset_ranges, decommitted_all}
-use Rattle.pool_images.proofs.Backs.{back_here, back_there}
-use Rattle.pool_images.proofs.Making.{written_ready, reach_slot}
-use Rattle.pool_images.proofs.Queued.{next, fits_next}
-use Rattle.pool_images.proofs.Ready.{lifted, followed, paired}
-use Rattle.pool_images.proofs.Wiped.{size_whole}
+use Rattle.std.proofs.Common.{◌≡◌, ℕ, ◌+◌, ◌-◌, ◌%◌, ◌<◌, ◌≤◌, Bool, true, false, List, [], ◌∷◌, length, get_or, refl, sym, ap, ◌∙◌, subst, inl, inr, arith, min, replicate, slice_range, Option, None, Some, IfSome, option_map, nat_lt, All, if◌then◌else◌}
+use Rattle.pool_slots.proofs.Imports.{cases_lt, ltb-true, ltb-false, All-cons, All-nil, zero-mod, sub_whole, length-replicate, get_or-replicate, same_lists, Contents, IsShaped, put, written, decommitted, DecommitBehavior, length-put, get_or-put_in, range-put_above, range_joined, same_range, same_at, length-range, get_or-range, written_shaped, ImageName, ByteRange, Slot, IsSlot, IsSound, IsReady, IsClean, IsPart, Holds, restored_image, placed, size_of, reset_ranges, decommitted_all, back_here, back_there, written_ready, next, fits_next, lifted, followed, paired, size_whole}
 use Rattle.pool_slots.specs.PlainSlots.{IsPlain, IsUnusedFrom, plain_written, top_kept, top_reset, bottom_reset, below_top, above_bottom, CleanSlotsReadZeros}
 use Rattle.pool_slots.proofs.ByHand.{ready_after}
 
@@ -147,12 +130,6 @@ clean_between from to s p order within part below above =
       ready = lifted (IsHalfTold from to s) (IsReady (next r s)) (decommitted (s.base.bytes + from) (to - from)) s.region.contents (λ c h. ready_after r s c p.fits part h.sound h.ready) half;
       holds = all_held from to s s.region.contents refl p.fits after order within half;
     }
-
--- bytes of a plain slot can be reached
-pub reach_plain : (from at n : ℕ) (s : Slot) → from ≡ s.base.bytes + at → IsPlain s → at + n ≤ s.static_size → IfSome s.region.contents (CanReach from n)
-reach_plain from at n s e p within =
-    let R : ℕ → Type 0 = λ b. IfSome s.region.contents (CanReach b n) in
-    subst R (sym e) (reach_slot s at n p.fits p.ready (omega (arith, p.all)))
 
 -- the part of a slot between two places of whole pages
 part_between : (page size from to : ℕ) → from % page ≡ 0 → to % page ≡ 0 → from ≤ to → to ≤ size → IsPart page size (record { start = from; len = to - from })

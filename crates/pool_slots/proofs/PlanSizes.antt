@@ -1,11 +1,6 @@
 -- Numbers of slots and places.
-use Rattle.std.proofs.Common.{◌≡◌, ℕ, ◌+◌, ◌-◌, ◌*◌, ◌/◌, ◌<◌, ◌≤◌, ◌%◌, true, false, List, [], ◌∷◌, length, get_or, drop, drop-cons, add-one, length-drop, refl, sym, ap, ◌∙◌, subst, arith}
-use Rattle.std.specs.Prelude.{◌==◌, ◌&&◌, nat_le, nat_lt, if◌then◌else◌}
-use Rattle.std.specs.List.{AllByRecursion}
-use Rattle.std.proofs.lemmas.Bool.{and_parts, ltb-true}
-use Rattle.std.proofs.Math.Nat.{div-mul-le_self}
-use Rattle.std.proofs.lemmas.List.{nil_from_length}
-use Rattle.pool_images.proofs.Marks.{page_lt}
+use Rattle.std.proofs.Common.{◌≡◌, ℕ, ◌+◌, ◌-◌, ◌*◌, ◌/◌, ◌<◌, ◌≤◌, ◌%◌, true, false, List, ◌∷◌, length, get_or, drop, drop-cons, add-one, refl, sym, ap, ◌∙◌, subst, arith, ◌==◌, ◌&&◌, nat_le, nat_lt, if◌then◌else◌}
+use Rattle.pool_slots.proofs.Imports.{AllByRecursion, and_parts, ltb-true, div-mul-le_self, page_lt}
 use Rattle.pool_slots.specs.Plans.{has_number, have_number, home_in, home_among, IsPlacedAllocator}
 use Rattle.pool_slots.specs.declared.plan.Allocator.{Allocator}
 
@@ -51,12 +46,3 @@ pub placed_at : (i : ℕ) (all : List Allocator) (a : Allocator) (n : ℕ) → i
 placed_at i all a n inside is s =
     let e : drop i all ≡ a ∷ drop (i + 1) all = next_is all i a inside ∙ ap (λ (x : Allocator). x ∷ drop (i + 1) all) (sym (is a)) in
     (searched_from n i all a (drop (i + 1) all) e s).1
-
-none_past : (all : List Allocator) (i : ℕ) → length all ≤ i → drop i all ≡ []
-none_past all i past = nil_from_length (drop i all) (omega (arith, length-drop i all))
-
-pub search_over : (n i : ℕ) (all : List Allocator) → length all ≤ i → IsSearched n i all → ⊥
-search_over n i all past s =
-    let N : List Allocator → Type 0 = λ l. 0 < have_number l n in
-    let z : 0 < have_number [] n = subst N (none_past all i past) s.some in
-    omega arith

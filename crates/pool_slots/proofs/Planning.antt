@@ -1,12 +1,7 @@
 -- A plan whose blocks are separate gives each place one role, and each slot a home.
-use Rattle.std.proofs.Common.{◌≡◌, ℕ, ◌+◌, ◌-◌, ◌*◌, ◌/◌, ◌%◌, ◌^◌, ◌<◌, ◌≤◌, Bool, true, false, List, [], ◌∷◌, ◌++◌, refl, sym, ap, ◌∙◌, subst, inl, inr, arith}
-use Rattle.std.specs.Prelude.{map, ◌==◌, ◌&&◌, nat_le, nat_lt, if◌then◌else◌}
-use Rattle.std.specs.List.{AllByRecursion}
-use Rattle.std.proofs.lemmas.Bool.{cases_Bool, and_parts, and_from, eqb-true, le-leb, leb-true, lt-ltb, ltb-true}
-use Rattle.std.proofs.Math.Nat.{div-mul-le_self, div-add-mod, mod-lt}
-use Rattle.pool_hall.specs.declared.unit_name.SlotKind.{SlotKind}
-use Rattle.pool_hall.specs.declared.unit_name.SlotKind.TheVariants.{Memory, Table, Stack, Heap}
-use Rattle.pool_images.proofs.Marks.{page_lt}
+use Rattle.std.proofs.Common.{◌≡◌, ℕ, ◌+◌, ◌-◌, ◌*◌, ◌/◌, ◌%◌, ◌^◌, ◌<◌, ◌≤◌, Bool, true, false, List, [], ◌∷◌, ◌++◌, refl, sym, ap, ◌∙◌, subst, inl, inr, arith, map, ◌==◌, ◌&&◌, nat_le, nat_lt, if◌then◌else◌}
+use Rattle.pool_slots.proofs.Imports.{AllByRecursion, cases_Bool, and_parts, and_from, eqb-true, le-leb, leb-true, lt-ltb, ltb-true, div-mul-le_self, div-add-mod, mod-lt, SlotKind, Table, Stack, Heap, page_lt}
+use Rattle.pool_hall.specs.declared.unit_name.SlotKind.TheVariants.{Memory}
 use Rattle.pool_slots.specs.SlotNames.{of_kind}
 use Rattle.pool_slots.specs.Plans.{allocators_of, allocators, number_at, slots_at, has_number, home_in, home_among, shard_role, Block, shards_block, blocks, is_within, role_among, role_at, AreBesides, AreSeparate, IsAllocator, IsPlacedAllocator, IsPlanned, have_number, IsAtHome, SlotsAreAtHome}
 use Rattle.pool_slots.specs.declared.slot_name.SlotName.{SlotName}

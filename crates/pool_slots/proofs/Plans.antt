@@ -1,11 +1,6 @@
 -- Makings that a plan lists, one slot after the other.
-use Rattle.std.proofs.Common.{◌≡◌, ℕ, ◌+◌, ◌<◌, true, false, List, get_or, ap, ◌∙◌, inl, inr, arith, Bool, Option, Some, None}
-use Rattle.std.specs.Prelude.{IfSome, ◌++◌, ◌∷◌, []}
-use Rattle.std.specs.List.{list_any, range_with_len}
-use Rattle.std.proofs.lemmas.Bool.{cases_lt, false≢true}
-use Rattle.std.proofs.lemmas.List.Folds.{list_any_none, list_any_at}
-use Rattle.std.proofs.lemmas.List.FromFn.{length-range_with_len, get_or-range_with_len}
-use Rattle.pool_pages.specs.MakerTold.{MakerTold, Planned}
+use Rattle.std.proofs.Common.{◌≡◌, ℕ, ◌+◌, ◌<◌, true, false, List, get_or, ap, ◌∙◌, inl, inr, arith, Bool, Option, Some, None, IfSome, ◌++◌, ◌∷◌, []}
+use Rattle.pool_slots.proofs.Imports.{list_any, range_with_len, cases_lt, false≢true, list_any_none, list_any_at, length-range_with_len, get_or-range_with_len, told_weaker, MakerTold, Planned}
 use Rattle.pool_slots.specs.Makings.{IsListedPoolFault}
 use Rattle.pool_slots.specs.Colourings.{RaisesUnlessGivenUp, RaisesBehindUnlessGivenUp}
 use Rattle.pool_slots.specs.declared.errors.PoolNewError.{PoolNewError}
@@ -35,14 +30,6 @@ none_more f n none now k below =
       | inr from ↦ let e : k ≡ n = omega arith in rw e now
     ]
 
-pub mapped_told : {X : Type 0} (P Q : X → Type 0) (o : Option X) → ((x : X) → P x → Q x) → IfSome o P → IfSome o Q
-mapped_told P Q None step h = h
-mapped_told P Q (Some x) step h = step x h
-
-pub both_told : {X : Type 0} (P Q R : X → Type 0) (o : Option X) → ((x : X) → P x → Q x → R x) → IfSome o P → IfSome o Q → IfSome o R
-both_told P Q R None step h k = h
-both_told P Q R (Some x) step h k = step x h k
-
 pub any_told : {X : Type 0} (P : X → Type 0) (o : Option X) → ((x : X) → P x) → IfSome o P
 any_told P None step = tt
 any_told P (Some x) step = step x
@@ -55,7 +42,7 @@ listed_by f total i refused.Memory under h = h
 -- the making of a region that is refused is one of all
 pub listed_of : (f : List Planned → ℕ → Bool) (o : Option (List Planned)) (total i : ℕ) (e : PoolNewError) → i < total → IfSome o (λ plan. IsListedPoolFault (f plan i) e) → IfSome o (λ plan. IsListedPoolFault (list_any (f plan) (range_with_len 0 total)) e)
 listed_of f o total i e under h =
-    mapped_told (λ plan. IsListedPoolFault (f plan i) e) (λ plan. IsListedPoolFault (list_any (f plan) (range_with_len 0 total)) e) o (λ plan k. listed_by (f plan) total i e under k) h
+    told_weaker (λ plan. IsListedPoolFault (f plan i) e) (λ plan. IsListedPoolFault (list_any (f plan) (range_with_len 0 total)) e) o (λ plan k. listed_by (f plan) total i e under k) h
 
 -- so it is with what it does to the maker's count of faults
 pub faults_of : (A B : Type 0) (old new : ℕ) (e : PoolNewError) → (A → B) → RaisesUnlessGivenUp A old new e → RaisesUnlessGivenUp B old new e

@@ -1,11 +1,7 @@
 -- A plan that is laid out is right: its blocks lie in a line, and the one allocator of a kind has each of its numbers.
-use Rattle.std.proofs.Common.{◌≡◌, ℕ, ◌+◌, ◌-◌, ◌*◌, ◌/◌, ◌%◌, ◌^◌, ◌<◌, ◌≤◌, Bool, true, List, [], ◌∷◌, ◌++◌, refl, sym, ap, ◌∙◌, subst, inl, inr, arith}
-use Rattle.std.specs.Prelude.{map, nat_le, nat_lt, min}
-use Rattle.std.specs.List.{AllByRecursion}
-use Rattle.std.proofs.lemmas.Bool.{and_from, lt-ltb, le-leb}
-use Rattle.std.proofs.Math.Nat.{div-add-mod, mod-lt}
-use Rattle.pool_hall.specs.declared.unit_name.SlotKind.{SlotKind}
-use Rattle.pool_hall.specs.declared.unit_name.SlotKind.TheVariants.{Memory, Table, Stack, Heap}
+use Rattle.std.proofs.Common.{◌≡◌, ℕ, ◌+◌, ◌-◌, ◌*◌, ◌/◌, ◌%◌, ◌^◌, ◌<◌, ◌≤◌, true, List, [], ◌∷◌, ◌++◌, refl, sym, ap, ◌∙◌, subst, inl, inr, arith, map, nat_le, nat_lt, min}
+use Rattle.pool_slots.proofs.Imports.{AllByRecursion, and_from, lt-ltb, le-leb, div-add-mod, mod-lt, SlotKind, Table, Stack, Heap}
+use Rattle.pool_hall.specs.declared.unit_name.SlotKind.TheVariants.{Memory}
 use Rattle.pool_slots.specs.SlotNames.{of_kind}
 use Rattle.pool_slots.specs.Plans.{allocators_of, allocators, queue_role, heaps_role, cells_block, has_number, home_among, Block, shards_block, AreBesides, AreSeparate, AreAllocators, IsPlanned}
 use Rattle.pool_slots.specs.PlansMade.{HoldSlots, shards_planned, places_planned, allocator_planned, IsPlanWith, home_planned}
@@ -162,13 +158,12 @@ pub one_plan_with : (s : PlanSettings) (memories : List Allocator) (a b : Plan) 
 one_plan_with s memories a b one two =
     let lists : (kind : SlotKind) → allocators_of a kind ≡ allocators_of b kind = λ kind. laid_are s memories a one kind ∙ sym (laid_are s memories b two kind) in
     let Lists : List Allocator → List Allocator → List Allocator → List Allocator → Plan =
-    λ memories tables stacks heaps. record { memories = memories; tables = tables; stacks = stacks; heaps = heaps; cells = a.cells; totals = a.totals; first_queue = a.first_queue; queues = a.queues; heap_list = a.heap_list; owned = a.owned } in
-    let Sizes : OfKinds → OfKinds → ℕ → ℕ → ℕ → Bool → Plan =
-    λ cells totals first queues heaps owned. record { memories = b.memories; tables = b.tables; stacks = b.stacks; heaps = b.heaps; cells = cells; totals = totals; first_queue = first; queues = queues; heap_list = heaps; owned = owned } in
+    λ memories tables stacks heaps. record { memories = memories; tables = tables; stacks = stacks; heaps = heaps; cells = a.cells; totals = a.totals; first_queue = a.first_queue; queues = a.queues; heap_list = a.heap_list } in
+    let Sizes : OfKinds → OfKinds → ℕ → ℕ → ℕ → Plan =
+    λ cells totals first queues heaps. record { memories = b.memories; tables = b.tables; stacks = b.stacks; heaps = b.heaps; cells = cells; totals = totals; first_queue = first; queues = queues; heap_list = heaps } in
     ap (λ (l : List Allocator). Lists l a.tables a.stacks a.heaps) (lists Memory) ∙ ap (λ (l : List Allocator). Lists b.memories l a.stacks a.heaps) (lists Table) ∙ ap (λ (l : List Allocator). Lists b.memories b.tables l a.heaps) (lists Stack) ∙ ap (Lists b.memories b.tables b.stacks) (lists Heap)
-    ∙ ap (λ (x : OfKinds). Sizes x a.totals a.first_queue a.queues a.heap_list a.owned) (one.cells ∙ sym two.cells)
-    ∙ ap (λ (x : OfKinds). Sizes b.cells x a.first_queue a.queues a.heap_list a.owned) (one.totals ∙ sym two.totals)
-    ∙ ap (λ (n : ℕ). Sizes b.cells b.totals n a.queues a.heap_list a.owned) (one.first_queue ∙ sym two.first_queue)
-    ∙ ap (λ (n : ℕ). Sizes b.cells b.totals b.first_queue n a.heap_list a.owned) (one.queues ∙ sym two.queues)
-    ∙ ap (λ (n : ℕ). Sizes b.cells b.totals b.first_queue b.queues n a.owned) (one.heap_list ∙ sym two.heap_list)
-    ∙ ap (Sizes b.cells b.totals b.first_queue b.queues b.heap_list) (one.shared ∙ sym two.shared)
+    ∙ ap (λ (x : OfKinds). Sizes x a.totals a.first_queue a.queues a.heap_list) (one.cells ∙ sym two.cells)
+    ∙ ap (λ (x : OfKinds). Sizes b.cells x a.first_queue a.queues a.heap_list) (one.totals ∙ sym two.totals)
+    ∙ ap (λ (n : ℕ). Sizes b.cells b.totals n a.queues a.heap_list) (one.first_queue ∙ sym two.first_queue)
+    ∙ ap (λ (n : ℕ). Sizes b.cells b.totals b.first_queue n a.heap_list) (one.queues ∙ sym two.queues)
+    ∙ ap (λ (n : ℕ). Sizes b.cells b.totals b.first_queue b.queues n) (one.heap_list ∙ sym two.heap_list)

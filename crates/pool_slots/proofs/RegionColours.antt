@@ -1,8 +1,6 @@
 -- The first call on a region gives it a colour, or hides its guard.
-use Rattle.std.proofs.Common.{◌≡◌, ℕ, ◌==◌, ◌||◌, ◌∙◌, ap, refl, Bool, true, false, not, List}
-use Rattle.std.specs.Prelude.{if◌then◌else◌}
-use Rattle.std.specs.List.{list_any}
-use Rattle.pool_pages.specs.Told.{Told, PageCall, risen, passes}
+use Rattle.std.proofs.Common.{◌≡◌, ℕ, ◌==◌, ◌||◌, ◌∙◌, ap, refl, Bool, true, false, not, List, if◌then◌else◌}
+use Rattle.pool_slots.proofs.Imports.{list_any, Told, PageCall, passes, risen}
 use Rattle.pool_slots.specs.Colourings.{fails_first_call}
 
 first_call : (empty listed : Bool) → (empty || not listed) ≡ not (if empty then false else listed)

@@ -1,11 +1,6 @@
 -- A slot on whose region calls succeed, and then one fails.
-use Rattle.std.proofs.Common.{ℕ, ◌≡◌, ◌+◌, ◌<◌, List, [], ◌∷◌, ◌++◌, length, refl, ap, ◌∙◌, subst, Option}
-use Rattle.std.specs.Prelude.{IfSome}
-use Rattle.pool_pages.specs.Told.{Rose, PageCall, decommitting}
-use Rattle.pool_images.specs.declared.ranges.ByteRange.{ByteRange}
-use Rattle.pool_images.specs.Slots.{Slot, SlotIdentity, IsLeft, called, decommitted_all}
-use Rattle.pool_images.proofs.Identity.{IsLike, like_self, same_called}
-use Rattle.pool_images.proofs.Queued.{next}
+use Rattle.std.proofs.Common.{ℕ, ◌≡◌, ◌+◌, ◌<◌, List, [], ◌∷◌, ◌++◌, length, refl, ap, ◌∙◌, subst, Option, IfSome}
+use Rattle.pool_slots.proofs.Imports.{PageCall, decommitting, Rose, ByteRange, Slot, SlotIdentity, IsLeft, called, decommitted_all, IsLike, like_self, same_called, next}
 
 pub like_called : (s t : Slot) (call : PageCall) → IsLike s t → IsLike s (called call t)
 like_called s t call like = record { same = same_called call t ∙ like.same; faults = like.faults }

@@ -1,26 +1,16 @@
 -- What the rules on a pool's settings say of its slab, and the layout for these settings.
-use Rattle.std.proofs.Common.{◌≡◌, ℕ, ◌+◌, ◌-◌, ◌*◌, ◌%◌, ◌<◌, ◌≤◌, nat_lt, Bool, true, false, ◌&&◌, refl, sym, ap, ◌∙◌, arith, inl, inr}
-use Rattle.std.specs.Prelude.{max, min, nat_le, if◌then◌else◌}
-use Rattle.std.specs.Int.{div_ceil}
-use Rattle.std.proofs.lemmas.Grind.{div_ceil_times}
-use Rattle.std.proofs.lemmas.Bool.{cases_lt}
-use Rattle.std.proofs.lemmas.Bool.Decides.{nat_tests}
-use Rattle.pool_pages.specs.Count.{rounded_up}
-use Rattle.pool_pages.specs.SettingsRules.{is_address, keys_used, may_stripe, slab_stripes, slab_slot, rounds_up}
-use Rattle.pool_pages.specs.declared.config.PoolingAllocationConfig.{PoolingAllocationConfig}
-use Rattle.pool_pages.specs.declared.module_types.Tunables.{Tunables}
-use Rattle.pool_pages.specs.declared.offered.Offered.{Offered}
-use Rattle.pool_pages.proofs.Multiples.{add_whole}
+use Rattle.std.proofs.Common.{◌≡◌, ℕ, ◌+◌, ◌-◌, ◌*◌, ◌%◌, ◌<◌, ◌≤◌, nat_lt, Bool, true, false, ◌&&◌, refl, sym, ap, ◌∙◌, arith, inl, inr, max, min, nat_le, if◌then◌else◌}
+use Rattle.pool_slots.proofs.Imports.{div_ceil, div_ceil_times, cases_lt, nat_tests, rounded_is_whole, rounded_same, rounded_up_above, rounded_up, is_address, keys_used, may_stripe, slab_stripes, slab_slot, rounds_up, PoolingAllocationConfig, Tunables, Offered, add_whole}
 use Rattle.pool_slots.specs.declared.slab.SlabConstraints.{SlabConstraints}
 use Rattle.pool_slots.specs.Slabs.{SettingsSpeakOfLayouts, faulting_region, guard_before, is_striped, layout_of, settings_slab, slot_size, stripe_count, striped_slot, total_bytes}
-use Rattle.pool_slots.proofs.Layouts.{rounded_above, rounded_is_whole, rounded_whole, rounded_within, share_within}
+use Rattle.pool_slots.proofs.Layouts.{rounded_within, share_within}
 
 -- a size is above zero as it is rounded up exactly where it was
 rounded_some : (page n : ℕ) → 0 < page → nat_lt 0 (rounded_up page n) ≡ nat_lt 0 n
 rounded_some page n some =
     elim (cases_lt 0 n) [
       | inl more ↦
-          let over : n ≤ rounded_up page n = rounded_above page n some in
+          let over : n ≤ rounded_up page n = rounded_up_above page n some in
           let up : 0 < rounded_up page n = omega (arith, over, more) in
           grind (arith, nat_tests, up, more)
       | inr none ↦
@@ -75,7 +65,7 @@ module _ (s : PoolingAllocationConfig) (t : Tunables) (page : ℕ) (o : Offered)
       let size : max (div_ceil f 1) g ≡ f = omega (arith, whole) in
       ap (λ (n : ℕ). rounded_up page (max (div_ceil f n) g)) (same_stripes ∙ one)
       ∙ ap (rounded_up page) size
-      ∙ rounded_whole page f some pages
+      ∙ rounded_same page f some pages
       ∙ sym (ap (λ (b : Bool). if b then striped_slot c else f) is)
 
   same_slot : slab_slot s t page o ≡ slot_size c

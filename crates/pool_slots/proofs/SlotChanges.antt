@@ -1,16 +1,11 @@
 -- A queue stays one where ranges and slots are pushed, and where two queues are joined.
-use Rattle.std.proofs.Common.{◌≡◌, ℕ, ◌+◌, ◌<◌, ◌≤◌, true, false, List, [], ◌∷◌, ◌++◌, length, refl, sym, ap, ◌∙◌, subst, arith}
-use Rattle.std.specs.Prelude.{All, map}
-use Rattle.std.proofs.lemmas.Bool.{or_left, or_right}
-use Rattle.std.proofs.lemmas.List.Folds.{list_any-append}
+use Rattle.std.proofs.Common.{◌≡◌, ℕ, ◌+◌, ◌<◌, ◌≤◌, true, false, List, [], ◌∷◌, ◌++◌, length, refl, sym, ap, ◌∙◌, subst, arith, All, map}
+use Rattle.pool_slots.proofs.Imports.{or_left, or_right, list_any-append, append-nil, length-append, ByteRange, IsClean, IsPart, size_of, decommitted_all}
 use Rattle.pool_slots.specs.SlotNames.{slot_kind}
 use Rattle.pool_slots.specs.declared.queued_range.QueueKind.{QueueKind}
 use Rattle.pool_slots.specs.declared.slot_name.SlotName.{SlotName}
 use Rattle.pool_slots.proofs.SlotFaults.{range_of}
 use Rattle.pool_slots.proofs.SlotNames.{slot_if, slot_self}
-use Rattle.std.proofs.lemmas.List.{append-nil, length-append}
-use Rattle.pool_images.specs.declared.ranges.ByteRange.{ByteRange}
-use Rattle.pool_images.specs.Slots.{IsClean, IsPart, size_of, decommitted_all}
 use Rattle.pool_slots.specs.declared.queued_range.QueuedRange.{QueuedRange}
 use Rattle.pool_slots.specs.SlotQueues.{Queued, Queue, owner, is_of, ranges_of, holds, HasOwners, AreApart, same_slot, LeavesClean, IsReset, IsQueue, with_range, with_ranges, with_slot, after_append}
 use Rattle.pool_slots.proofs.Lists.{each_append, each_both}

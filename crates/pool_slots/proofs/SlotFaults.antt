@@ -1,22 +1,11 @@
 -- The lists in a queue's loops, and what a fault leaves.
-use Rattle.std.proofs.Common.{◌≡◌, ℕ, zero, suc, ◌+◌, ◌<◌, Bool, false, List, [], ◌∷◌, ◌++◌, length, get_or, take, drop, refl, sym, ap, ◌∙◌, subst, arith}
-use Rattle.std.specs.Prelude.{map, slice_set}
-use Rattle.std.specs.List.{AllZip}
-use Rattle.std.proofs.Math.Nat.{zero-mod}
-use Rattle.std.proofs.lemmas.Bool.{or_parts}
-use Rattle.std.proofs.lemmas.List.{append_assoc, length-append, length-map, length-take-le, length-drop, map_more, take-map, get_or-map, get_or_default}
-use Rattle.std.proofs.lemmas.List.Edits.{map_over_more}
-use Rattle.pool_images.specs.declared.ranges.ByteRange.{ByteRange}
-use Rattle.pool_hall.specs.declared.unit_name.SlotKind.{SlotKind}
+use Rattle.std.proofs.Common.{◌≡◌, ℕ, zero, suc, ◌+◌, ◌<◌, Bool, false, List, [], ◌∷◌, ◌++◌, length, get_or, take, drop, refl, sym, ap, ◌∙◌, subst, arith, map, slice_set}
+use Rattle.pool_slots.proofs.Imports.{AllZip, zero-mod, or_parts, append_assoc, length-append, length-map, length-take-le, length-drop, map_more, get_or_default, map_over_more, ByteRange, SlotKind, Slot, IsSlot, IsLeft, forgotten_memory}
 use Rattle.pool_hall.specs.declared.unit_name.SlotKind.TheVariants as of_slot
-use Rattle.pool_images.specs.Slots.{Slot, IsSlot, IsLeft, forgotten as forgotten_memory}
-use Rattle.pool_pages.specs.declared.pages.PageCalls.{PageCalls}
-use Rattle.pool_pages.specs.CallSums.{added}
 use Rattle.pool_slots.specs.declared.queued_range.QueueKind.{QueueKind}
 use Rattle.pool_slots.specs.declared.queued_range.QueuedRange.{QueuedRange}
 use Rattle.pool_slots.specs.declared.slot_name.SlotName.{SlotName}
-use Rattle.pool_slots.specs.SlotQueues.{IsSlotLeft, Queued, QueuedList, Queue, same_kind, same_slot, holds, AreDistinct, CanBeZeroed, with_range, with_ranges, forgotten, forgotten_slot, calls_held, IsLeftItem, IsLeftBy}
-use Rattle.pool_slots.proofs.Fresh.{calls_more}
+use Rattle.pool_slots.specs.SlotQueues.{IsSlotLeft, Queued, QueuedList, Queue, same_kind, same_slot, holds, AreDistinct, CanBeZeroed, with_range, with_ranges, forgotten, forgotten_slot, IsLeftItem, IsLeftBy}
 use Rattle.pool_slots.proofs.SlotLists.{apart_of_unheld}
 use Rattle.pool_slots.proofs.SlotNames.{slot_if, slot_other_way}
 
@@ -40,14 +29,6 @@ forgotten_more (x ∷ xs) ys room i new inside before now =
       ap (λ (l : QueuedList). l.items) (now x) ∙ map_over_more forgotten all ys i m inside before (get_or_default ys i x m there),
       ap (λ (l : QueuedList). l.room) (now x),
     )
-
--- the calls of one slot more are added
-pub held_more : (ms : List Queued) (i : ℕ) (d : Queued) → i < length ms → added (calls_held (take i ms)) (get_or ms i d).slot.region.calls ≡ calls_held (take (i + 1) ms)
-held_more ms i d inside =
-    let f : Queued → PageCalls = λ m. m.slot.region.calls in
-    let here : get_or (map f ms) i (f d) ≡ f (get_or ms i d) = get_or-map f ms i d (f d) inside in
-    let more = calls_more (map f ms) i (f d) (omega (arith, length-map ms f)) in
-    rw (here, take-map f i ms, take-map f (i + 1) ms) at more
 
 -- what is forgotten of a slot: nothing of its region, and it fits its region still
 pub forgotten_region : (kind : SlotKind) (s : Slot) → (forgotten_slot kind s).region ≡ s.region

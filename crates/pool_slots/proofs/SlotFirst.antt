@@ -1,17 +1,12 @@
 -- What the decommit of the first range makes of a queue, by the place of its slot.
-use Rattle.std.proofs.Common.{◌≡◌, ℕ, ◌<◌, true, false, List, [], ◌∷◌, length, get_or, refl, sym, ap, ◌∙◌, subst, arith, Option, None, Some}
-use Rattle.std.specs.Prelude.{map, slice_set, All, IfSome}
-use Rattle.std.specs.List.{AllByRecursion, AllZip, HoldsAt}
-use Rattle.std.proofs.lemmas.List.Elements.{All-head, All-nil}
-use Rattle.pool_hall.specs.declared.unit_name.SlotKind.{SlotKind}
+use Rattle.std.proofs.Common.{◌≡◌, ℕ, ◌<◌, true, false, List, [], ◌∷◌, length, get_or, refl, sym, ap, ◌∙◌, subst, arith, Option, None, Some, map, slice_set, All, IfSome}
+use Rattle.pool_slots.proofs.Imports.{AllByRecursion, AllZip, HoldsAt, All-head, All-nil, each_at, SlotKind, ByteRange, IsPart, size_of}
 use Rattle.pool_hall.specs.declared.unit_name.SlotKind.TheVariants as of_slot
-use Rattle.pool_images.specs.declared.ranges.ByteRange.{ByteRange}
-use Rattle.pool_images.specs.Slots.{IsPart, size_of}
 use Rattle.pool_slots.specs.declared.queued_range.QueuedRange.{QueuedRange}
 use Rattle.pool_slots.specs.declared.slot_name.SlotName.{SlotName}
 use Rattle.pool_slots.specs.SlotQueues.{decommitted_at, Queued, QueuedList, Queue, owner, is_of, ranges_of, holds, AreDistinct, CanBeZeroed, MayBeByHand, LeavesClean, IsQueue, same_kind, change_at, forgotten, IsLeftItem, IsLeftBy}
 use Rattle.pool_slots.specs.SlotSteps.{begins_with, after_first_of, after_first}
-use Rattle.pool_slots.proofs.Lists.{each_at, zip_weaker, zip_length}
+use Rattle.pool_slots.proofs.Lists.{zip_weaker, zip_length}
 use Rattle.pool_slots.proofs.SlotFaults.{IsLeftStill, left_at}
 use Rattle.pool_slots.proofs.SlotLists.{ranges_here, set_is_change}
 use Rattle.pool_slots.proofs.SlotNames.{slot_is}

@@ -1,12 +1,6 @@
 -- The lists of a queue: which ranges are of which slot, and slots that differ.
-use Rattle.std.proofs.Common.{◌≡◌, ℕ, zero, suc, ◌<◌, ◌≤◌, Bool, true, false, List, [], ◌∷◌, ◌++◌, length, get_or, refl, sym, ap, ◌∙◌, subst, inl, inr, arith, set}
-use Rattle.std.specs.Prelude.{map, filter, cond}
-use Rattle.std.specs.List.{AllByRecursion, HoldsAt}
-use Rattle.std.proofs.lemmas.Bool.{cases_lt, or_parts, or_from, or_left, or_right, true≢false}
-use Rattle.std.proofs.lemmas.List.{map-append}
-use Rattle.std.proofs.lemmas.List.Folds.{list_any-append, list_any_none}
-use Rattle.pool_images.specs.declared.ranges.ByteRange.{ByteRange}
-use Rattle.pool_images.specs.Slots.{Slot}
+use Rattle.std.proofs.Common.{◌≡◌, ℕ, zero, suc, ◌<◌, ◌≤◌, Bool, true, false, List, [], ◌∷◌, ◌++◌, length, get_or, refl, sym, ap, ◌∙◌, subst, inl, inr, arith, set, map, filter, cond}
+use Rattle.pool_slots.proofs.Imports.{AllByRecursion, HoldsAt, cases_lt, or_parts, or_from, or_left, or_right, true≢false, map-append, list_any-append, list_any_none, ByteRange, Slot}
 use Rattle.pool_slots.specs.declared.queued_range.QueuedRange.{QueuedRange}
 use Rattle.pool_slots.specs.declared.slot_name.SlotName.{SlotName}
 use Rattle.pool_slots.specs.SlotQueues.{Queued, same_slot, owner, is_of, ranges_of, holds, AreDistinct, AreApart, change_at}

@@ -1,9 +1,7 @@
 -- Names of slots are one, or differ.
-use Rattle.std.proofs.Common.{◌≡◌, true, false, refl, sym, ap, ◌∙◌, inl, inr}
-use Rattle.std.specs.Prelude.{◌==◌, ◌⊎◌}
-use Rattle.std.proofs.lemmas.Bool.{and_parts, and_from, cases_Bool, eq-eqb, eqb-true, true≢false}
-use Rattle.pool_hall.specs.declared.unit_name.SlotKind.{SlotKind}
-use Rattle.pool_hall.specs.declared.unit_name.SlotKind.TheVariants.{Memory, Table, Stack, Heap}
+use Rattle.std.proofs.Common.{◌≡◌, true, false, refl, sym, ap, ◌∙◌, inl, inr, ◌==◌, ◌⊎◌}
+use Rattle.pool_slots.proofs.Imports.{and_parts, and_from, cases_Bool, eq-eqb, eqb-true, true≢false, SlotKind, Table, Stack, Heap}
+use Rattle.pool_hall.specs.declared.unit_name.SlotKind.TheVariants.{Memory}
 use Rattle.pool_slots.specs.SlotQueues.{same_kind, same_slot}
 use Rattle.pool_slots.specs.declared.slot_name.SlotName.{SlotName}
 

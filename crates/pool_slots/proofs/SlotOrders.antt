@@ -1,14 +1,6 @@
 -- The decommits of a run in their order: those of its ranges, one after the other.
-use Rattle.std.proofs.Common.{◌≡◌, ℕ, zero, suc, ◌+◌, ◌<◌, Bool, true, false, List, [], ◌∷◌, length, get_or, refl, sym, ap, ◌∙◌, subst, arith, Option, Some, None}
-use Rattle.std.specs.Prelude.{map, slice_set, if◌then◌else◌, IfSome}
-use Rattle.std.specs.List.{AllZip, HoldsAt}
-use Rattle.std.proofs.lemmas.Bool.{or_parts, true≢false}
-use Rattle.std.proofs.lemmas.Option.{IfSome_then}
-use Rattle.pool_pages.specs.Told.{Told, PageCall, succeeded, passes, decommitting}
-use Rattle.pool_images.specs.Slots.{SlotIdentity}
-use Rattle.pool_images.specs.Orders.{Follows, failed, outcome}
-use Rattle.pool_images.specs.declared.ranges.ByteRange.{ByteRange}
-use Rattle.pool_images.proofs.Ordering.{follows_then}
+use Rattle.std.proofs.Common.{◌≡◌, ℕ, zero, suc, ◌+◌, ◌<◌, Bool, true, false, List, [], ◌∷◌, length, get_or, refl, sym, ap, ◌∙◌, subst, arith, Option, Some, None, map, slice_set, if◌then◌else◌, IfSome}
+use Rattle.pool_slots.proofs.Imports.{AllZip, HoldsAt, or_parts, true≢false, IfSome_then, Told, PageCall, succeeded, passes, decommitting, SlotIdentity, Follows, failed, outcome, ByteRange, follows_then}
 use Rattle.pool_slots.specs.declared.queued_range.QueuedRange.{QueuedRange}
 use Rattle.pool_slots.specs.declared.slot_name.SlotName.{SlotName}
 use Rattle.pool_slots.specs.SlotQueues.{decommitted_at, Queued, Queue, same_slot, owner, is_of, holds, AreDistinct, IsQueue, change_at, first_slot, forgotten}

@@ -1,11 +1,6 @@
 -- A slot of a kind is taken out of a queue without ranges, or zeroed by hand in it.
-use Rattle.std.proofs.Common.{◌≡◌, ℕ, zero, suc, ◌<◌, ◌≤◌, true, false, List, [], ◌∷◌, length, get_or, refl, sym, ap, ◌∙◌, subst, inl, inr, arith, set, Option, Some, None}
-use Rattle.std.specs.Prelude.{IfSome, IsSome, OnSome, is_some, remove}
-use Rattle.std.specs.List.{AllByRecursion, HoldsAt, list_any}
-use Rattle.std.proofs.lemmas.Bool.{cases_Bool, or_parts, or_from, true≢false}
-use Rattle.std.proofs.lemmas.List.Elements.{All-nil}
-use Rattle.pool_hall.specs.declared.unit_name.SlotKind.{SlotKind}
-use Rattle.pool_images.specs.Slots.{IsPart, size_of}
+use Rattle.std.proofs.Common.{◌≡◌, ℕ, zero, suc, ◌<◌, ◌≤◌, true, false, List, [], ◌∷◌, length, get_or, refl, sym, ap, ◌∙◌, subst, inl, inr, arith, set, Option, Some, None, IfSome, IsSome, OnSome, is_some, remove}
+use Rattle.pool_slots.proofs.Imports.{AllByRecursion, HoldsAt, list_any, cases_Bool, or_parts, or_from, true≢false, All-nil, SlotKind, IsPart, size_of}
 use Rattle.pool_slots.specs.declared.slot_name.SlotName.{SlotName}
 use Rattle.pool_slots.specs.declared.queued_range.QueuedRange.{QueuedRange}
 use Rattle.pool_slots.specs.SlotQueues.{Queued, QueuedList, Queue, same_kind, same_slot, holds, AreDistinct, CanBeZeroed, LeavesClean, IsQueue, IsSettled, first_of_kind, others_of_kind, is_to_zero, zeroed_by, zeroed, zeroed_slot, first_zeroed}
@@ -167,10 +162,10 @@ each_zeroed kind (m ∷ ms) a =
       | inr not ↦ rw not (a.0, each_zeroed kind ms a.1)
     ]
 
-long_zeroed : (kind : SlotKind) (ms : List Queued) → length (first_zeroed kind ms) ≡ length ms
-long_zeroed kind [] = refl
-long_zeroed kind (m ∷ ms) =
-    let r = long_zeroed kind ms in
+pub zeroed_long : (kind : SlotKind) (ms : List Queued) → length (first_zeroed kind ms) ≡ length ms
+zeroed_long kind [] = refl
+zeroed_long kind (m ∷ ms) =
+    let r = zeroed_long kind ms in
     elim (cases_Bool (is_to_zero kind m)) [
       | inl is ↦ rw is refl
       | inr not ↦ rw (not, r) refl
@@ -182,7 +177,7 @@ queue_zeroed kind q is none =
     let F : List QueuedRange → Type 0 = λ l. AllByRecursion (LeavesClean l) (first_zeroed kind q.slots) in
     record {
       range_room = is.range_room;
-      slot_room = let l = long_zeroed kind q.slots in omega (arith, is.slot_room);
+      slot_room = let l = zeroed_long kind q.slots in omega (arith, is.slot_room);
       distinct = distinct_zeroed kind q.slots is.distinct;
       each = subst F (sym none) (each_zeroed kind q.slots (subst E none is.each));
     }

@@ -1,28 +1,11 @@
 -- Slots go back kind by kind: those of a kind leave a queue, and the others stay.
-use Rattle.std.proofs.Common.{◌≡◌, ℕ, ◌<◌, Bool, true, false, List, [], ◌∷◌, length, refl, sym, ap, ◌∙◌, subst, inl, inr, arith, Option, Some, None}
-use Rattle.std.specs.Prelude.{map, filter, not, ◌&&◌, is_some}
-use Rattle.std.specs.List.{list_any}
-use Rattle.std.proofs.lemmas.Bool.{cases_Bool, or_parts, or_left, true≢false}
-use Rattle.pool_hall.specs.declared.unit_name.SlotKind.{SlotKind}
+use Rattle.std.proofs.Common.{◌≡◌, ℕ, ◌<◌, Bool, true, false, List, [], ◌∷◌, length, refl, sym, ap, ◌∙◌, subst, inl, inr, arith, Option, Some, None, map, filter, not, ◌&&◌, is_some}
+use Rattle.pool_slots.proofs.Imports.{list_any, cases_Bool, or_parts, or_left, true≢false, SlotKind}
 use Rattle.pool_hall.specs.declared.unit_name.SlotKind.TheVariants as of_slot
 use Rattle.pool_slots.specs.declared.slot_name.SlotName.{SlotName}
 use Rattle.pool_slots.specs.SlotQueues.{Queued, Queue, same_kind, first_of_kind, others_of_kind, is_to_zero, zeroed_by, zeroed, first_zeroed}
 use Rattle.pool_slots.specs.Flushes.{is_kind, of_kind, without_kind, zeroed_of, given_back}
 use Rattle.pool_slots.proofs.SlotNames.{kind_is}
-
--- what leaves first, and what stays
-pub kind_first : (kind : SlotKind) (ms : List Queued) (m : Queued) → first_of_kind kind ms ≡ Some m → of_kind kind ms ≡ m ∷ of_kind kind (others_of_kind kind ms)
-kind_first kind [] m is = absurd cc
-kind_first kind (n ∷ ms) m is =
-    elim (cases_Bool (same_kind kind n.name.kind)) [
-      | inl e ↦
-          let here : Some n ≡ Some m = rw e at is in
-          let same : n ≡ m = cc here in
-          rw (e, same) refl
-      | inr e ↦
-          let there : first_of_kind kind ms ≡ Some m = rw e at is in
-          rw (e, e) (kind_first kind ms m there)
-    ]
 
 pub kind_others : (kind : SlotKind) (ms : List Queued) → without_kind kind (others_of_kind kind ms) ≡ without_kind kind ms
 kind_others kind [] = refl
@@ -119,11 +102,11 @@ zeroed_over kind (m ∷ ms) none =
     let parts = or_parts (is_to_zero kind m) (list_any (is_to_zero kind) ms) none in
     rw (no_zero kind m parts.0, zeroed_over kind ms parts.1) refl
 
-first_over : (kind : SlotKind) (ms : List Queued) → list_any (is_to_zero kind) ms ≡ false → first_zeroed kind ms ≡ ms
-first_over kind [] none = refl
-first_over kind (m ∷ ms) none =
+pub none_zeroed : (kind : SlotKind) (ms : List Queued) → list_any (is_to_zero kind) ms ≡ false → first_zeroed kind ms ≡ ms
+none_zeroed kind [] none = refl
+none_zeroed kind (m ∷ ms) none =
     let parts = or_parts (is_to_zero kind m) (list_any (is_to_zero kind) ms) none in
-    rw parts.0 (ap (λ (l : List Queued). m ∷ l) (first_over kind ms parts.1))
+    rw parts.0 (ap (λ (l : List Queued). m ∷ l) (none_zeroed kind ms parts.1))
 
 pub zero_smaller : (kind : SlotKind) (now new : Queue) → list_any (is_to_zero kind) now.slots ≡ true → new ≡ record now { slots = first_zeroed kind now.slots } → length (filter (is_to_zero kind) new.slots) < length (filter (is_to_zero kind) now.slots)
 zero_smaller kind now new some is =
@@ -142,7 +125,7 @@ zero_kept kind old now new kept is = ap (λ (q : Queue). map (zeroed_of kind) q.
 pub zero_over : (kind : SlotKind) (old now new : Queue) → now ≡ record old { slots = now.slots } → map (zeroed_of kind) now.slots ≡ map (zeroed_of kind) old.slots → list_any (is_to_zero kind) now.slots ≡ false → new ≡ record now { slots = first_zeroed kind now.slots } → new ≡ record old { slots = map (zeroed_of kind) old.slots }
 zero_over kind old now new same kept none is =
     let slots : new.slots ≡ map (zeroed_of kind) old.slots =
-    ap (λ (q : Queue). q.slots) is ∙ first_over kind now.slots none ∙ sym (zeroed_over kind now.slots none) ∙ kept in
+    ap (λ (q : Queue). q.slots) is ∙ none_zeroed kind now.slots none ∙ sym (zeroed_over kind now.slots none) ∙ kept in
     zero_same kind old now new same is ∙ ap (λ (l : List Queued). record old { slots = l }) slots
 
 -- zeroing keeps names

@@ -1,15 +1,7 @@
 -- Runs of ranges of one slot.
-use Rattle.std.proofs.Common.{◌≡◌, ℕ, ◌+◌, ◌<◌, Bool, true, false, List, [], ◌∷◌, length, get_or, refl, sym, ap, ◌∙◌, subst, inl, inr, arith}
-use Rattle.std.specs.Prelude.{map}
-use Rattle.std.specs.List.{AllZip, HoldsAt}
-use Rattle.std.proofs.lemmas.Bool.{cases_Bool}
-use Rattle.std.proofs.lemmas.List.{length-map, get_or-map}
-use Rattle.pool_pages.specs.Told.{decommitting}
-use Rattle.pool_hall.specs.declared.unit_name.SlotKind.{SlotKind}
+use Rattle.std.proofs.Common.{◌≡◌, ℕ, ◌+◌, ◌<◌, Bool, true, false, List, [], ◌∷◌, length, get_or, refl, sym, ap, ◌∙◌, subst, inl, inr, arith, map}
+use Rattle.pool_slots.proofs.Imports.{AllZip, HoldsAt, cases_Bool, length-map, get_or-map, decommitting, SlotKind, ByteRange, Slot, decommitted_all, IsLike, like_self}
 use Rattle.pool_hall.specs.declared.unit_name.SlotKind.TheVariants as of_slot
-use Rattle.pool_images.specs.declared.ranges.ByteRange.{ByteRange}
-use Rattle.pool_images.specs.Slots.{Slot, decommitted_all}
-use Rattle.pool_images.proofs.Identity.{IsLike, like_self}
 use Rattle.pool_slots.specs.declared.queued_range.QueuedRange.{QueuedRange}
 use Rattle.pool_slots.specs.declared.slot_name.SlotName.{SlotName}
 use Rattle.pool_slots.specs.SlotQueues.{front, behind, decommitted_at, IsSlotLeft, Queued, Queue, same_slot, owner, is_of, holds, HasOwners, change_at, first_slot, after_run_of, IsFaulted, IsLeftBy, forgotten_slot}

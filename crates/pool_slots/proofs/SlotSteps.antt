@@ -1,13 +1,6 @@
 -- The first range of a queue is decommitted.
-use Rattle.std.proofs.Common.{◌≡◌, List, ◌∷◌, sym, subst, inl, inr, arith}
-use Rattle.std.specs.Prelude.{All}
-use Rattle.std.proofs.lemmas.Bool.{cases_Bool}
-use Rattle.std.proofs.lemmas.Option.{IfSome_then}
-use Rattle.std.proofs.lemmas.List.{length-map}
-use Rattle.std.proofs.lemmas.List.Elements.{All-head, All-tail}
-use Rattle.pool_images.specs.declared.ranges.ByteRange.{ByteRange}
-use Rattle.pool_images.specs.Slots.{IsClean, IsPart, size_of, decommitted_all}
-use Rattle.pool_images.proofs.Queued.{fits_next}
+use Rattle.std.proofs.Common.{◌≡◌, List, ◌∷◌, sym, subst, inl, inr, arith, All}
+use Rattle.pool_slots.proofs.Imports.{cases_Bool, IfSome_then, length-map, All-head, All-tail, ByteRange, IsClean, IsPart, size_of, decommitted_all, fits_next}
 use Rattle.pool_slots.specs.declared.queued_range.QueuedRange.{QueuedRange}
 use Rattle.pool_slots.specs.SlotQueues.{decommitted_at, Queued, Queue, same_slot, owner, ranges_of, HasOwners, LeavesClean, IsQueue, change_at}
 use Rattle.pool_slots.specs.SlotSteps.{after_first_of}

@@ -1,17 +1,7 @@
 -- The allocators of stripes lie in a line, and each memory slot is that of its stripe's.
-use Rattle.std.proofs.Common.{◌≡◌, ℕ, zero, suc, ◌+◌, ◌-◌, ◌*◌, ◌/◌, ◌%◌, ◌^◌, ◌<◌, ◌≤◌, ◌⊎◌, Bool, true, false, List, [], ◌∷◌, ◌++◌, length, refl, sym, ap, ◌∙◌, subst, add-one, inl, inr, arith}
-use Rattle.std.specs.Prelude.{map, ◌==◌, ◌&&◌, nat_le, nat_lt, if◌then◌else◌}
-use Rattle.std.specs.Int.{div_ceil}
-use Rattle.std.specs.List.{AllByRecursion, range_with_len}
-use Rattle.std.proofs.lemmas.Bool.{cases_Bool, cases_lt, and_parts, and_from, eqb-true, le-leb, leb-true, lt-ltb}
-use Rattle.std.proofs.lemmas.Nat.{mod-mul-add}
-use Rattle.std.proofs.lemmas.Grind.{div_ceil_times}
-use Rattle.std.proofs.lemmas.List.FromFn.{length-map-range_with_len, map-range_with_len_more}
-use Rattle.std.proofs.Math.Nat.{add-mul, div-add-mod, mod-lt, mul-mod_left, mul-div_cancel, mul-le-mul_right, le-mul_of_pos_right}
-use Rattle.pool_hall.specs.declared.unit_name.SlotKind.{SlotKind}
-use Rattle.pool_hall.specs.declared.unit_name.SlotKind.TheVariants.{Memory, Table, Stack, Heap}
-use Rattle.pool_images.proofs.Marks.{page_lt}
-use Rattle.pool_index.specs.Layout.{slots_per_shard, shard_at, layout}
+use Rattle.std.proofs.Common.{◌≡◌, ℕ, zero, suc, ◌+◌, ◌-◌, ◌*◌, ◌/◌, ◌%◌, ◌^◌, ◌<◌, ◌≤◌, ◌⊎◌, Bool, true, false, List, [], ◌∷◌, ◌++◌, length, refl, sym, ap, ◌∙◌, subst, add-one, inl, inr, arith, map, ◌==◌, ◌&&◌, nat_le, nat_lt, if◌then◌else◌}
+use Rattle.pool_slots.proofs.Imports.{div_ceil, AllByRecursion, range_with_len, cases_Bool, cases_lt, and_parts, and_from, eqb-true, le-leb, leb-true, lt-ltb, mod-mul-add, div_ceil_times, length-map-range_with_len, map-range_with_len_more, add-mul, div-add-mod, mod-lt, mul-mod_left, mul-div_cancel, mul-le-mul_right, le-mul_of_pos_right, SlotKind, Table, Stack, Heap, page_lt, slots_per_shard, shard_at, layout}
+use Rattle.pool_hall.specs.declared.unit_name.SlotKind.TheVariants.{Memory}
 use Rattle.pool_slots.specs.SlotNames.{of_kind}
 use Rattle.pool_slots.specs.Slabs.{stripe_of, local_of}
 use Rattle.pool_slots.specs.Plans.{allocators_of, number_in, number_at, slots_at, has_number, have_number, home_in, home_among, home_of, IsAllocator, AreAllocators, IsPlanned, IsAtHome}
@@ -204,7 +194,7 @@ pub follow : (z : StripedPlanSettings) (plan : Plan) → 0 < z.num_stripes → I
 follow z plan some is = record {
   one = λ name inside. ap (λ (l : List Allocator). have_number l name.slot) (laid_are (divided z) (stripe_allocators z) plan is name.kind) ∙ (right z some name.kind).one name.slot inside;
   homes = λ name inside. ap (λ (l : List Allocator). home_among l name.slot) (laid_are (divided z) (stripe_allocators z) plan is name.kind) ∙ home_there z name.kind name.slot some inside;
-  queues = λ home tried. rw (is.first_queue, is.queues, is.shared) refl;
+  queues = λ home tried. rw (is.first_queue, is.queues) refl;
 }
 
 -- the numbers of an allocator's slots that are divided among its shards

@@ -1,10 +1,6 @@
 -- What the cell of a memory slot holds.
-use Rattle.std.specs.Prelude.{◌≡◌, ℕ, ◌-◌, ◌^◌, List, map, min, sum_by, Bool, true, false, Option, is_some}
-use Rattle.pool_pages.specs.Count.{count}
-use Rattle.pool_pages.specs.Told.{Told}
-use Rattle.pool_pages.specs.MakerTold.{no_calls}
-use Rattle.pool_pages.specs.declared.pages.PageCalls.{PageCalls}
-use Rattle.pool_images.specs.Slots.{Slot, SlotIdentity, IsClean, identity}
+use Rattle.std.specs.Prelude.{◌≡◌, ℕ, ◌-◌, ◌^◌, List, min, sum_by, Bool, true, false, Option, is_some}
+use Rattle.pool_slots.specs.Imports.{count, Told, no_calls, PageCalls, Slot, SlotIdentity, IsClean, identity}
 
 -- the region as it was made, a slot of which nothing is known, a slot that was used and is clean, or nothing
 pub data Cell : Type 0 where
@@ -13,6 +9,7 @@ pub data Cell : Type 0 where
   previously_used : Slot → Cell
   taken : Cell
 
+-- The cell is empty: what it held is out.
 abbrev pub is_taken : Cell → Bool
 is_taken (unmapped region) = false
 is_taken (unknown slot) = false
@@ -41,10 +38,6 @@ all_calls calls = record {
   recolour = sum_at_most (λ c. c.recolour) calls;
   decommit = sum_at_most (λ c. c.decommit) calls;
 }
-
--- the calls on the regions of cells, together
-abbrev pub calls_of_all : List Cell → PageCalls
-calls_of_all cells = all_calls (map calls_in cells)
 
 -- what no call changes of the slot that is made of a region: it begins with the region, and has this colour
 abbrev pub identity_made : Told → Option ℕ → ℕ → SlotIdentity

@@ -1,12 +1,7 @@
 -- The colours of memory slots, how the region of a slot is given its colour, and when that fails.
 use Rattle.std.specs.Prelude.{◌≡◌, ℕ, ◌+◌, ◌^◌, ◌<◌, ◌≤◌, ◌⊎◌, ◌==◌, ◌||◌, List, Bool, true, false, nat_lt, if◌then◌else◌, Option, None, Some, IfSome}
-use Rattle.std.specs.List.{list_any}
-use Rattle.pool_pages.specs.Count.{Count, count as count_of, rounded_up}
-use Rattle.pool_pages.specs.Told.{Told, Rose, Faulted, recolouring}
-use Rattle.pool_images.specs.Slots.{coloured, IsFresh}
-use Rattle.pool_pages.specs.MakerTold.{MakerTold, Planned, calls_of, fails_making, made_region}
+use Rattle.pool_slots.specs.Imports.{list_any, Count, count_of, rounded_up, Told, Faulted, recolouring, Rose, coloured, IsFresh, MakerTold, Planned, calls_of, fails_making, made_region, DecommitBehavior}
 use Rattle.pool_pages.specs.declared.pages.RegionName.TheVariants.{Memory}
-use Rattle.pool_pages.specs.declared.pages.DecommitBehavior.{DecommitBehavior}
 use Rattle.pool_slots.specs.Slabs.{stripe_of}
 use Rattle.pool_slots.specs.declared.errors.PoolNewError.{PoolNewError}
 use Rattle.pool_slots.specs.declared.errors.PoolNewError.TheVariants as refused
@@ -35,7 +30,8 @@ fails_region None len i plan = fails_making (Memory i) plan
 fails_region (Some colour) len i plan = fails_making (Memory i) plan || fails_colouring (Some colour) len (calls_of (Memory i) plan)
 
 -- A region was made like this, and the first call on it failed: it is left as that call leaves it, and its own count of
--- faults rose. Where it tells which calls fail, this is one.
+-- faults rose. Where it tells which calls fail, this is one. A body can't claim this by itself: the regions that it has
+-- are those that the maker gave it.
 pub record LeavesFaulted {P : Type 0} (told : P → Told) (Fault : Told → Told → Type 0) (fails : List ℕ → Bool) (made : Told) : Type 0 where
   pub region : P
   pub faulted : Fault made (told region)
@@ -46,7 +42,7 @@ abbrev pub FaultedColouring : Option ℕ → ℕ → Told → Told → Type 0
 FaultedColouring None len old new = ⊥
 FaultedColouring (Some colour) len old new = Faulted (recolouring 0 len colour) old new
 
--- so it is with the region of memory slot i
+-- The region of memory slot i was made and given up, since its colour could not be given.
 abbrev pub IsUncoloured : {P : Type 0} → (P → Told) → Option ℕ → DecommitBehavior → Count → ℕ → MakerTold → Type 0
 IsUncoloured told colour behaviour len i maker = LeavesFaulted told (FaultedColouring colour len.bytes) (fails_colouring colour len.bytes) (made_region (Memory i) behaviour (count_of len.page 0) len maker)
 

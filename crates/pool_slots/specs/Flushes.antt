@@ -1,10 +1,8 @@
 -- What a flush makes of the slots of a queue. The ranges are decommitted from the first to the last, up to the first that
 -- fails. Then the memories go back, then the tables, then the stacks.
 use Rattle.std.specs.Prelude.{◌≡◌, ◌<◌, ◌⊎◌, List, [], ◌∷◌, ◌++◌, length, map, filter, Bool, true, not, if◌then◌else◌}
-use Rattle.std.specs.List.{AllZip}
-use Rattle.pool_hall.specs.declared.unit_name.SlotKind.{SlotKind}
+use Rattle.pool_slots.specs.Imports.{AllZip, SlotKind, Follows}
 use Rattle.pool_hall.specs.declared.unit_name.SlotKind.TheVariants as of_slot
-use Rattle.pool_images.specs.Orders.{Follows}
 use Rattle.pool_slots.specs.declared.queued_range.QueuedRange.{QueuedRange}
 use Rattle.pool_slots.specs.SlotQueues.{Queued, Queue, same_kind, same_slot, is_of, ranges_of, front, first_slot, settle, settled, IsLeftBy, is_to_zero, zeroed}
 use Rattle.pool_slots.specs.SlotOrders.{decommits}
@@ -41,13 +39,15 @@ pub record AreLost (q : Queue) (items : List Queued) : Type 0 where
 abbrev pub IsFlushed : Queue → List Queued → Type 0
 IsFlushed q items = AreDecommitted q items ⊎ AreLost q items
 
+-- The queued slot is of this kind.
 abbrev pub is_kind : SlotKind → Queued → Bool
 is_kind kind m = same_kind kind m.name.kind
 
--- the slots of a kind, and the others, in order
+-- The queued slots of a kind, in order.
 abbrev pub of_kind : SlotKind → List Queued → List Queued
 of_kind kind ms = filter (is_kind kind) ms
 
+-- The queued slots of the other kinds, in order.
 abbrev pub without_kind : SlotKind → List Queued → List Queued
 without_kind kind ms = filter (λ m. not (is_kind kind m)) ms
 
@@ -60,10 +60,11 @@ abbrev pub given_back : SlotKind → List Queued → List Queued
 given_back of_slot.Memory items = of_kind of_slot.Memory items
 given_back kind items = map (zeroed_of kind) (of_kind kind items)
 
--- a pool can take slots of a kind, and what their return does to it
+-- A pool can take slots of a kind back.
 abbrev pub Taking : Type 0 → Type 1
 Taking S = SlotKind → List Queued → S → Type 0
 
+-- What the return of slots of a kind does to the pool that takes them.
 abbrev pub Returning : Type 0 → Type 1
 Returning S = SlotKind → List Queued → S → S → Type 0
 

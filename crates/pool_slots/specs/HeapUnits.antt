@@ -1,9 +1,7 @@
 -- What calls on the list of heaps do to its entries, and to the units that it has given out.
 use Rattle.std.specs.Prelude.{◌≡◌, ◌≢◌, ℕ, ◌+◌, ◌<◌, List, [], length, Option}
-use Rattle.pool_hall.specs.Sum.{one_if, total}
-use Rattle.pool_hall.specs.Unit.{times}
+use Rattle.pool_slots.specs.Imports.{one_if, total, times, UnitName}
 use Rattle.pool_hall.specs.declared.unit_name.SlotKind.TheVariants as of_slot
-use Rattle.pool_hall.specs.declared.unit_name.UnitName.{UnitName}
 use Rattle.pool_slots.specs.HeapLists.{heap_unit, is_out, heap_entry, heap_in, memory_of, IsHere, IsOut, heaps_made, heap_taken, heap_returned, heaps_away}
 use Rattle.pool_slots.specs.ListUnits.{is_right, is_region}
 use Rattle.pool_slots.specs.declared.allocation_index.MemoryAllocationIndex.{MemoryAllocationIndex}
@@ -14,27 +12,28 @@ use Rattle.pool_slots.specs.declared.slot_name.SlotName.{SlotName}
 abbrev pub heap_slot : ℕ → SlotName
 heap_slot slot = record { kind = of_slot.Heap; slot = slot }
 
--- The list stays as long, and only the entry of the slot changes. A slot that is taken is out and notes the memory, and a slot
--- that gets a heap back is here and has that heap.
+-- A take changes one entry alone: the slot is out and notes the memory; the list stays as long.
 pub record TakesOneHeap (H : Type 0) (slot : ℕ) (memory : MemoryAllocationIndex) (entries : List (HeapEntry H)) : Type 0 where
   pub taken : slot < length entries → IsOut slot (heap_taken slot memory entries) × (memory_of slot (heap_taken slot memory entries) ≡ memory)
   pub size : length (heap_taken slot memory entries) ≡ length entries
   pub others : (other : ℕ) → other ≢ slot → heap_entry other (heap_taken slot memory entries) ≡ heap_entry other entries
 
+-- A return changes one entry alone: the slot is here again, with the heap that came back, or with none.
 pub record ReturnsOneHeap (H : Type 0) (slot : ℕ) (heap : Option H) (entries : List (HeapEntry H)) : Type 0 where
   pub returned : slot < length entries → IsHere slot (heap_returned slot heap entries) × (heap_in slot (heap_returned slot heap entries) ≡ heap)
   pub size : length (heap_returned slot heap entries) ≡ length entries
   pub others : (other : ℕ) → other ≢ slot → heap_entry other (heap_returned slot heap entries) ≡ heap_entry other entries
 
+-- A take and a return change the entry of their own slot and no other.
 abbrev pub HeapsKeepToTheirSlots : Type 0 → Type 0
 HeapsKeepToTheirSlots H = (slot : ℕ) (memory : MemoryAllocationIndex) (heap : Option H) (entries : List (HeapEntry H)) → TakesOneHeap H slot memory entries × ReturnsOneHeap H slot heap entries
 
--- Whatever weight each unit has: a slot that is taken gives out its unit, and one that gets its heap back takes back the
--- unit that tells the memory noted there.
+-- A take gives out the one unit that tells the slot and the memory noted there, whatever weight units have.
 abbrev pub HeapTakesCount : Type 0 → Type 0
 HeapTakesCount H = (w : UnitName → ℕ) (slot : ℕ) (memory : MemoryAllocationIndex) (entries : List (HeapEntry H)) → slot < length entries → IsHere slot entries
     → total w (heaps_away (heap_taken slot memory entries)) ≡ total w (heaps_away entries) + w (heap_unit slot memory)
 
+-- A return takes back the one unit that tells the slot and the memory noted there.
 abbrev pub HeapReturnsCount : Type 0 → Type 0
 HeapReturnsCount H = (w : UnitName → ℕ) (slot : ℕ) (heap : Option H) (entries : List (HeapEntry H)) → IsOut slot entries
     → total w (heaps_away (heap_returned slot heap entries)) + w (heap_unit slot (memory_of slot entries)) ≡ total w (heaps_away entries)
@@ -57,5 +56,6 @@ pub record HeapsAwayAreOut (H : Type 0) (entries : List (HeapEntry H)) : Type 0 
   pub no_rights : (name : SlotName) → total (is_right name) (heaps_away entries) ≡ 0
   pub no_others : (name : SlotName) → name.kind ≢ of_slot.Heap → total (is_region name) (heaps_away entries) ≡ 0
 
+-- In every list, the units that are away are those of the slots that are out.
 abbrev pub HeapUnitsAreOfOutSlots : Type 0 → Type 0
 HeapUnitsAreOfOutSlots H = (entries : List (HeapEntry H)) → HeapsAwayAreOut H entries

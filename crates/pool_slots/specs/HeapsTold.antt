@@ -1,7 +1,6 @@
 -- What a maker of heaps tells of itself.
 use Rattle.std.specs.Prelude.{◌≡◌, ℕ, ◌==◌, List, Bool, Option, Some}
-use Rattle.std.specs.List.{list_any}
-use Rattle.pool_pages.specs.Told.{Rose, risen}
+use Rattle.pool_slots.specs.Imports.{list_any, Rose, risen}
 use Rattle.pool_slots.specs.declared.heap_maker.HeapMakeFault.{HeapMakeFault}
 use Rattle.pool_slots.specs.declared.heap_maker.HeapMakeFault.TheVariants.{Memory, HeapFault}
 

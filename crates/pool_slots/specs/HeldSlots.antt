@@ -1,7 +1,6 @@
 -- What a queue holds of a slot, as plain data.
 use Rattle.std.specs.Prelude.{ℕ, Option, Some, None, if◌then◌else◌}
-use Rattle.pool_images.specs.Slots.{Slot}
-use Rattle.pool_hall.specs.declared.unit_name.SlotKind.{SlotKind}
+use Rattle.pool_slots.specs.Imports.{Slot, SlotKind}
 use Rattle.pool_hall.specs.declared.unit_name.SlotKind.TheVariants as of_slot
 use Rattle.pool_slots.specs.PlainSlots.{StackState}
 use Rattle.pool_slots.specs.SlotQueues.{Queued, plain_slot}
@@ -9,16 +8,19 @@ use Rattle.pool_slots.specs.declared.slot_name.RegionNumbers.{RegionNumbers}
 use Rattle.pool_slots.specs.declared.queued_slot.HeldSlot.{HeldSlot}
 use Rattle.pool_slots.specs.declared.queued_slot.HeldSlot.TheVariants.{Memory, Table, Stack}
 
+-- The slot that a queue holds; a table's or a stack's region counts as a slot without image.
 abbrev pub held_slot : {P : Type 0} → HeldSlot P → Slot
 held_slot (Memory slot) = slot
 held_slot (Table region base by_hand) = plain_slot base.bytes region
 held_slot (Stack region base by_hand) = plain_slot base.bytes region
 
+-- The kind of a slot that a queue holds.
 abbrev pub held_kind : {P : Type 0} → HeldSlot P → SlotKind
 held_kind (Memory slot) = of_slot.Memory
 held_kind (Table region base by_hand) = of_slot.Table
 held_kind (Stack region base by_hand) = of_slot.Stack
 
+-- How many bytes are zeroed by hand should a decommit fail; never any of a memory.
 abbrev pub by_hand_of : {P : Type 0} → HeldSlot P → Option ℕ
 by_hand_of (Memory slot) = None
 by_hand_of (Table region base by_hand) = by_hand

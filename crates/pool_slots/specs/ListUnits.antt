@@ -1,14 +1,7 @@
 -- The units that the parts of a pool have given out and those that they keep, all together.
 use Rattle.std.specs.Prelude.{◌≡◌, ℕ, ◌+◌, ◌<◌, ◌≤◌, List, [], ◌∷◌, ◌++◌, length, Option, IsSome}
-use Rattle.pool_hall.specs.Sum.{one_if, total}
-use Rattle.pool_hall.specs.Unit.{same, times}
+use Rattle.pool_slots.specs.Imports.{one_if, total, same, times, UnitName, slot_unit, found_units, ShardState, IsShard, use_of, MemoryInModule, SlotId}
 use Rattle.pool_hall.specs.declared.unit_name.SlotKind.TheVariants as of_slot
-use Rattle.pool_hall.specs.declared.unit_name.UnitName.{UnitName}
-use Rattle.pool_index.specs.Part.{slot_unit}
-use Rattle.pool_index.specs.Round.{found_units}
-use Rattle.pool_index.specs.Shard.{ShardState, IsShard, use_of}
-use Rattle.pool_index.specs.declared.ids.MemoryInModule.{MemoryInModule}
-use Rattle.pool_index.specs.declared.ids.SlotId.{SlotId}
 use Rattle.pool_slots.specs.Cells.{Cell, taken}
 use Rattle.pool_slots.specs.HeapLists.{heap_unit}
 use Rattle.pool_slots.specs.SlotQueues.{Queue}
@@ -27,10 +20,11 @@ use Rattle.pool_slots.specs.declared.part.PoolPart.TheVariants as part
 abbrev pub bare : UnitName → UnitName
 bare u = record u { first = 0; second = 0 }
 
--- 1 for the right to a slot, and 1 for its region, whatever numbers that tells
+-- 1 for a unit that is the right to this slot; 0 for each other.
 abbrev pub is_right : SlotName → UnitName → ℕ
 is_right name u = one_if (same (right_to name) (bare u))
 
+-- 1 for a unit that is the region of this slot, whatever numbers it tells; 0 for each other.
 abbrev pub is_region : SlotName → UnitName → ℕ
 is_region name u = one_if (same (region_of name (record { faults = 0; erases = 0 })) (bare u))
 
@@ -43,11 +37,12 @@ pub record IsShardOf (a : Allocator) (j : ℕ) (s : ShardState) : Type 0 where
   pub capacity : s.capacity ≡ slots_at a j
 
 module _ {P H : Type 0} where
-  -- the units that all parts have given out, and those that they keep
+  -- The units that all parts have given out.
   abbrev pub all_away : List (PoolPart P H) → List UnitName
   all_away [] = []
   all_away (x ∷ xs) = part_away x ++ all_away xs
 
+  -- The units that all parts keep, as queues do of the slots in them.
   abbrev pub all_kept : List (PoolPart P H) → List UnitName
   all_kept [] = []
   all_kept (x ∷ xs) = part_kept x ++ all_kept xs
@@ -63,7 +58,7 @@ module _ {P H : Type 0} where
   StandsAs (heaps_role n) (part.Heaps heaps) = length heaps ≡ n
   StandsAs _ _ = ⊥
 
-  -- so it is of each place of the pool
+  -- Each part of the pool is as the plan has its place.
   pub record StandAsPlanned (plan : Plan) (parts : List (PoolPart P H)) : Type 0 where
     pub planned : IsPlanned plan (length parts)
     pub stand : (p : ℕ) → p < length parts → StandsAs (role_at plan p) (part_at p parts)
@@ -74,7 +69,7 @@ AwayFollows P H = (w : UnitName → ℕ) (place : ℕ) (change : PoolPart P H �
     → total w (part_away (change (part_at place parts))) + took ≡ total w (part_away (part_at place parts)) + gave
     → total w (all_away (with_part place change parts)) + took ≡ total w (all_away parts) + gave
 
--- and likewise what it brings and takes of what they keep
+-- What a change of one part brings and takes of what it keeps, all parts together do.
 abbrev pub KeptFollows : Type 0 → Type 0 → Type 0
 KeptFollows P H = (w : UnitName → ℕ) (place : ℕ) (change : PoolPart P H → PoolPart P H) (parts : List (PoolPart P H)) (came left : ℕ) → place < length parts
     → total w (part_kept (change (part_at place parts))) + left ≡ total w (part_kept (part_at place parts)) + came
@@ -84,47 +79,49 @@ KeptFollows P H = (w : UnitName → ℕ) (place : ℕ) (change : PoolPart P H �
 abbrev pub AwayOnce : Type 0 → Type 0 → Type 0
 AwayOnce P H = (plan : Plan) (parts : List (PoolPart P H)) (name : SlotName) → StandAsPlanned plan parts → (total (is_right name) (all_away parts) ≤ 1) × (total (is_region name) (all_away parts) ≤ 1)
 
--- A pick gives out the right to the slot that it answers, and a free takes back that to the slot that is freed. What is
--- kept stays.
+-- A pick gives out the right to the slot that it answers; all else that parts have given out or keep stays.
 abbrev pub PickCounts : Type 0 → Type 0 → Type 0
 PickCounts P H = (u : UnitName) (want : Option MemoryInModule) (place : ℕ) (parts : List (PoolPart P H)) (s : ShardState) → place < length parts → part_at place parts ≡ part.Shard s → IsShard s
     → (times u (all_away (with_part place (picked_from want) parts)) ≡ times u (all_away parts) + times u (found_units s.kind (picked_number want (part_at place parts))))
     × (times u (all_kept (with_part place (picked_from want) parts)) ≡ times u (all_kept parts))
 
+-- A free takes back the right to the slot that is freed; all else that parts have given out or keep stays.
 abbrev pub FreeCounts : Type 0 → Type 0 → Type 0
 FreeCounts P H = (u : UnitName) (slot : SlotId) (bytes place : ℕ) (parts : List (PoolPart P H)) (s : ShardState) → place < length parts → part_at place parts ≡ part.Shard s → IsSome (use_of s slot.0)
     → (times u (all_away (with_part place (freed_in slot bytes) parts)) + one_if (same u (slot_unit s slot.0)) ≡ times u (all_away parts))
     × (times u (all_kept (with_part place (freed_in slot bytes) parts)) ≡ times u (all_kept parts))
 
--- A region that leaves its cell is given out, and one that comes back is taken back, whatever weight its unit has. What is
--- kept stays.
+-- A region that leaves its cell is given out, by the numbers that it goes out with; all else stays.
 abbrev pub TakeCounts : Type 0 → Type 0 → Type 0
 TakeCounts P H = (w : UnitName → ℕ) (place : ℕ) (parts : List (PoolPart P H)) → IsAt IsCellPart place parts → (held_in (part_at place parts) ≡ taken → ⊥)
     → (total w (all_away (with_part place region_taken parts)) ≡ total w (all_away parts) + w (region_of (cell_of_part (part_at place parts)).name (numbers_in (part_at place parts))))
     × (total w (all_kept (with_part place region_taken parts)) ≡ total w (all_kept parts))
 
+-- A region that comes back to its cell is taken back, by the numbers that it went out with.
 abbrev pub PutCounts : Type 0 → Type 0 → Type 0
 PutCounts P H = (w : UnitName → ℕ) (held : Cell) (place : ℕ) (parts : List (PoolPart P H)) → IsAt IsCellPart place parts → held_in (part_at place parts) ≡ taken → (held ≡ taken → ⊥)
     → (total w (all_away (with_part place (region_put held) parts)) + w (region_of (cell_of_part (part_at place parts)).name (numbers_in (part_at place parts))) ≡ total w (all_away parts))
     × (total w (all_kept (with_part place (region_put held) parts)) ≡ total w (all_kept parts))
 
--- What a queue and the local one keep they keep together after a merge, and after a take. What is out stays.
+-- What a queue and the local one keep they keep together after a merge; what is out stays.
 abbrev pub MergeCounts : Type 0 → Type 0 → Type 0
 MergeCounts P H = (w : UnitName → ℕ) (batch : ℕ) (local : Queue) (place : ℕ) (parts : List (PoolPart P H)) → IsAt (CanMergeInto local) place parts
     → (total w (all_kept (with_part place (merged_into batch local) parts)) + total w (queue_kept (local_after_merge batch local (part_at place parts))) ≡ total w (all_kept parts) + total w (queue_kept local))
     × (total w (all_away (with_part place (merged_into batch local) parts)) ≡ total w (all_away parts))
 
+-- What a queue kept, the local one keeps after it was taken into that; nothing is lost on the way.
 abbrev pub QueueTakeCounts : Type 0 → Type 0 → Type 0
 QueueTakeCounts P H = (w : UnitName → ℕ) (local : Queue) (place : ℕ) (parts : List (PoolPart P H)) → IsAt (CanTakeInto local) place parts
     → (total w (all_kept (with_part place queue_taken parts)) + total w (queue_kept (local_after_take local (part_at place parts))) ≡ total w (all_kept parts) + total w (queue_kept local))
     × (total w (all_away (with_part place queue_taken parts)) ≡ total w (all_away parts))
 
--- A slot that goes out of the list of heaps is given out, with the memory that it notes, and taken back as it notes it.
+-- A heap's slot that goes out is given out, with the memory that it notes; all else stays.
 abbrev pub HeapTakeCounts : Type 0 → Type 0 → Type 0
 HeapTakeCounts P H = (w : UnitName → ℕ) (slot : ℕ) (memory : MemoryAllocationIndex) (place : ℕ) (parts : List (PoolPart P H)) → IsAt (CanTakeHeap slot) place parts
     → (total w (all_away (with_part place (heap_out slot memory) parts)) ≡ total w (all_away parts) + w (heap_unit slot memory))
     × (total w (all_kept (with_part place (heap_out slot memory) parts)) ≡ total w (all_kept parts))
 
+-- A heap's slot that comes back is taken back, with the memory that it notes.
 abbrev pub HeapPutCounts : Type 0 → Type 0 → Type 0
 HeapPutCounts P H = (w : UnitName → ℕ) (slot : ℕ) (heap : Option H) (place : ℕ) (parts : List (PoolPart P H)) → IsAt (CanPutHeap slot) place parts
     → (total w (all_away (with_part place (heap_back slot heap) parts)) + w (heap_unit slot (memory_noted slot (part_at place parts))) ≡ total w (all_away parts))

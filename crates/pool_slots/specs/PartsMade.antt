@@ -1,15 +1,7 @@
 -- The parts of a pool as they are made: each has at its place what the plan says that the place is for.
 use Rattle.std.specs.Prelude.{◌≡◌, ℕ, zero, suc, ◌+◌, ◌-◌, ◌<◌, ◌≤◌, ◌^◌, ◌||◌, List, [], ◌∷◌, ◌++◌, length, map, Bool, true, nat_lt, if◌then◌else◌}
-use Rattle.std.specs.List.{list_any, range_with_len}
-use Rattle.pool_hall.specs.declared.unit_name.SlotKind.{SlotKind}
+use Rattle.pool_slots.specs.Imports.{list_any, range_with_len, SlotKind, budget_of, ShardState, NumbersFit, fresh_shard, Count, MakerTold, Planned, calls_of, fails_making, made_region, Told, Faulted, hiding, succeeded, DecommitBehavior, RegionName}
 use Rattle.pool_hall.specs.declared.unit_name.SlotKind.TheVariants as of_slot
-use Rattle.pool_index.specs.Layout.{budget_of}
-use Rattle.pool_index.specs.Shard.{ShardState, NumbersFit, fresh_shard}
-use Rattle.pool_pages.specs.Count.{Count}
-use Rattle.pool_pages.specs.MakerTold.{MakerTold, Planned, calls_of, fails_making, made_region}
-use Rattle.pool_pages.specs.Told.{Told, Faulted, hiding, succeeded}
-use Rattle.pool_pages.specs.declared.pages.DecommitBehavior.{DecommitBehavior}
-use Rattle.pool_pages.specs.declared.pages.RegionName.{RegionName}
 use Rattle.pool_pages.specs.declared.pages.RegionName.TheVariants as of_region
 use Rattle.pool_slots.specs.Cells.{unmapped}
 use Rattle.pool_slots.specs.Colourings.{coloured_region, stripe_colour, fails_first_call, fails_region, LeavesFaulted, IsUncoloured}
@@ -45,30 +37,32 @@ pub record HasNumbers (a : Allocator) (j : ℕ) : Type 0 where
   pub fit : NumbersFit (number_at a j 0) a.step (slots_at a j)
   pub few : slots_at a j < 2 ^ 32
 
+-- The numbers of all shards of an allocator fit 32 bits.
 abbrev pub HaveNumbers : Allocator → Type 0
 HaveNumbers a = (j : ℕ) → j < a.shards → HasNumbers a j
 
--- The slots that have a region, in the order in which those are made: memories, then tables, then stacks. How many they
--- are, and which is the one after n others.
+-- How many slots have a region: all but those of heaps.
 abbrev pub region_count : OfKinds → ℕ
 region_count totals = totals.memory + totals.table + totals.stack
 
+-- The kind and the number of the slot whose region is made after n others.
 abbrev pub nth_region : OfKinds → ℕ → QueueKind × ℕ
 nth_region totals n =
     if nat_lt n totals.memory
     then (of_queue.Memory, n)
     else (if nat_lt n (totals.memory + totals.table) then (of_queue.Table, n - totals.memory) else (of_queue.Stack, n - (totals.memory + totals.table)))
 
+-- The name under which the region of a slot is asked of the maker, and under which faults are planned on it.
 abbrev pub region_name : QueueKind → ℕ → RegionName
 region_name of_queue.Memory i = of_region.Memory i
 region_name of_queue.Table i = of_region.Table i
 region_name of_queue.Stack i = of_region.Stack i
 
--- The region of a table as it is made: all of it can be reached. So it is with a stack's, of which the first page is hidden
--- then: its guard.
+-- The region of a table as it is made: all of it can be reached.
 abbrev pub table_region : MakerTold → DecommitBehavior → Count → ℕ → Told
 table_region maker behaviour len i = made_region (of_region.Table i) behaviour len len maker
 
+-- The region of a stack as it is made: all of it can be reached but the first page, which is its guard.
 abbrev pub stack_region : MakerTold → DecommitBehavior → Count → ℕ → Told
 stack_region maker behaviour len i = succeeded (hiding 0 len.page) (made_region (of_region.Stack i) behaviour len len maker)
 
@@ -86,7 +80,7 @@ fails_guard page i plan = fails_making (of_region.Stack i) plan || fails_first_c
 abbrev pub IsUnguarded : {P : Type 0} → (P → Told) → DecommitBehavior → Count → ℕ → MakerTold → Type 0
 IsUnguarded told behaviour len i maker = LeavesFaulted told (Faulted (hiding 0 len.page)) (fails_first_call len.page) (made_region (of_region.Stack i) behaviour len len maker)
 
--- the making of a slot's region is listed as one that fails, or the first call on it
+-- The plan lists the making of a slot's region, or the first call on it.
 abbrev pub fails_slot : ℕ → PartSettings → QueueKind → ℕ → List Planned → Bool
 fails_slot num_stripes s of_queue.Memory i plan = fails_region (stripe_colour num_stripes i) s.memory_len.bytes i plan
 fails_slot num_stripes s of_queue.Table i plan = fails_making (of_region.Table i) plan
@@ -98,13 +92,15 @@ IsGivenUp told num_stripes s of_queue.Memory i maker = IsUncoloured told (stripe
 IsGivenUp told num_stripes s of_queue.Table i maker = ⊥
 IsGivenUp told num_stripes s of_queue.Stack i maker = IsUnguarded told s.behaviour s.stack_len i maker
 
--- so it is with some slot of a pool
+-- The plan lists the making of some slot's region.
 abbrev pub lists_some_making : OfKinds → List Planned → Bool
 lists_some_making totals plan = list_any (λ n. fails_making (region_name (nth_region totals n).0 (nth_region totals n).1) plan) (range_with_len 0 (region_count totals))
 
+-- A plan lists, for some slot of the pool, the making of its region or the first call on that.
 abbrev pub fails_some_slot : StripedPlanSettings → PartSettings → List Planned → Bool
 fails_some_slot z s plan = list_any (λ n. fails_slot z.num_stripes s (nth_region z.totals n).0 (nth_region z.totals n).1 plan) (range_with_len 0 (region_count z.totals))
 
+-- The region of some slot was made and given up, since the first call on it failed.
 abbrev pub SomeGivenUp : {P : Type 0} → (P → Told) → StripedPlanSettings → PartSettings → MakerTold → Type 0
 SomeGivenUp told z s maker = (n : ℕ) × (n < region_count z.totals) × IsGivenUp told z.num_stripes s (nth_region z.totals n).0 (nth_region z.totals n).1 maker
 
@@ -113,6 +109,7 @@ abbrev pub HaveGuards : StripedPlanSettings → PartSettings → Type 0
 HaveGuards z s = 0 < z.totals.stack → s.stack_len.page ≤ s.stack_len.bytes
 
 module _ {P H : Type 0} where
+  -- Shard j of an allocator as it is made.
   abbrev pub shard_part : ℕ → Allocator → ℕ → PoolPart P H
   shard_part warm a j = Shard (shard_made warm a j)
 
@@ -140,10 +137,11 @@ module _ {P H : Type 0} where
   cell_part of_queue.Table slot region = Table (cell_made (record { kind = of_slot.Table; slot = slot }) (unmapped region))
   cell_part of_queue.Stack slot region = Stack (cell_made (record { kind = of_slot.Stack; slot = slot }) (unmapped region))
 
+  -- The cell of a slot as it is made, with the region that was made for it.
   abbrev pub cell_part_made : ℕ → MakerTold → PartSettings → QueueKind → ℕ → PoolPart P H
   cell_part_made num_stripes maker s kind slot = cell_part kind slot (slot_region num_stripes maker s kind slot)
 
-  -- heaps have no cells
+  -- The part is the cell of a slot as it is made; heaps have no cells.
   abbrev pub IsCellMade : ℕ → MakerTold → PartSettings → SlotKind → ℕ → PoolPart P H → Type 0
   IsCellMade num_stripes maker s of_slot.Memory slot x = x ≡ cell_part_made num_stripes maker s of_queue.Memory slot
   IsCellMade num_stripes maker s of_slot.Table slot x = x ≡ cell_part_made num_stripes maker s of_queue.Table slot

@@ -1,8 +1,6 @@
 -- The region of a table or a stack as a slot without image: what is written to it, and how it is reset.
 use Rattle.std.specs.Prelude.{◌≡◌, ℕ, ◌+◌, ◌-◌, List, [], ◌∷◌, min, replicate, Bool, true, false, None, IfSome}
-use Rattle.pool_pages.specs.Told.{overwritten}
-use Rattle.pool_images.specs.declared.ranges.ByteRange.{ByteRange}
-use Rattle.pool_images.specs.Slots.{Slot, IsSlot, IsReady, IsClean, Holds, Reads, size_of, reset_ranges}
+use Rattle.pool_slots.specs.Imports.{overwritten, ByteRange, Slot, IsSlot, IsReady, IsClean, Holds, Reads, size_of, reset_ranges}
 use Rattle.pool_slots.specs.SlotQueues.{CanBeZeroed, zeroed_slot}
 
 -- It can be used: it is whole pages without image, all of which can be reached and go back to zeros.
@@ -18,21 +16,23 @@ pub record IsPlain (s : Slot) : Type 0 where
 abbrev pub plain_written : ℕ → List ℕ → Slot → Slot
 plain_written at new s = record s { region = overwritten (s.base.bytes + at) new s.region }
 
--- how many bytes a reset keeps resident, and the slot once it has set them by hand: those of a stack at its top, those of a
--- table at its beginning
+-- How many bytes a stack keeps resident, at its top.
 abbrev pub top_kept : ℕ → Slot → ℕ
 top_kept keep s = min keep s.static_size
 
+-- A stack once the bytes that it keeps resident, at its top, were zeroed by hand.
 abbrev pub top_reset : ℕ → Slot → Slot
 top_reset keep s = plain_written (s.static_size - top_kept keep s) (replicate (top_kept keep s) 0) s
 
+-- A table's region once the bytes that it keeps resident, at its beginning, were zeroed by hand.
 abbrev pub bottom_reset : ℕ → ℕ → Slot → Slot
 bottom_reset keep used s = plain_written 0 (replicate (min keep used) 0) s
 
--- what is left to be decommitted: the whole rest of a stack, also where that is nothing, and the rest of what a table used
+-- What a stack leaves to be decommitted: all below its top, also where that is nothing.
 abbrev pub below_top : ℕ → Slot → List ByteRange
 below_top keep s = record { start = 0; len = s.static_size - top_kept keep s } ∷ []
 
+-- What a table leaves to be decommitted: what it used above the bytes that stay resident.
 abbrev pub above_bottom : ℕ → ℕ → List ByteRange
 above_bottom keep used = reset_ranges keep used
 
@@ -46,15 +46,17 @@ pub record StackState : Type 0 where
   pub slot : Slot
   pub zeroing : Bool
 
--- what zeroing a stack leaves of it, how many bytes it keeps resident, and what is left to be decommitted
+-- What zeroing a stack by hand leaves of it.
 abbrev pub stack_zeroed : Bool → ℕ → StackState → StackState
 stack_zeroed false keep s = s
 stack_zeroed true keep s = record s { slot = top_reset keep s.slot }
 
+-- How many bytes a stack keeps resident: none where stacks aren't given back zeroed.
 abbrev pub stack_kept : Bool → ℕ → StackState → ℕ
 stack_kept false keep s = 0
 stack_kept true keep s = top_kept keep s.slot
 
+-- What a stack leaves to be decommitted: all below its top, or nothing where stacks aren't given back zeroed.
 abbrev pub stack_ranges : Bool → ℕ → StackState → List ByteRange
 stack_ranges false keep s = []
 stack_ranges true keep s = below_top keep s.slot

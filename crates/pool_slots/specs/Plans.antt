@@ -1,8 +1,7 @@
 -- Where the parts of a pool are: which place is a shard, a cell or a queue, and where a slot is at home.
 use Rattle.std.specs.Prelude.{◌≡◌, ℕ, ◌+◌, ◌-◌, ◌*◌, ◌/◌, ◌%◌, ◌^◌, ◌<◌, ◌≤◌, ◌==◌, ◌&&◌, ◌⊎◌, List, [], ◌∷◌, ◌++◌, min, map, Bool, if◌then◌else◌, nat_le, nat_lt}
-use Rattle.std.specs.List.{AllByRecursion}
-use Rattle.pool_hall.specs.declared.unit_name.SlotKind.{SlotKind}
-use Rattle.pool_hall.specs.declared.unit_name.SlotKind.TheVariants.{Memory, Table, Stack, Heap}
+use Rattle.pool_slots.specs.Imports.{AllByRecursion, SlotKind, Heap}
+use Rattle.pool_hall.specs.declared.unit_name.SlotKind.TheVariants.{Memory, Table, Stack}
 use Rattle.pool_slots.specs.SlotNames.{of_kind}
 use Rattle.pool_slots.specs.declared.slot_name.SlotName.{SlotName}
 use Rattle.pool_slots.specs.declared.plan.Allocator.{Allocator}
@@ -16,10 +15,11 @@ allocators_of plan Table = plan.tables
 allocators_of plan Stack = plan.stacks
 allocators_of plan Heap = plan.heaps
 
--- the number of slot k of an allocator, and that of slot k of its shard j
+-- The number of slot k of an allocator.
 abbrev pub number_in : Allocator → ℕ → ℕ
 number_in a k = a.first + k * a.step
 
+-- The number of slot k of an allocator's shard j.
 abbrev pub number_at : Allocator → ℕ → ℕ → ℕ
 number_at a j k = number_in a (j * a.slots_per_shard + k)
 
@@ -38,11 +38,12 @@ home_in a n = record {
   local = record { 0 = ((n - a.first) / a.step) % a.slots_per_shard };
 }
 
--- by the first allocator that has the number
+-- Where the slot with a number is at home, by the first allocator that has the number.
 abbrev pub home_among : List Allocator → ℕ → Home
 home_among [] n = record { place = 0; local = record { 0 = 0 } }
 home_among (a ∷ as') n = if has_number a n then home_in a n else home_among as' n
 
+-- Where a slot is at home: the place of its shard, and its number there.
 abbrev pub home_of : Plan → SlotName → Home
 home_of plan name = home_among (allocators_of plan name.kind) name.slot
 
@@ -54,15 +55,14 @@ cell_place plan name = of_kind name.kind plan.cells + name.slot
 abbrev pub shard_tried : Allocator → ℕ → ℕ → ℕ
 shard_tried a home tried = a.first_place + (home + tried) % a.shards
 
--- The place of the queue that comes after so many others, from a home on. Where each party has parts of its own, it has
--- one queue.
+-- the place of the queue that comes after so many others, from a home on
 abbrev pub queue_tried : Plan → ℕ → ℕ → ℕ
-queue_tried plan home tried = plan.first_queue + (if plan.owned then home else (home + tried) % plan.queues)
+queue_tried plan home tried = plan.first_queue + (home + tried) % plan.queues
 
 -- how many queues a search for a slot of a kind goes through
 abbrev pub queues_for : Plan → SlotKind → ℕ
 queues_for plan Heap = 0
-queues_for plan kind = if plan.owned then 1 else plan.queues
+queues_for plan kind = plan.queues
 
 -- What a place is for: shard j of an allocator, the cell of a slot, a queue, the list of so many heaps, or nothing.
 pub data Role : Type 0 where
@@ -78,17 +78,19 @@ pub record Block : Type 0 where
   pub count : ℕ
   pub role : ℕ → Role
 
+-- The places of an allocator's shards.
 abbrev pub shards_block : Allocator → Block
 shards_block a = record { first = a.first_place; count = a.shards; role = shard_role a }
 
+-- The places of the cells of a kind, one for each slot.
 abbrev pub cells_block : Plan → SlotKind → Block
 cells_block plan kind = record { first = of_kind kind plan.cells; count = of_kind kind plan.totals; role = λ n. cell_role (record { kind = kind; slot = n }) }
 
--- The blocks of a plan: the shards of each allocator, the cells of memories, tables and stacks, the queues, and the one
--- place of the list of heaps, where there are heaps.
+-- All allocators of a plan.
 abbrev pub allocators : Plan → List Allocator
 allocators plan = plan.memories ++ (plan.tables ++ (plan.stacks ++ plan.heaps))
 
+-- All blocks of a plan: cells, queues, the one place of the list of heaps if there is one, and each allocator's shards.
 abbrev pub blocks : Plan → List Block
 blocks plan =
     cells_block plan Memory ∷ cells_block plan Table ∷ cells_block plan Stack
@@ -100,10 +102,12 @@ blocks plan =
 abbrev pub is_within : Block → ℕ → Bool
 is_within b p = nat_le b.first p && nat_lt p (b.first + b.count)
 
+-- What a place is for, by the first block that has it.
 abbrev pub role_among : List Block → ℕ → Role
 role_among [] p = no_role
 role_among (b ∷ bs) p = if is_within b p then b.role (p - b.first) else role_among bs p
 
+-- What a place of the pool is for.
 abbrev pub role_at : Plan → ℕ → Role
 role_at plan p = role_among (blocks plan) p
 
@@ -111,6 +115,7 @@ role_at plan p = role_among (blocks plan) p
 abbrev pub AreBesides : Block → Block → Type 0
 AreBesides b d = (b.first + b.count ≤ d.first) ⊎ (d.first + d.count ≤ b.first)
 
+-- No place is in two of the blocks.
 abbrev pub AreSeparate : List Block → Type 0
 AreSeparate [] = Unit {0}
 AreSeparate (b ∷ bs) = AllByRecursion (AreBesides b) bs × AreSeparate bs
@@ -130,11 +135,12 @@ pub record IsPlacedAllocator (a : Allocator) : Type 0 where
   pub covered : a.capacity ≤ a.shards * a.slots_per_shard
   pub places : a.first_place + a.shards ≤ 2 ^ 32
 
--- each number below the total is that of one allocator's slot
+-- How many of these allocators have a slot with this number.
 abbrev pub have_number : List Allocator → ℕ → ℕ
 have_number [] n = 0
 have_number (a ∷ as') n = (if has_number a n then 1 else 0) + have_number as' n
 
+-- The allocators of a kind: each number below the total is that of one slot of one of them.
 pub record AreAllocators (kind : SlotKind) (total : ℕ) (as' : List Allocator) : Type 0 where
   pub each : AllByRecursion (IsAllocator kind total) as'
   pub one : (n : ℕ) → n < total → have_number as' n ≡ 1

@@ -1,7 +1,7 @@
 -- The places of a pool: the shards come first, then the cells, the queues, and the list of heaps.
-use Rattle.std.specs.Prelude.{◌≡◌, ℕ, ◌+◌, ◌*◌, ◌/◌, ◌%◌, ◌<◌, ◌≤◌, List, ◌∷◌, [], min, false}
-use Rattle.pool_hall.specs.declared.unit_name.SlotKind.{SlotKind}
-use Rattle.pool_hall.specs.declared.unit_name.SlotKind.TheVariants.{Table, Stack, Heap}
+use Rattle.std.specs.Prelude.{◌≡◌, ℕ, ◌+◌, ◌*◌, ◌/◌, ◌%◌, ◌<◌, ◌≤◌, List, ◌∷◌, [], min}
+use Rattle.pool_slots.specs.Imports.{SlotKind, Heap}
+use Rattle.pool_hall.specs.declared.unit_name.SlotKind.TheVariants.{Table, Stack}
 use Rattle.pool_slots.specs.SlotNames.{of_kind}
 use Rattle.pool_slots.specs.Plans.{allocators_of, have_number, home_of, queue_tried}
 use Rattle.pool_slots.specs.declared.slot_name.OfKinds.{OfKinds}
@@ -16,7 +16,7 @@ pub record HoldSlots (total shards each : ℕ) : Type 0 where
   pub some : 0 < each
   pub covered : total ≤ shards * each
 
--- the place of the first shard of each kind, that of the first cell of each kind, and how many places come before the cells
+-- The place of the first shard of each kind.
 abbrev pub shards_from : PlanSettings → OfKinds
 shards_from s = record {
   memory = 0;
@@ -25,12 +25,15 @@ shards_from s = record {
   heap = s.shards.memory + s.shards.table + s.shards.stack;
 }
 
+-- How many shards there are of all kinds, which have the first places.
 abbrev pub shards_planned : PlanSettings → ℕ
 shards_planned s = s.shards.memory + s.shards.table + s.shards.stack + s.shards.heap
 
+-- The first place of the queues, which come after shards and cells.
 abbrev pub queues_from : PlanSettings → ℕ
 queues_from s = shards_planned s + s.totals.memory + s.totals.table + s.totals.stack
 
+-- The first place of the cells of each kind; heaps have no cells.
 abbrev pub cells_from : PlanSettings → OfKinds
 cells_from s = record {
   memory = shards_planned s;
@@ -39,10 +42,11 @@ cells_from s = record {
   heap = queues_from s;
 }
 
--- the place after the queues, where the list of heaps is if there are heaps, and the number of places
+-- The place after the queues, where the list of heaps is if there are heaps.
 abbrev pub heaps_from : PlanSettings → ℕ
 heaps_from s = queues_from s + s.queues
 
+-- How many places a pool has, with one for the list of heaps where there are heaps.
 abbrev pub places_planned : PlanSettings → ℕ
 places_planned s = heaps_from s + min 1 s.totals.heap
 
@@ -69,7 +73,6 @@ pub record IsPlanWith (s : PlanSettings) (of_memories : List Allocator) (plan : 
   pub first_queue : plan.first_queue ≡ queues_from s
   pub queues : plan.queues ≡ s.queues
   pub heap_list : plan.heap_list ≡ heaps_from s
-  pub shared : plan.owned ≡ false
 
 -- Where a kind has one allocator, its slots follow one another through the shards.
 abbrev pub home_planned : PlanSettings → SlotName → Home

@@ -12,12 +12,14 @@ pub record CanMerge (queue local : Queue) : Type 0 where
   pub range_room : local.range_room ≡ queue.range_room
   pub slot_room : local.slot_room ≡ queue.slot_room
 
--- a merge fills a batch; the queue and the local queue after it
+-- With the ranges of the local queue this one has a batch.
 abbrev pub fills : ℕ → Queue → Queue → Bool
 fills batch local q = nat_le batch (length (after_append q local).ranges)
 
+-- The shared queue after a merge: with all ranges and slots, or empty where these are a batch.
 abbrev pub merged : Bool → Queue → Queue → Queue
 merged full local q = if full then drained (after_append q local) else after_append q local
 
+-- The local queue after a merge: empty, or with all where these are a batch, which is flushed next.
 abbrev pub merged_local : Bool → Queue → Queue → Queue
 merged_local full local q = if full then taken_into (drained local) (after_append q local) else drained local

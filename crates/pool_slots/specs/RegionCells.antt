@@ -1,10 +1,7 @@
 -- The cell of a slot's region: what it holds, and what it counts.
 use Rattle.std.specs.Prelude.{ℕ, ◌^◌, ◌<◌, List, [], ◌∷◌}
-use Rattle.pool_hall.specs.declared.unit_name.SlotKind.{SlotKind}
+use Rattle.pool_slots.specs.Imports.{SlotKind, UnitName, pick_unit, region_unit, risen}
 use Rattle.pool_hall.specs.declared.unit_name.SlotKind.TheVariants as of_slot
-use Rattle.pool_hall.specs.declared.unit_name.UnitName.{UnitName}
-use Rattle.pool_hall.specs.Unit.{pick_unit, region_unit}
-use Rattle.pool_pages.specs.Told.{risen}
 use Rattle.pool_slots.specs.Cells.{Cell, unmapped, unknown, previously_used, taken, IsCleanOnceUsed}
 use Rattle.pool_slots.specs.declared.slot_name.SlotName.{SlotName}
 use Rattle.pool_slots.specs.declared.slot_name.RegionNumbers.{RegionNumbers}
@@ -17,14 +14,15 @@ pub record CellState : Type 0 where
   pub unknown_puts : ℕ
   pub out : RegionNumbers
 
--- how often calls on the region that lies in a cell have failed, and how often it was erased: one more where nothing is
--- known of it
+-- How often calls on the region in a cell have failed.
 abbrev pub faults_in : Cell → ℕ
 faults_in (unmapped region) = region.faults
 faults_in (unknown slot) = slot.region.faults
 faults_in (previously_used slot) = slot.region.faults
 faults_in taken = 0
 
+-- How often the region in a cell was erased; once more where nothing is known of it, as it is erased before its next
+-- use.
 abbrev pub erases_in : Cell → ℕ
 erases_in (unmapped region) = region.calls.erase
 erases_in (unknown slot) = risen slot.region.calls.erase
@@ -47,6 +45,7 @@ abbrev pub numbers_by : RegionNumbers → SlotKind → Cell → RegionNumbers
 numbers_by out kind taken = out
 numbers_by out kind held = numbers_of kind held
 
+-- The numbers of a cell's region: as it lies there, or as it went out.
 abbrev pub cell_numbers : CellState → RegionNumbers
 cell_numbers c = numbers_by c.out c.name.kind c.holds
 
@@ -54,12 +53,9 @@ cell_numbers c = numbers_by c.out c.name.kind c.holds
 abbrev pub cell_made : SlotName → Cell → CellState
 cell_made name held = record { name = name; holds = held; unknown_puts = 0; out = record { faults = 0; erases = 0 } }
 
--- the cell of memory slot i as it is made, with this in it; and an empty one, where it doesn't matter which
+-- The cell of memory slot i as it is made, with this in it.
 abbrev pub memory_cell : ℕ → Cell → CellState
 memory_cell i held = cell_made (record { kind = of_slot.Memory; slot = i }) held
-
-abbrev pub no_cell : CellState
-no_cell = memory_cell 0 taken
 
 -- what it holds is taken out, and goes with its numbers
 abbrev pub cell_emptied : CellState → CellState
@@ -82,15 +78,11 @@ pub record IsSoundCell (c : CellState) : Type 0 where
   pub told : (c.out.faults < 2 ^ 64) × (c.out.erases < 2 ^ 64)
   pub puts : c.unknown_puts < 2 ^ 64
 
--- the two counts of a cell, which never fall: how often calls on its region had failed when it was there last, and how
--- often a region was put there of which nothing was known
-abbrev pub cell_counts : CellState → List ℕ
-cell_counts c = (cell_numbers c).faults ∷ c.unknown_puts ∷ []
-
--- the unit of a slot's region, with these numbers, and the right to the slot
+-- The unit of a slot's region, with the numbers that it tells.
 abbrev pub region_of : SlotName → RegionNumbers → UnitName
 region_of name numbers = region_unit name.kind name.slot numbers.faults numbers.erases
 
+-- The unit that is the right to a slot, which a pick gives and a free takes back.
 abbrev pub right_to : SlotName → UnitName
 right_to name = pick_unit name.kind name.slot
 
@@ -99,5 +91,6 @@ abbrev pub away_by : SlotName → RegionNumbers → Cell → List UnitName
 away_by name out taken = region_of name out ∷ []
 away_by name out held = []
 
+-- The unit that a cell has given out: that of its region, while the cell is empty.
 abbrev pub cell_away : CellState → List UnitName
 cell_away c = away_by c.name c.out c.holds

@@ -1,11 +1,6 @@
 -- How the memory slots of a slab are laid out, in stripes of protection keys where there are keys.
 use Rattle.std.specs.Prelude.{◌≡◌, ℕ, ◌+◌, ◌-◌, ◌*◌, ◌/◌, ◌%◌, ◌^◌, ◌<◌, ◌≤◌, max, min, Bool, ◌&&◌, nat_le, nat_lt, if◌then◌else◌}
-use Rattle.std.specs.Int.{div_ceil}
-use Rattle.pool_pages.specs.Count.{count, rounded_up}
-use Rattle.pool_pages.specs.SettingsRules.{is_address, keys_used, slab_stripes, slab_slot, slab_bytes, slab_fits, rounds_up}
-use Rattle.pool_pages.specs.declared.config.PoolingAllocationConfig.{PoolingAllocationConfig}
-use Rattle.pool_pages.specs.declared.module_types.Tunables.{Tunables}
-use Rattle.pool_pages.specs.declared.offered.Offered.{Offered}
+use Rattle.pool_slots.specs.Imports.{div_ceil, count, rounded_up, is_address, keys_used, slab_stripes, slab_slot, slab_bytes, slab_fits, rounds_up, PoolingAllocationConfig, Tunables, Offered}
 use Rattle.pool_slots.specs.declared.slab.SlabConstraints.{SlabConstraints}
 use Rattle.pool_slots.specs.declared.slab.SlabLayout.{SlabLayout}
 
@@ -27,11 +22,12 @@ is_striped c = nat_lt 0 c.guard_bytes.bytes && (nat_lt 0 c.max_memory_bytes.byte
 abbrev pub stripe_count : SlabConstraints → ℕ
 stripe_count c = if is_striped c then min c.num_pkeys_available (min (div_ceil (faulting_region c) c.max_memory_bytes.bytes) c.num_slots) else 1
 
--- What a slot takes of the slab. In stripes it is an equal share of the faulting region, and at least the greatest memory,
--- in whole pages: the memories of other stripes fill the rest. Otherwise it is the faulting region.
+-- What a slot takes of a striped slab: an equal share of the faulting region, and at least the greatest memory, in
+-- whole pages. The memories of other stripes fill the rest.
 abbrev pub striped_slot : SlabConstraints → ℕ
 striped_slot c = rounded_up c.guard_bytes.page (max (div_ceil (faulting_region c) (stripe_count c)) c.max_memory_bytes.bytes)
 
+-- How many bytes of the slab a slot takes, by whether the slab is striped.
 abbrev pub slot_size : SlabConstraints → ℕ
 slot_size c = if is_striped c then striped_slot c else faulting_region c
 
@@ -43,6 +39,7 @@ guard_before c = if c.guard_before_slots then c.guard_bytes.bytes else 0
 abbrev pub guard_behind : SlabConstraints → ℕ
 guard_behind c = faulting_region c - slot_size c
 
+-- The layout of a slab that these constraints lead to.
 abbrev pub layout_of : SlabConstraints → SlabLayout
 layout_of c = record {
   num_slots = c.num_slots;
@@ -53,7 +50,7 @@ layout_of c = record {
   num_stripes = stripe_count c;
 }
 
--- the whole slab
+-- How many bytes the whole slab takes.
 abbrev pub total_bytes : SlabLayout → ℕ
 total_bytes l = l.pre_slab_guard_bytes.bytes + l.slot_bytes.bytes * l.num_slots + l.post_slab_guard_bytes.bytes
 
@@ -105,16 +102,19 @@ pub record RulesSpeakOfLayout (s : PoolingAllocationConfig) (t : Tunables) (page
   pub total : slab_bytes s t page o ≡ total_bytes (layout_of (settings_slab s t page o))
   pub rule : slab_fits s t page o ≡ (rounds_up page t.memory_reservation && (rounds_up page s.limits.max_memory_size && (rounds_up page t.memory_guard_size && has_room (settings_slab s t page o))))
 
+-- For all settings, the rule on the slab reckons with the layout that these settings lead to.
 abbrev pub SettingsSpeakOfLayouts : Type 0
 SettingsSpeakOfLayouts = (s : PoolingAllocationConfig) (t : Tunables) (page : ℕ) (o : Offered) → 0 < page → RulesSpeakOfLayout s t page o
 
--- The slots of all stripes are numbered in turn: the number in the stripe times the number of stripes, and the stripe.
+-- The slot with a number in a stripe: the slots of all stripes are numbered in turn.
 abbrev pub unstriped : ℕ → ℕ → ℕ → ℕ
 unstriped local stripe stripes = local * stripes + stripe
 
+-- The stripe of a slot: the slots of all stripes are numbered in turn.
 abbrev pub stripe_of : ℕ → ℕ → ℕ
 stripe_of slot stripes = slot % stripes
 
+-- The number of a slot within its stripe.
 abbrev pub local_of : ℕ → ℕ → ℕ
 local_of slot stripes = slot / stripes
 
@@ -125,5 +125,6 @@ pub record StripesUndo (stripes : ℕ) : Type 0 where
   pub stripe : (local stripe : ℕ) → stripe < stripes → stripe_of (unstriped local stripe stripes) stripes ≡ stripe
   pub local : (local stripe : ℕ) → stripe < stripes → local_of (unstriped local stripe stripes) stripes ≡ local
 
+-- A slot's number, and its stripe with its number there, name the same slot.
 abbrev pub NumberingsAgree : Type 0
 NumberingsAgree = (stripes : ℕ) → 0 < stripes → StripesUndo stripes

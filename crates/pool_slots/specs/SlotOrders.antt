@@ -1,9 +1,6 @@
 -- The decommits that a queue makes, in their order, and how they end under a plan.
 use Rattle.std.specs.Prelude.{◌≡◌, ℕ, ◌+◌, List, [], ◌∷◌, map, Bool}
-use Rattle.std.specs.List.{AllZip}
-use Rattle.pool_pages.specs.Told.{PageCall, decommitting}
-use Rattle.pool_images.specs.declared.ranges.ByteRange.{ByteRange}
-use Rattle.pool_images.specs.Orders.{Follows}
+use Rattle.pool_slots.specs.Imports.{AllZip, PageCall, decommitting, ByteRange, Follows}
 use Rattle.pool_slots.specs.declared.slot_name.SlotName.{SlotName}
 use Rattle.pool_slots.specs.declared.queued_range.QueuedRange.{QueuedRange}
 use Rattle.pool_slots.specs.SlotQueues.{Queued, front, is_of}
@@ -26,6 +23,6 @@ first_of (r ∷ rs) = r.range ∷ []
 abbrev pub FollowsAt : SlotName → List ByteRange → Bool → Queued → Queued → Type 0
 FollowsAt name ranges ok old new = old.name ≡ name → Follows (decommits old.slot.base.bytes ranges) ok old.slot.region new.slot.region
 
--- so it is of the slot with this name among those of a queue
+-- The decommits of the slot with this name were made in their order, and ended so.
 abbrev pub AreInOrder : SlotName → List ByteRange → Bool → List Queued → List Queued → Type 0
 AreInOrder name ranges ok old new = AllZip (FollowsAt name ranges ok) old new

@@ -1,15 +1,8 @@
 -- The decommit queue of slots of every kind: ranges of slots that are to be decommitted, and the slots that go back to their
 -- pools once that is done.
 use Rattle.std.specs.Prelude.{◌≡◌, ℕ, ◌+◌, ◌-◌, ◌^◌, ◌%◌, ◌≤◌, ◌==◌, ◌&&◌, ◌⊎◌, List, [], ◌∷◌, ◌++◌, length, map, filter, replicate, All, Bool, true, false, if◌then◌else◌, Option, None, Some, is_some, IfSome, not}
-use Rattle.std.specs.List.{list_any, AllByRecursion, AllZip}
-use Rattle.pool_hall.specs.declared.unit_name.SlotKind.{SlotKind}
+use Rattle.pool_slots.specs.Imports.{list_any, AllByRecursion, AllZip, SlotKind, count, IsIn, page_bytes, page_origin, Told, decommitting, overwritten, PageCalls, ByteRange, Slot, IsSlot, IsReady, IsClean, IsLeft, IsPart, CallFaulted, Holds, size_of, called, decommitted_all, forgotten_memory}
 use Rattle.pool_hall.specs.declared.unit_name.SlotKind.TheVariants as of_slot
-use Rattle.pool_pages.specs.Count.{count}
-use Rattle.pool_pages.specs.Contents.{IsIn, page_bytes, page_origin}
-use Rattle.pool_pages.specs.Told.{Told, decommitting, overwritten}
-use Rattle.pool_pages.specs.declared.pages.PageCalls.{PageCalls}
-use Rattle.pool_images.specs.declared.ranges.ByteRange.{ByteRange}
-use Rattle.pool_images.specs.Slots.{Slot, IsSlot, IsReady, IsClean, IsLeft, IsPart, CallFaulted, Holds, size_of, called, decommitted_all, forgotten as forgotten_memory}
 use Rattle.pool_slots.specs.Cells.{all_calls}
 use Rattle.pool_slots.specs.SlotNames.{slot_kind}
 use Rattle.pool_slots.specs.declared.queued_range.QueueKind.{QueueKind}
@@ -60,6 +53,7 @@ pub record Queue : Type 0 where
   pub takes : ℕ
   pub appended : ℕ
 
+-- A queue without ranges and slots that has room for so many of each.
 abbrev pub empty_queue : ℕ → ℕ → Queue
 empty_queue ranges slots = record { ranges = []; slots = []; range_room = ranges; slot_room = slots; takes = 0; appended = 0 }
 
@@ -67,7 +61,7 @@ empty_queue ranges slots = record { ranges = []; slots = []; range_room = ranges
 abbrev pub drained : Queue → Queue
 drained q = record q { ranges = []; slots = [] }
 
--- the names are one
+-- The two kinds are one.
 abbrev pub same_kind : SlotKind → SlotKind → Bool
 same_kind of_slot.Memory of_slot.Memory = true
 same_kind of_slot.Table of_slot.Table = true
@@ -75,6 +69,7 @@ same_kind of_slot.Stack of_slot.Stack = true
 same_kind of_slot.Heap of_slot.Heap = true
 same_kind _ _ = false
 
+-- The two names are of one slot: the same kind, and the same number.
 abbrev pub same_slot : SlotName → SlotName → Bool
 same_slot a b = same_kind a.kind b.kind && a.slot == b.slot
 
@@ -82,6 +77,7 @@ same_slot a b = same_kind a.kind b.kind && a.slot == b.slot
 abbrev pub owner : QueuedRange → SlotName
 owner r = record { kind = slot_kind r.kind; slot = r.slot.0 }
 
+-- The range is one of this slot.
 abbrev pub is_of : SlotName → QueuedRange → Bool
 is_of name r = same_slot (owner r) name
 
@@ -167,21 +163,23 @@ IsCovered ranges m = IfSome m.slot.region.contents (λ c.
 abbrev pub ForgetsNothing : Queue → Type 0
 ForgetsNothing q = AllByRecursion (λ m. m.known ≡ true → IsCovered q.ranges m) q.slots
 
--- the queue with one range more, and with one slot more
+-- The queue with one range more.
 abbrev pub with_range : QueuedRange → Queue → Queue
 with_range r q = record q { ranges = q.ranges ++ r ∷ [] }
 
+-- The queue with one slot more; it counts the slots that were added to it.
 abbrev pub with_slot : Queued → Queue → Queue
 with_slot m q = record q { slots = q.slots ++ m ∷ []; appended = (q.appended + 1) % 2 ^ 64 }
 
--- both queues' ranges and slots, in order
+-- The queue with the ranges and slots of another behind its own; it counts the slots that came in.
 abbrev pub after_append : Queue → Queue → Queue
 after_append q more = record q { ranges = q.ranges ++ more.ranges; slots = q.slots ++ more.slots; appended = (q.appended + length more.slots) % 2 ^ 64 }
 
--- the queue once it was taken, and the empty queue into which it was taken
+-- The queue once it was taken whole: empty, and the take is counted.
 abbrev pub after_take : Queue → Queue
 after_take q = record q { ranges = []; slots = []; takes = (q.takes + 1) % 2 ^ 64 }
 
+-- An empty queue once it took over another's ranges and slots; it keeps its own counts and room.
 abbrev pub taken_into : Queue → Queue → Queue
 taken_into spare q = record spare { ranges = q.ranges; slots = q.slots }
 
@@ -197,11 +195,12 @@ abbrev pub first_slot : List QueuedRange → SlotName
 first_slot [] = record { kind = of_slot.Memory; slot = 0 }
 first_slot (r ∷ rs) = owner r
 
--- the elements up to the first that fails the test, and those from there on
+-- The elements up to the first that fails a test.
 abbrev pub front : {X : Type 0} → (X → Bool) → List X → List X
 front test [] = []
 front test (x ∷ xs) = if test x then x ∷ front test xs else []
 
+-- The elements from the first on that fails a test.
 abbrev pub behind : {X : Type 0} → (X → Bool) → List X → List X
 behind test [] = []
 behind test (x ∷ xs) = if test x then behind test xs else x ∷ xs
@@ -226,6 +225,7 @@ abbrev pub forgotten_slot : SlotKind → Slot → Slot
 forgotten_slot of_slot.Memory s = forgotten_memory s
 forgotten_slot _ s = s
 
+-- A queued slot of which nothing is known any more.
 abbrev pub forgotten : Queued → Queued
 forgotten m = record m { slot = forgotten_slot m.name.kind m.slot; known = false }
 
@@ -250,10 +250,11 @@ pub record IsFaulted (old new : Queue) : Type 0 where
   pub takes : new.takes ≡ old.takes
   pub appended : new.appended ≡ old.appended
 
--- a slot, and all slots, once their ranges are decommitted
+-- A queued slot once its own ranges are decommitted.
 abbrev pub settle : List QueuedRange → Queued → Queued
 settle ranges m = record m { slot = decommitted_all (ranges_of m.name ranges) m.slot }
 
+-- The slots of a queue once all its ranges are decommitted.
 abbrev pub settled : Queue → List Queued
 settled q = map (settle q.ranges) q.slots
 
@@ -261,11 +262,6 @@ settled q = map (settle q.ranges) q.slots
 pub record IsSettled (m : Queued) : Type 0 where
   pub clean : m.known ≡ true → IsClean m.slot
   pub bytes : m.bytes ≤ 2 ^ 32
-
--- the slots differ, and each can go back to its pool
-pub record AreSettled (items : List Queued) : Type 0 where
-  pub distinct : AreDistinct items
-  pub each : AllByRecursion IsSettled items
 
 -- the slot once a range of it was decommitted, and after a fault in that
 abbrev pub decommitted_at : ByteRange → Slot → Slot
@@ -278,6 +274,7 @@ pub record IsLeftSlot (r : ByteRange) (old new : Slot) : Type 0 where
   pub fits : IsSlot new
   pub zeroed : (n : ℕ) → CanBeZeroed n old → CanBeZeroed n new
 
+-- A queued slot after the decommit of a range of it failed: all but the slot itself stays.
 pub record IsLeftItem (r : ByteRange) (old new : Queued) : Type 0 where
   pub same : new ≡ record old { slot = new.slot }
   pub slot : IsLeftSlot r old.slot new.slot
@@ -290,11 +287,12 @@ with_ranges kind slot ranges q = record q { ranges = q.ranges ++ map (λ r. reco
 abbrev pub calls_held : List Queued → PageCalls
 calls_held slots = all_calls (map (λ m. m.slot.region.calls) slots)
 
--- the first slot of a kind, and the others
+-- The first queued slot of a kind.
 abbrev pub first_of_kind : SlotKind → List Queued → Option Queued
 first_of_kind kind [] = None
 first_of_kind kind (m ∷ ms) = if same_kind kind m.name.kind then Some m else first_of_kind kind ms
 
+-- The queued slots without the first one of a kind.
 abbrev pub others_of_kind : SlotKind → List Queued → List Queued
 others_of_kind kind [] = []
 others_of_kind kind (m ∷ ms) = if same_kind kind m.name.kind then ms else m ∷ others_of_kind kind ms
@@ -303,11 +301,12 @@ others_of_kind kind (m ∷ ms) = if same_kind kind m.name.kind then ms else m �
 abbrev pub is_to_zero : SlotKind → Queued → Bool
 is_to_zero kind m = same_kind kind m.name.kind && (is_some m.by_hand && not m.known)
 
--- it is zeroed, and clean then
+-- A queued slot once so many of its bytes are zeroed by hand: it is known and clean then.
 abbrev pub zeroed_by : Option ℕ → Queued → Queued
 zeroed_by None m = m
 zeroed_by (Some n) m = record m { slot = zeroed_slot n m.slot; known = true }
 
+-- A queued slot once it was zeroed by hand, if it is one that may be: it is known and clean.
 abbrev pub zeroed : Queued → Queued
 zeroed m = zeroed_by m.by_hand m
 

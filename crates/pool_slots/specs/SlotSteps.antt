@@ -14,5 +14,6 @@ abbrev pub after_first_of : List QueuedRange → Queue → Queue
 after_first_of [] q = q
 after_first_of (r ∷ rs) q = record q { ranges = rs; slots = map (change_at (owner r) (decommitted_at r.range)) q.slots }
 
+-- The queue once its first range was decommitted.
 abbrev pub after_first : Queue → Queue
 after_first q = after_first_of q.ranges q

@@ -1,11 +1,8 @@
 -- The plan of a pool whose memories lie in stripes: each stripe has an allocator of its memory slots, and tables, stacks and
 -- heaps have one allocator each. The slots of each allocator are divided among about as many shards as are asked for.
 use Rattle.std.specs.Prelude.{◌≡◌, ℕ, zero, suc, ◌+◌, ◌-◌, ◌/◌, ◌%◌, ◌<◌, List, map}
-use Rattle.std.specs.Int.{div_ceil}
-use Rattle.std.specs.List.{range_with_len}
-use Rattle.pool_hall.specs.declared.unit_name.SlotKind.{SlotKind}
-use Rattle.pool_hall.specs.declared.unit_name.SlotKind.TheVariants.{Memory, Table, Stack, Heap}
-use Rattle.pool_index.specs.Layout.{slots_per_shard, shard_count}
+use Rattle.pool_slots.specs.Imports.{div_ceil, range_with_len, SlotKind, Heap, slots_per_shard, shard_count}
+use Rattle.pool_hall.specs.declared.unit_name.SlotKind.TheVariants.{Memory, Table, Stack}
 use Rattle.pool_slots.specs.SlotNames.{of_kind}
 use Rattle.pool_slots.specs.Slabs.{stripe_of, local_of}
 use Rattle.pool_slots.specs.Plans.{allocators_of, have_number, home_of, queue_tried}
@@ -21,14 +18,15 @@ use Rattle.pool_slots.specs.declared.striped_plan.StripedPlanSettings.{StripedPl
 abbrev pub shards_for : ℕ → ℕ → ℕ
 shards_for capacity requested = shard_count capacity (slots_per_shard capacity requested)
 
--- how many memory slots a stripe has, which are dealt out in turn; of how many each of its shards but the last is, and how
--- many shards those are
+-- How many memory slots a stripe has: they are dealt out to the stripes in turn.
 abbrev pub stripe_slots : StripedPlanSettings → ℕ → ℕ
 stripe_slots z s = div_ceil (z.totals.memory - s) z.num_stripes
 
+-- How many slots each shard of a stripe has, but the last.
 abbrev pub stripe_each : StripedPlanSettings → ℕ → ℕ
 stripe_each z s = slots_per_shard (stripe_slots z s) z.requested_shards
 
+-- How many shards a stripe has.
 abbrev pub stripe_shards : StripedPlanSettings → ℕ → ℕ
 stripe_shards z s = shards_for (stripe_slots z s) z.requested_shards
 
@@ -50,6 +48,7 @@ stripe_allocator z s = record {
   capacity = stripe_slots z s;
 }
 
+-- The allocators of all stripes, in order.
 abbrev pub stripe_allocators : StripedPlanSettings → List Allocator
 stripe_allocators z = map (stripe_allocator z) (range_with_len 0 z.num_stripes)
 
@@ -77,19 +76,22 @@ divided z = record {
 abbrev pub IsStripedPlanOf : StripedPlanSettings → Plan → Type 0
 IsStripedPlanOf z plan = IsPlanWith (divided z) (stripe_allocators z) plan
 
--- A memory slot is at home in its stripe, by its number there. Slots of other kinds follow one another through the shards.
+-- Where a memory slot is at home: in its stripe, by its number there.
 abbrev pub stripe_home : StripedPlanSettings → ℕ → Home
 stripe_home z n = record {
   place = shards_before z (stripe_of n z.num_stripes) + local_of n z.num_stripes / stripe_each z (stripe_of n z.num_stripes);
   local = record { 0 = local_of n z.num_stripes % stripe_each z (stripe_of n z.num_stripes) };
 }
 
+-- Where a slot is at home: a memory in a shard of its stripe, a slot of another kind in the shards of its kind.
 abbrev pub home_striped : StripedPlanSettings → SlotKind → ℕ → Home
 home_striped z Memory n = stripe_home z n
 home_striped z Table n = home_planned (divided z) (record { kind = Table; slot = n })
 home_striped z Stack n = home_planned (divided z) (record { kind = Stack; slot = n })
 home_striped z Heap n = home_planned (divided z) (record { kind = Heap; slot = n })
 
+-- Each slot belongs to one allocator and is at home there in order; parties' queues are tried from their own on, in a
+-- circle.
 pub record FollowInStripes (z : StripedPlanSettings) (plan : Plan) : Type 0 where
   pub one : (name : SlotName) → name.slot < of_kind name.kind z.totals → have_number (allocators_of plan name.kind) name.slot ≡ 1
   pub homes : (name : SlotName) → name.slot < of_kind name.kind z.totals → home_of plan name ≡ home_striped z name.kind name.slot

@@ -1,7 +1,6 @@
 -- Sizes of tables in their slots.
 use Rattle.std.specs.Prelude.{ℕ, ◌*◌, ◌/◌, min}
-use Rattle.pool_pages.specs.declared.table_type.TableElementType.{TableElementType}
-use Rattle.pool_table.specs.Elements.{element_size}
+use Rattle.pool_slots.specs.Imports.{TableElementType, element_size}
 
 -- as many elements as each table may have, or as fit in the slot where those are fewer
 abbrev pub data_size : ℕ → ℕ → TableElementType → ℕ

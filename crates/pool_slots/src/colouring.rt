@@ -1,14 +1,13 @@
 ghost use Rattle.std.specs.Prelude.{◌≡◌, ◌<◌, false, not, is_ok, IfOk, IfSome, OnOk, OnErr, MatchResult};
-ghost use Rattle.pool_pages.specs.Count.{count};
+ghost use Rattle.pool_types.specs.Count.{count};
 ghost use Rattle.pool_pages.specs.MakerTold.{fails_making, made_region};
 ghost use Rattle.pool_images.specs.Slots.{coloured};
 ghost use Rattle.pool_slots.specs.Makings.{IsListedPoolFault};
 ghost use Rattle.pool_slots.specs.Colourings.{ColouredRegionsAreFresh, stripe_colour, fails_colouring, fails_region, FaultedColouring, IsUncoloured, RaisesUnlessGivenUp, RaisesBehindUnlessGivenUp};
 
 use crate::errors::PoolNewError;
-use pool_pages::{
-    DecommitBehavior, HostAlignedByteCount, MakeFault, PageFault, PageMaker, Pages, RegionName,
-};
+use pool_pages::{MakeFault, PageFault, PageMaker, Pages, RegionName};
+use pool_types::{DecommitBehavior, HostAlignedByteCount};
 use std::alloc::Global;
 
 /// The colour of the pages of a memory slot, where there are two stripes or more: key `i + 1` is that of stripe `i`.

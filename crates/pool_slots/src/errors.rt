@@ -2,7 +2,7 @@ ghost use Rattle.std.specs.Prelude.{Some};
 ghost use Rattle.pool_slots.specs.Texts.{kind_text, limit_text};
 
 use pool_limits::LimiterError;
-use pool_pages::{BadConfig, Unsupported};
+use pool_types::{BadConfig, Unsupported};
 use std::error::Error;
 use std::fmt;
 

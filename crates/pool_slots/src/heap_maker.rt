@@ -1,5 +1,5 @@
 ghost use Rattle.std.specs.Prelude.{◌≡◌, Bool, false, true, IfErr, IfOk, IfSome, IsSome, MatchResult};
-ghost use Rattle.pool_pages.specs.Told.{risen};
+ghost use Rattle.pool_types.specs.Rising.{risen};
 ghost use Rattle.pool_slots.specs.HeapsTold.{HeapsTold, RaisesHeapFaults, fails_next};
 
 use std::alloc::Global;

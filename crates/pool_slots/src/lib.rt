@@ -1,34 +1,64 @@
-//! The cells of memory slots, the queue of slots on their way back, makers of heaps, and why a pool refuses.
+//! What a pool is made of: the plan of its parts, cells with regions, decommit queues, stacks and heaps.
+//!
+//! Read `Plan` first: it says at which place each shard, cell and queue stands, and never changes. A `PoolPart` is one
+//! of them, and `make_parts` makes all with their regions. A `RegionCell` holds the region of a free slot
+//! (`ImageSlot`). A `DecommitQueue` holds slots on their way back, with the ranges that are to be decommitted. `Stack`
+//! is a fiber's stack, and `HeapList` has the heaps that a `HeapMaker` made. `AllocError` and `PoolNewError` say why a
+//! pool refuses.
+//!
+//! From Wasmtime, under `vm/instance/allocator/pooling/`: `decommit_queue.rs`, the pools of memories, tables, stacks
+//! and heaps as data, and the errors of `pooling.rs`. It knows no callers: who asks, and when, is `pool_alloc`.
+//!
+//! ```rust
+//! let home = plan.home_of(SlotName { kind: SlotKind::Memory, slot: 3 });
+//! ```
 #![tactic(auto)]
 
+// Numbers and names of slots
 mod allocation_index;
-mod cells;
-mod colouring;
-mod decommit_queue;
-mod errors;
-mod flush;
-mod heap_list;
-mod heap_maker;
-mod listed_heaps;
-mod part;
-mod part_maker;
-mod plain_slot;
+mod slot_name;
+mod striping;
+mod unit_laws;
+
+// The plan: which part stands where
 mod plan;
 mod plan_maker;
+mod striped_plan;
+
+// The parts, and how they are made
+mod colouring;
+mod part;
+mod part_maker;
+mod slot_regions;
+
+// How memory slots are laid out in one slab
+mod slab;
+
+// Cells
+mod cells;
+mod region_cell;
+
+// The decommit queue
+mod decommit_queue;
+mod flush;
 mod queued_range;
 mod queued_slot;
 mod range_items;
-mod region_cell;
-mod slab;
 mod slot_items;
-mod slot_name;
-mod slot_regions;
 mod slot_return;
+
+// Tables and stacks in a slot
+mod plain_slot;
 mod stack;
-mod striped_plan;
-mod striping;
 mod table_sizes;
-mod unit_laws;
+
+// Heaps
+mod heap_list;
+mod heap_maker;
+mod listed_heaps;
+
+// Why a pool refuses
+mod errors;
 
 pub use allocation_index::{GcHeapAllocationIndex, MemoryAllocationIndex, TableAllocationIndex};
 pub use cells::ImageSlot;

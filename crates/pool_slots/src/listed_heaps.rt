@@ -3,7 +3,7 @@ ghost use Rattle.std.specs.List.{list_any};
 ghost use Rattle.pool_slots.specs.HeapsTold.{listed_heaps};
 
 use crate::heap_maker::{GcHeap, HeapMakeFault, HeapMaker};
-use pool_pages::PlainList;
+use pool_types::PlainList;
 use std::alloc::Global;
 
 /// A heap in name alone, which no store uses.

@@ -20,7 +20,8 @@ use crate::plan::{Allocator, Plan, allocator_at};
 use crate::slot_regions::{cell_part, make_slot_region};
 use crate::striped_plan::StripedPlanSettings;
 use pool_index::{Shard, SlotKind};
-use pool_pages::{DecommitBehavior, HostAlignedByteCount, PageMaker, Pages};
+use pool_pages::{PageMaker, Pages};
+use pool_types::{DecommitBehavior, HostAlignedByteCount};
 use std::alloc::Global;
 
 /// What the parts of a pool are made with.

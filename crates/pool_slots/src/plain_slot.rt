@@ -4,7 +4,8 @@ ghost use Rattle.pool_slots.specs.PlainSlots.{IsPlain, IsUnusedFrom, plain_writt
 ghost use Rattle.pool_slots.specs.SlotQueues.{plain_slot};
 
 use pool_images::{ByteRange, Ranges};
-use pool_pages::{HostAlignedByteCount, PageCalls, PageRegion, Pages};
+use pool_pages::{PageCalls, PageRegion, Pages};
+use pool_types::HostAlignedByteCount;
 use std::marker::Model;
 
 /// The region of a table or a stack from a byte on, seen as a slot without image, all of which can be reached.

@@ -1,11 +1,11 @@
-ghost use Rattle.std.specs.Prelude.{◌≡◌, ◌+◌, ◌<◌, ◌≤◌, ◌^◌, true, length, slice_index_or, if◌then◌else◌};
+ghost use Rattle.std.specs.Prelude.{◌≡◌, ◌+◌, ◌<◌, ◌≤◌, ◌^◌, true, length, slice_index_or};
 ghost use Rattle.std.specs.List.{AllByRecursion};
 ghost use Rattle.pool_slots.specs.SlotNames.{of_kind};
 ghost use Rattle.pool_slots.specs.Plans.{home_in, home_of, home_among, has_number, have_number, allocators_of, cell_place, shard_tried, queue_tried, queues_for, IsPlacedAllocator, SlotsAreAtHome};
 
 use crate::slot_name::{OfKinds, SlotName};
 use pool_index::{SlotId, SlotKind};
-use pool_pages::PlainList;
+use pool_types::PlainList;
 
 /// An allocator of slots of one kind: its shards are parts in a row, and its slots numbers in steps.
 #[derive(Clone, Copy, Debug, PartialEq, Eq)]
@@ -31,7 +31,7 @@ pub struct Home {
 /// Where the parts of a pool are. It never changes.
 #[derive(Drop)]
 pub struct Plan {
-    /// One allocator for each stripe, or for each party that has parts of its own.
+    /// One allocator for each stripe.
     pub memories: PlainList<Allocator>,
     pub tables: PlainList<Allocator>,
     pub stacks: PlainList<Allocator>,
@@ -44,8 +44,6 @@ pub struct Plan {
     pub queues: u32,
     /// The place of the list of heaps, where there are heaps.
     pub heap_list: u32,
-    /// Whether each party has allocators, a queue and counters of its own.
-    pub owned: bool,
 }
 
 impl Allocator {
@@ -99,12 +97,8 @@ impl Plan {
     pub fn queue_tried(&self, home: u32, tried: u32) -> u32
         requires some { 0 < self.now.queues }
         requires placed { self.now.first_queue + self.now.queues ≤ 2 ^ 32 }
-        requires own { self.now.owned ≡ true → home < self.now.queues }
         ensures { result ≡ queue_tried self.now home tried }
     {
-        if self.owned {
-            return self.first_queue + home;
-        }
         let after = (home as u64 + tried as u64) % self.queues as u64;
         self.first_queue + after as u32
     }
@@ -115,14 +109,8 @@ impl Plan {
     {
         match kind {
             SlotKind::Heap => 0,
-            SlotKind::Memory | SlotKind::Table | SlotKind::Stack => self.queues_gone_through(),
+            SlotKind::Memory | SlotKind::Table | SlotKind::Stack => self.queues,
         }
-    }
-
-    fn queues_gone_through(&self) -> u32
-        ensures { result ≡ (if self.now.owned then 1 else self.now.queues) }
-    {
-        if self.owned { 1 } else { self.queues }
     }
 
     /// Where a slot is at home.

@@ -4,7 +4,7 @@ ghost use Rattle.pool_slots.specs.PlansMade.{shards_from, shards_planned, cells_
 use crate::plan::{Allocator, Plan};
 use crate::slot_name::OfKinds;
 use pool_index::SlotKind;
-use pool_pages::PlainList;
+use pool_types::PlainList;
 use std::alloc::{AllocError, Global};
 
 /// How many slots of each kind a pool has, and how they are divided among shards, where each kind has one allocator.
@@ -39,7 +39,6 @@ pub(crate) fn lay_out(
         first_queue: cells.heap,
         queues: settings.queues,
         heap_list: cells.heap + settings.queues,
-        owned: false,
     })
 }
 

@@ -10,7 +10,8 @@ ghost use Rattle.pool_slots.specs.HeldSlots.{held_slot, held_kind, by_hand_of};
 use crate::slot_name::{RegionNumbers, SlotName, same_kind};
 use pool_images::{ByteRange, MemoryImageSlot};
 use pool_index::SlotKind;
-use pool_pages::{HostAlignedByteCount, PageCalls, PageFault, PageRegion, Pages};
+use pool_pages::{PageCalls, PageFault, PageRegion, Pages};
+use pool_types::HostAlignedByteCount;
 use std::marker::Model;
 
 /// What a queue holds of a slot.

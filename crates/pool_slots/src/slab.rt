@@ -1,10 +1,10 @@
 ghost use Rattle.std.specs.Prelude.{◌≡◌, ◌+◌, ◌*◌, ◌%◌, ◌<◌, ◌≤◌, max, is_ok, is_some, IfSome, IfOk, IfErr};
-ghost use Rattle.pool_pages.specs.Count.{count, IsPageSize, rounded_up};
-ghost use Rattle.pool_pages.specs.SettingsRules.{is_address};
-ghost use Rattle.pool_pages.specs.declared.bad_config.BadConfig.TheVariants.{SlabArithmetic};
+ghost use Rattle.pool_types.specs.Count.{count, IsPageSize, rounded_up};
+ghost use Rattle.pool_types.specs.SettingsRules.{is_address};
+ghost use Rattle.pool_types.specs.declared.bad_config.BadConfig.TheVariants.{SlabArithmetic};
 ghost use Rattle.pool_slots.specs.Slabs.{HasOnePage, IsLayout, SlotsLieApart, SettingsSpeakOfLayouts, faulting_region, guard_before, has_room, is_striped, layout_of, slot_offset, slot_size, stripe_count, stripe_distance, total_bytes};
 
-use pool_pages::{BadConfig, HostAlignedByteCount};
+use pool_types::{BadConfig, HostAlignedByteCount};
 
 /// What the memory slots of a pool are laid out by: Wasmtime's `SlabConstraints`. All sizes are counted in one page.
 #[derive(Clone, Copy, Debug, PartialEq, Eq)]

@@ -13,10 +13,8 @@ use crate::part_maker::PartSettings;
 use crate::queued_range::QueueKind;
 use crate::region_cell::RegionCell;
 use crate::slot_name::{OfKinds, SlotName};
-use pool_pages::{
-    DecommitBehavior, HostAlignedByteCount, MakeFault, PageFault, PageMaker, PageSize, Pages,
-    RegionName,
-};
+use pool_pages::{MakeFault, PageFault, PageMaker, Pages, RegionName};
+use pool_types::{DecommitBehavior, HostAlignedByteCount, PageSize};
 use std::alloc::Global;
 
 impl OfKinds {

@@ -8,7 +8,8 @@ use crate::plain_slot::PlainSlot;
 use crate::queued_slot::{HeldSlot, QueuedSlot};
 use crate::slot_name::RegionNumbers;
 use pool_images::Ranges;
-use pool_pages::{HostAlignedByteCount, PageCalls, Pages};
+use pool_pages::{PageCalls, Pages};
+use pool_types::HostAlignedByteCount;
 use std::marker::Model;
 
 /// A fiber's stack: the usable bytes of its region, which lie behind the guard page.

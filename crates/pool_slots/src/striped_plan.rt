@@ -12,7 +12,7 @@ use crate::plan::{Allocator, Plan};
 use crate::plan_maker::{PlanSettings, lay_out};
 use crate::slot_name::OfKinds;
 use pool_index::{ShardLayout, SlotKind};
-use pool_pages::PlainList;
+use pool_types::PlainList;
 use std::alloc::{AllocError, Global};
 
 /// How many slots of each kind a pool has, and in how many stripes its memories lie.

@@ -1,8 +1,8 @@
 ghost use Rattle.std.specs.Prelude.{◌≡◌};
 ghost use Rattle.pool_slots.specs.TableSizes.{data_size};
 
-use pool_pages::TableElementType;
 use pool_table::ElementSize;
+use pool_types::TableElementType;
 
 /// How many bytes of a slot of `table_size` bytes a table with elements of this type has, in a pool of which each table may have
 /// `table_elements` elements (Wasmtime's `table_pool.rs`).

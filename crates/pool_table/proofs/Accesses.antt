@@ -1,10 +1,6 @@
 -- What is read and written of a table's words.
-use Rattle.std.proofs.Common.{◌≡◌, ℕ, ◌+◌, ◌*◌, ◌<◌, ◌≤◌, List, ◌++◌, length, take, slice_range, Option, Some, None, refl, sym, ap, ◌∙◌, subst, arith}
-use Rattle.std.specs.Prelude.{IfSome, option_map, slice_get}
-use Rattle.std.proofs.Math.Nat.{mul-le-mul_right}
-use Rattle.std.proofs.lemmas.List.{length-append, length-take, get_or-take, get_or_append_left, same_lists}
-use Rattle.pool_pages.specs.Contents.{Contents, put_all, written}
-use Rattle.pool_pages.specs.Told.{Told}
+use Rattle.std.proofs.Common.{◌≡◌, ℕ, ◌+◌, ◌*◌, ◌<◌, ◌≤◌, List, ◌++◌, length, take, slice_range, Option, Some, None, refl, sym, ap, ◌∙◌, subst, arith, IfSome, option_map, slice_get}
+use Rattle.pool_table.proofs.Imports.{mul-le-mul_right, length-append, length-take, get_or-take, get_or_append_left, same_lists, Contents, put_all, written, Told}
 use Rattle.pool_table.specs.Elements.{ElementKind, functions, gc_refs, continuations, Element, width, word, element_of, IsElement, ReadsBack}
 use Rattle.pool_table.specs.Tables.{TableState, IsTable, IsRoom, Rewrites, Fills, elements, elements_in}
 use Rattle.pool_table.proofs.Copies.{copies, length-copies}

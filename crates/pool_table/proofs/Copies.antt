@@ -1,10 +1,6 @@
 -- A word so many times, one behind the other.
 use Rattle.std.proofs.Common.{◌≡◌, ℕ, zero, suc, ◌+◌, ◌-◌, ◌*◌, ◌<◌, ◌≤◌, List, ◌++◌, length, get_or, replicate, slice_range, sym, ap, ◌∙◌, arith}
-use Rattle.std.specs.List.{concat}
-use Rattle.std.proofs.Math.Nat.{mul-le-mul_right}
-use Rattle.std.proofs.lemmas.List.{length-append, append-nil, replicate-append-replicate, get_or_append_left, get_or-append_right, same_lists}
-use Rattle.std.proofs.lemmas.List.Folds.{concat-append}
-use Rattle.pool_pages.proofs.Puts.{length-range, get_or-range}
+use Rattle.pool_table.proofs.Imports.{concat, mul-le-mul_right, length-append, append-nil, replicate-append-replicate, get_or_append_left, get_or-append_right, same_lists, concat-append, length-range, get_or-range}
 
 abbrev pub copies : ℕ → List ℕ → List ℕ
 copies n word = concat (replicate n word)

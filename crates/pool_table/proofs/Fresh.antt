@@ -1,10 +1,6 @@
 -- A region as it is made has room for a table.
 use Rattle.std.proofs.Common.{◌≡◌, ℕ, ◌+◌, ◌-◌, ◌*◌, ◌/◌, ◌≤◌, Bool, true, false, List, length, replicate, refl, ◌∙◌, arith}
-use Rattle.std.proofs.lemmas.List.{length-replicate, get_or-replicate, get_or_append_left}
-use Rattle.std.proofs.Math.Nat.{div-mul-le_self}
-use Rattle.std.proofs.lemmas.Nat.{le-div}
-use Rattle.pool_pages.proofs.Multiples.{page_below}
-use Rattle.pool_pages.proofs.DenseCalls.{fresh_shaped}
+use Rattle.pool_table.proofs.Imports.{length-replicate, get_or-replicate, get_or_append_left, div-mul-le_self, le-div, page_below, fresh_shaped}
 use Rattle.pool_table.specs.Making.{MadeRegionsHaveRoom}
 use Rattle.pool_table.proofs.Zeros.{zeros_from}
 

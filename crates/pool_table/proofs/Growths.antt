@@ -1,25 +1,13 @@
 -- Each way that a growth of a table can go.
-use Rattle.std.proofs.Common.{◌≡◌, ◌≢◌, ℕ, ◌+◌, ◌-◌, ◌*◌, ◌^◌, ◌<◌, ◌≤◌, ◌==◌, ◌++◌, nat_lt, Bool, true, false, List, replicate, refl, sym, ap, ◌∙◌, subst, arith, inl, inr, Option, Some, None, Result, Ok, Err}
-use Rattle.std.specs.Prelude.{IfSome, option_map}
-use Rattle.std.proofs.Math.Nat.{mul-le-mul_right}
-use Rattle.std.proofs.lemmas.Bool.{eq-eqb, lt-ltb}
-use Rattle.std.proofs.lemmas.Bool.Decides.{nat_tests}
-use Rattle.pool_pages.specs.Contents.{Contents}
-use Rattle.pool_limits.specs.Growth.{table_answer, table_failure}
-use Rattle.pool_limits.specs.LimiterTold.{LimiterTold, after_answer, after_report}
-use Rattle.pool_limits.specs.Exchanges.{GrowthQuestion, Exchange, may_grow, has_failed, Exchanged}
-use Rattle.pool_limits.specs.Growing.{Obstacles, GrowthGiven, growth_exchanges, IsRuled, IsAllowed, GrowthMakes, report_result, report_seen}
+use Rattle.std.proofs.Common.{◌≡◌, ◌≢◌, ℕ, ◌+◌, ◌-◌, ◌*◌, ◌^◌, ◌<◌, ◌≤◌, ◌==◌, ◌++◌, nat_lt, Bool, true, false, List, replicate, refl, sym, ap, ◌∙◌, subst, arith, inl, inr, Option, Some, None, Result, Ok, Err, IfSome, option_map}
+use Rattle.pool_table.proofs.Imports.{mul-le-mul_right, eq-eqb, lt-ltb, nat_tests, zeros_within, Contents, table_answer, table_failure, LimiterTold, after_answer, after_report, GrowthQuestion, Exchange, may_grow, has_failed, Exchanged, Obstacles, GrowthGiven, growth_exchanges, IsRuled, IsAllowed, GrowthMakes, report_result, report_seen, LimiterError, TypeLimit, GrowFault, unasked, ruled_nothing, ruled_past_type, ruled_error, ruled_no, ruled_yes}
 use Rattle.pool_limits.specs.declared.growing.Growable.TheVariants.{Table}
-use Rattle.pool_limits.specs.declared.errors.LimiterError.{LimiterError}
-use Rattle.pool_limits.specs.declared.errors.GrowError.TheVariants.{TypeLimit}
-use Rattle.pool_limits.specs.declared.errors.GrowFault.{GrowFault}
 use Rattle.pool_limits.specs.declared.errors.GrowFault.TheVariants as fault
-use Rattle.pool_limits.proofs.Ruled.{unasked, ruled_nothing, ruled_past_type, ruled_error, ruled_no, ruled_yes}
 use Rattle.pool_table.specs.Elements.{ElementKind, Element, width, empty}
 use Rattle.pool_table.specs.Tables.{TableState, IsTable, IsRoom, GrowsBy, elements, elements_in}
 use Rattle.pool_table.specs.Views.{TableView, GrowsTable}
 use Rattle.pool_table.specs.Growing.{table_question, table_obstacles, TableGrowsAsking, IsAllowedTableGrowth, TableGrows, AllowedTableGrows}
-use Rattle.pool_table.proofs.Listed.{elements_grown, zeros_within}
+use Rattle.pool_table.proofs.Listed.{elements_grown}
 use Rattle.pool_table.proofs.Words.{zero_is_empty}
 
 -- over a limiter

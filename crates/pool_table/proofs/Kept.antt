@@ -1,14 +1,6 @@
 -- What stays of a table's region as bytes of it are written.
-use Rattle.std.proofs.Common.{◌≡◌, ℕ, ◌+◌, ◌-◌, ◌*◌, ◌/◌, ◌%◌, ◌<◌, ◌≤◌, Bool, true, List, [], ◌++◌, length, take, drop, get_or, replicate, slice_range, Option, Some, None, refl, sym, ap, ◌∙◌, subst, arith, inl, inr}
-use Rattle.std.specs.Prelude.{IfSome, option_map}
-use Rattle.std.proofs.Math.Nat.{mul-le-mul_left, mul-le-mul_right, div-mul-le_self, lt-mul-div-succ}
-use Rattle.std.proofs.lemmas.Bool.{cases_lt, cases_eq}
-use Rattle.std.proofs.lemmas.List.{length-append, length-replicate, get_or-replicate, same_lists, take-append-drop}
-use Rattle.std.proofs.lemmas.Nat.{le-div}
-use Rattle.pool_pages.specs.Contents.{Contents, IsShaped, CanReach, put, put_all, touched, written}
-use Rattle.pool_pages.specs.Told.{Told, TellsShaped, overwritten}
-use Rattle.pool_pages.proofs.PageNumbers.{touched_some, touched_fit}
-use Rattle.pool_pages.proofs.Puts.{length-put, get_or-put_below, get_or-put_in, get_or-put_above, put-put, range-put_above}
+use Rattle.std.proofs.Common.{◌≡◌, ℕ, ◌+◌, ◌-◌, ◌*◌, ◌/◌, ◌%◌, ◌<◌, ◌≤◌, Bool, true, List, [], ◌++◌, length, take, drop, get_or, replicate, slice_range, Option, Some, None, refl, sym, ap, ◌∙◌, subst, arith, inl, inr, IfSome, option_map}
+use Rattle.pool_table.proofs.Imports.{mul-le-mul_left, mul-le-mul_right, div-mul-le_self, lt-mul-div-succ, cases_lt, cases_eq, length-append, length-replicate, get_or-replicate, same_lists, take-append-drop, le-div, Contents, IsShaped, CanReach, put, put_all, touched, written, Told, TellsShaped, overwritten, touched_some, touched_fit, length-put, get_or-put_below, get_or-put_in, get_or-put_above, put-put, range-put_above}
 use Rattle.pool_table.specs.Elements.{width}
 use Rattle.pool_table.specs.Tables.{TableState, Rewrites, IsRoom, IsTable}
 

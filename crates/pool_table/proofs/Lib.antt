@@ -2,11 +2,11 @@ pub mod Accesses
 pub mod Copies
 pub mod Fresh
 pub mod Growths
+mod Imports
 pub mod Kept
 pub mod Listed
 pub mod Made
 pub mod Mapped
 pub mod Stored
-pub mod Views
 pub mod Words
 pub mod Zeros

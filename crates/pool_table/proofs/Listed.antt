@@ -1,14 +1,6 @@
 -- The elements that a table's bytes are: each of them, and what writing bytes makes of them.
-use Rattle.std.proofs.Common.{◌≡◌, ℕ, ◌+◌, ◌-◌, ◌*◌, ◌<◌, ◌≤◌, List, ◌++◌, length, get_or, replicate, slice_range, Some, sym, ap, ◌∙◌, subst, arith, inl, inr}
-use Rattle.std.specs.Prelude.{slice_get}
-use Rattle.std.proofs.Math.Nat.{mul-le-mul_right}
-use Rattle.std.proofs.lemmas.List.{length-append, length-replicate, get_or-replicate, get_or_append_left, get_or-append_right, same_lists}
-use Rattle.std.proofs.lemmas.List.FromFn.{length-map-range_with_len, get_or-map-range_with_len}
-use Rattle.std.proofs.lemmas.Option.{slice_get-get_or}
-use Rattle.std.proofs.lemmas.Bool.{cases_lt}
-use Rattle.pool_pages.specs.Contents.{put, put_all}
-use Rattle.pool_pages.proofs.Puts.{length-range, get_or-range, range-put_below, range-put_above, range-put_in}
-use Rattle.pool_pages.proofs.Shapes.{length-put_all, get_or-put_all_in, get_or-put_all_out}
+use Rattle.std.proofs.Common.{◌≡◌, ℕ, ◌+◌, ◌-◌, ◌*◌, ◌<◌, ◌≤◌, List, ◌++◌, length, get_or, replicate, slice_range, Some, sym, ap, ◌∙◌, subst, arith, inl, inr, slice_get}
+use Rattle.pool_table.proofs.Imports.{mul-le-mul_right, length-append, length-replicate, get_or-replicate, get_or_append_left, get_or-append_right, same_lists, length-map-range_with_len, get_or-map-range_with_len, slice_get-get_or, cases_lt, zeros_within, put, put_all, range-put_below, range-put_above, range-put_in, length-put_all, get_or-put_all_in, get_or-put_all_out}
 use Rattle.pool_table.specs.Elements.{ElementKind, Element, uninitialised, width, element_of, empty, ZeroIsEmpty}
 use Rattle.pool_table.specs.Tables.{elements_in}
 use Rattle.pool_table.proofs.Copies.{copies, scaled, length-copies, copy_at}
@@ -75,21 +67,6 @@ module _ (kind : ElementKind) where
                   ∙ sym (get_or-put_all_out first count e es k d (omega (arith, size, inside)) (inr above) ∙ get_or-elements n bytes k d below)
             ]
       ])
-
--- a part of a range of zeros
-pub zeros_within : (xs : List ℕ) (a b i j : ℕ) → b ≤ length xs → a ≤ i → i ≤ j → j ≤ b → slice_range xs a b ≡ replicate (b - a) 0 → slice_range xs i j ≡ replicate (j - i) 0
-zeros_within xs a b i j fits from order to zeros =
-    let short : length (slice_range xs i j) ≡ j - i = length-range xs i j (omega arith) in
-    same_lists (slice_range xs i j) (replicate (j - i) 0) (short ∙ sym (length-replicate {A = ℕ} (j - i) 0))
-    (λ k d below.
-    let here : k < j - i = omega (arith, short) in
-    let place : a + (i - a + k) ≡ i + k = omega arith in
-    get_or-range xs i j k d here
-    ∙ ap (λ (m : ℕ). get_or xs m d) (sym place)
-    ∙ sym (get_or-range xs a b (i - a + k) d (omega (arith, here)))
-    ∙ ap (λ (ys : List ℕ). get_or ys (i - a + k) d) zeros
-    ∙ get_or-replicate (b - a) (i - a + k) 0 d (omega (arith, here))
-    ∙ sym (get_or-replicate (j - i) k 0 d here))
 
 -- where zeros lie behind the elements, more of them are empty
 pub elements_grown : (kind : ElementKind) (n more m : ℕ) (bytes : List ℕ) → ZeroIsEmpty → n + more ≤ m → m * width kind ≤ length bytes → slice_range bytes (n * width kind) (m * width kind) ≡ replicate (m * width kind - n * width kind) 0 → elements_in kind (n + more) bytes ≡ elements_in kind n bytes ++ replicate more (empty kind)

@@ -1,20 +1,13 @@
 -- A table as it is made.
-use Rattle.std.proofs.Common.{◌≡◌, ℕ, ◌+◌, ◌-◌, ◌*◌, ◌/◌, ◌^◌, ◌<◌, ◌≤◌, nat_lt, Bool, false, List, replicate, slice_range, Option, Some, None, refl, sym, ap, ◌∙◌, subst, arith}
-use Rattle.std.specs.Prelude.{min, IfSome, option_map}
-use Rattle.std.proofs.Math.Nat.{mul-le-mul_right, div-mul-le_self}
-use Rattle.std.proofs.lemmas.Bool.Decides.{nat_tests}
-use Rattle.pool_pages.specs.Contents.{Contents}
-use Rattle.pool_pages.specs.Told.{Told}
-use Rattle.pool_pages.specs.declared.table_type.TableType.{TableType}
-use Rattle.pool_pages.specs.declared.table_type.TableElementType.{TableElementType}
-use Rattle.pool_pages.specs.declared.table_type.TableElementType.TheVariants.{Func, GcRef, Cont}
+use Rattle.std.proofs.Common.{◌≡◌, ℕ, ◌+◌, ◌-◌, ◌*◌, ◌/◌, ◌^◌, ◌<◌, ◌≤◌, nat_lt, Bool, false, List, replicate, slice_range, Option, Some, None, refl, sym, ap, ◌∙◌, subst, arith, min, IfSome, option_map}
+use Rattle.pool_table.proofs.Imports.{mul-le-mul_right, div-mul-le_self, nat_tests, zeros_within, Contents, Told, TableType, TableElementType, Func, GcRef, Cont}
 use Rattle.pool_table.specs.Elements.{ElementKind, Element, width, empty, element_size}
 use Rattle.pool_table.specs.Tables.{IsTable, IsRoom, elements_in, type_maximum}
 use Rattle.pool_table.specs.Views.{TableView, in_region}
 use Rattle.pool_table.specs.TableStates.{table_view, element_type_of, IsStatic}
 use Rattle.pool_table.specs.Making.{kind_of, room_of, new_table, IsNewTable}
 use Rattle.pool_table.specs.declared.table.Table.{Table}
-use Rattle.pool_table.proofs.Listed.{elements_grown, zeros_within}
+use Rattle.pool_table.proofs.Listed.{elements_grown}
 use Rattle.pool_table.proofs.Words.{zero_is_empty}
 
 same_width : (element : TableElementType) (lazy : Bool) → width (kind_of element lazy) ≡ element_size element

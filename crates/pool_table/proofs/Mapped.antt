@@ -1,8 +1,6 @@
 -- A list of items, seen through what each of them is.
-use Rattle.std.proofs.Common.{◌≡◌, ℕ, zero, suc, ◌+◌, ◌-◌, ◌<◌, ◌≤◌, List, [], ◌∷◌, ◌++◌, length, get_or, take, drop, replicate, refl, sym, ap, ◌∙◌, arith}
-use Rattle.std.specs.Prelude.{map}
-use Rattle.std.proofs.lemmas.List.{length-map, length-replicate, map-append, take_all, take-map, drop-map, same_lists, get_or-replicate}
-use Rattle.pool_pages.specs.Contents.{put_all}
+use Rattle.std.proofs.Common.{◌≡◌, ℕ, zero, suc, ◌+◌, ◌-◌, ◌<◌, ◌≤◌, List, [], ◌∷◌, ◌++◌, length, get_or, take, drop, replicate, refl, sym, ap, ◌∙◌, arith, map}
+use Rattle.pool_table.proofs.Imports.{length-map, length-replicate, map-append, take_all, take-map, drop-map, same_lists, get_or-replicate, put_all}
 
 pub take_none : {X : Type 0} (n : ℕ) (ys : List X) → take n [] ++ ys ≡ ys
 take_none {X} n ys = ap (λ (xs : List X). xs ++ ys) (take_all n [] (omega arith))

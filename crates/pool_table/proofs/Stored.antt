@@ -1,9 +1,6 @@
 -- One more call on a store that was let through.
-use Rattle.std.proofs.Common.{◌≡◌, ℕ, ◌+◌, ◌-◌, ◌<◌, true, List, [], ◌∷◌, ◌++◌, length, get_or, Option, Some, None, refl, sym, ap, ◌∙◌, subst, arith, inl, inr}
-use Rattle.std.specs.Prelude.{IfSome, slice_get}
-use Rattle.std.proofs.Math.Numerals.{suc-eq-add-one}
-use Rattle.std.proofs.lemmas.Bool.{cases_lt}
-use Rattle.std.proofs.lemmas.List.{length-append, map-append, get_or_append_left, get_or-append_right}
+use Rattle.std.proofs.Common.{◌≡◌, ℕ, ◌+◌, ◌-◌, ◌<◌, true, List, [], ◌∷◌, ◌++◌, length, get_or, Option, Some, None, refl, sym, ap, ◌∙◌, subst, arith, inl, inr, IfSome, slice_get}
+use Rattle.pool_table.proofs.Imports.{suc-eq-add-one, cases_lt, length-append, map-append, get_or_append_left, get_or-append_right}
 use Rattle.pool_table.specs.Elements.{Element, gc_ref}
 use Rattle.pool_table.specs.Stores.{StoreTold, StoreCall, call_of, store_called, store_calls, LetsThrough, StoreCalled, StorePassed, AreReferences, passed_calls}
 

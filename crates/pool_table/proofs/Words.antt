@@ -1,9 +1,6 @@
 -- The words of elements: how long they are, and that they read back.
-use Rattle.std.proofs.Common.{◌≡◌, ℕ, ◌+◌, ◌-◌, ◌%◌, ◌==◌, Bool, true, false, List, ◌++◌, take, drop, Some, None, refl, ap, ◌∙◌, arith}
-use Rattle.std.specs.Prelude.{if◌then◌else◌}
-use Rattle.std.specs.Int.{w64, to_le_bytes, from_le_bytes}
-use Rattle.std.proofs.lemmas.Bool.Decides.{nat_tests}
-use Rattle.std.proofs.lemmas.Nat.{from_le_bytes-to_le_bytes_4, from_le_bytes-to_le_bytes_8}
+use Rattle.std.proofs.Common.{◌≡◌, ℕ, ◌+◌, ◌-◌, ◌%◌, ◌==◌, Bool, true, false, List, ◌++◌, take, drop, Some, None, refl, ap, ◌∙◌, arith, if◌then◌else◌}
+use Rattle.pool_table.proofs.Imports.{w64, to_le_bytes, from_le_bytes, nat_tests, from_le_bytes-to_le_bytes_4, from_le_bytes-to_le_bytes_8}
 use Rattle.pool_table.specs.declared.element.VMContObj.{VMContObj}
 use Rattle.pool_table.specs.Elements.{functions, gc_refs, continuations, uninitialised, func, gc_ref, cont, word, element_of, func_read, gc_read, cont_read, IsName, IsGcRef, IsContObj, ReadsBack, ZeroIsEmpty}
 

@@ -1,15 +1,6 @@
 -- Zeros of a region that a table may have, and what calls on the region leave of them.
-use Rattle.std.proofs.Common.{◌≡◌, ℕ, ◌+◌, ◌-◌, ◌*◌, ◌/◌, ◌<◌, ◌≤◌, ◌⊎◌, false, List, length, get_or, replicate, slice_range, Option, Some, None, Result, Ok, Err, refl, sym, ap, ◌∙◌, subst, arith, inl, inr}
-use Rattle.std.specs.Prelude.{IfSome, option_map, slice_index_or, OnOk, OnErr}
-use Rattle.std.proofs.Math.Nat.{mul-le-mul_right}
-use Rattle.std.proofs.lemmas.List.{length-replicate, get_or-replicate, same_lists}
-use Rattle.std.proofs.lemmas.Bool.{cases_lt}
-use Rattle.pool_pages.specs.Contents.{Contents, IsShaped, CanReach, put, page_at, page_origin, Page, written, decommitted}
-use Rattle.pool_pages.specs.Count.{Count}
-use Rattle.pool_pages.specs.Told.{Told, TellsShaped, IsRange, Faulted, IsPartly, MayChangePartly, succeeded, decommitting}
-use Rattle.pool_pages.specs.declared.pages.PageFault.{PageFault}
-use Rattle.pool_pages.proofs.Multiples.{page_of}
-use Rattle.pool_pages.proofs.Puts.{length-put, length-range, get_or-range, get_or-put_below, get_or-put_in, get_or-put_above, same_at, same_by_pages}
+use Rattle.std.proofs.Common.{◌≡◌, ℕ, ◌+◌, ◌-◌, ◌*◌, ◌/◌, ◌<◌, ◌≤◌, ◌⊎◌, false, List, length, get_or, replicate, slice_range, Option, Some, None, Result, Ok, Err, refl, sym, ap, ◌∙◌, subst, arith, inl, inr, IfSome, option_map, slice_index_or, OnOk, OnErr}
+use Rattle.pool_table.proofs.Imports.{mul-le-mul_right, length-replicate, get_or-replicate, same_lists, cases_lt, Contents, IsShaped, CanReach, put, page_at, page_origin, Page, written, decommitted, Count, Told, TellsShaped, IsRange, Faulted, IsPartly, MayChangePartly, succeeded, decommitting, PageFault, page_of, length-put, length-range, get_or-range, get_or-put_below, get_or-put_in, get_or-put_above, same_at, same_by_pages}
 use Rattle.pool_table.specs.Elements.{ElementKind, Element, width, empty}
 use Rattle.pool_table.specs.Tables.{TableState, IsTable, IsRoom, Rewrites, Empties, elements_in}
 use Rattle.pool_table.proofs.Kept.{after_write, shaped_as, table_of}

@@ -54,7 +54,7 @@ abbrev pub IsAllowedTableGrowth : {R : Type 0} → (R → LimiterTold) → (R �
 IsAllowedTableGrowth told leads size old new before after result =
     IsAllowed told leads Table (nat_lt old.maximum size) old.size (new ≡ old) (GrowsTable (size - old.size) old new) (λ e. ⊥) before after result
 
--- the same, where no memory was found
+-- A growth that the limiter allowed found no memory for a table in a list, which is as it was.
 pub record WantsAllowed {R : Type 0} (size : ℕ) (old new : TableView) (before after : R) (result : Result (Option ℕ) GrowFault) : Type 0 where
   pub listed : old.region ≡ None
   pub within : size ≤ old.maximum
@@ -62,6 +62,7 @@ pub record WantsAllowed {R : Type 0} (size : ℕ) (old new : TableView) (before 
   pub same : new ≡ old
   pub unasked : after ≡ before
 
+-- A growth that the limiter allowed went by the rule, or found no memory for a table in a list.
 abbrev pub AllowedTableGrows : {R : Type 0} → (R → LimiterTold) → (R → Exchange → R → Type 0) → ℕ → TableView → TableView → R → R → Result (Option ℕ) GrowFault → Type 0
 AllowedTableGrows told leads size old new before after result =
     IsAllowedTableGrowth told leads size old new before after result ⊎ WantsAllowed size old new before after result

@@ -2,10 +2,10 @@
 use Rattle.std.specs.Prelude.{◌≡◌, ℕ, ◌*◌, ◌-◌, ◌^◌, ◌/◌, ◌%◌, ◌<◌, ◌≤◌, max, min, nat_lt, replicate, Bool, true, false, Some, None, MatchResult, option_map, Result, Ok, Err}
 use Rattle.pool_pages.specs.MakerTold.{fresh}
 use Rattle.pool_pages.specs.Told.{Told}
-use Rattle.pool_pages.specs.declared.table_type.TableType.{TableType}
-use Rattle.pool_pages.specs.declared.table_type.TableElementType.{TableElementType}
-use Rattle.pool_pages.specs.declared.table_type.TableElementType.TheVariants as of_type
-use Rattle.pool_pages.specs.declared.unsupported.Unsupported.TheVariants.{TableSize, AddressSpace}
+use Rattle.pool_types.specs.declared.table_type.TableType.{TableType}
+use Rattle.pool_types.specs.declared.table_type.TableElementType.{TableElementType}
+use Rattle.pool_types.specs.declared.table_type.TableElementType.TheVariants as of_type
+use Rattle.pool_types.specs.declared.unsupported.Unsupported.TheVariants.{TableSize, AddressSpace}
 use Rattle.pool_limits.specs.Exchanges.{GrowthQuestion, question_of}
 use Rattle.pool_limits.specs.declared.growing.Growable.TheVariants as growable
 use Rattle.pool_limits.specs.declared.errors.LimiterError.{LimiterError}
@@ -17,6 +17,7 @@ use Rattle.pool_table.specs.declared.table.Table.{Table}
 use Rattle.pool_table.specs.declared.table_error.TableError.{TableError}
 use Rattle.pool_table.specs.declared.table_error.TableError.TheVariants as refused
 
+-- The kind of a table with this type of element; whether functions are initialised at their first read is a setting.
 abbrev pub kind_of : TableElementType → Bool → ElementKind
 kind_of of_type.Func lazy = functions lazy
 kind_of of_type.GcRef lazy = gc_refs
@@ -80,17 +81,19 @@ MakesDynamic (Err e) ty lazy result = result ≡ Err (refused.LimiterFault e)
 MakesDynamic (Ok false) ty lazy result = result ≡ Err (refused.LimiterDenied ty.limits.min)
 MakesDynamic (Ok true) ty lazy result = MakesList (nat_lt (2 ^ 64 - 1) (ty.limits.min * element_size ty.element)) ty lazy result
 
--- what the limiter answered where a making was refused with this, or ended so
+-- What the limiter answered where a making was refused with this.
 abbrev pub answer_behind : TableError → Result Bool LimiterError
 answer_behind refused.Memory = Ok true
 answer_behind (refused.Unsupported u) = Ok true
 answer_behind (refused.LimiterDenied min) = Ok false
 answer_behind (refused.LimiterFault e) = Err e
 
+-- What the limiter answered, read off how the making of a table over a region ended.
 abbrev pub making_answer : {X P : Type 0} → Result X (P × TableError) → Result Bool LimiterError
 making_answer (Ok x) = Ok true
 making_answer (Err refusal) = answer_behind refusal.1
 
+-- What the limiter answered, read off how the making of a table in a list ended.
 abbrev pub listing_answer : {X : Type 0} → Result X TableError → Result Bool LimiterError
 listing_answer (Ok x) = Ok true
 listing_answer (Err refusal) = answer_behind refusal

@@ -1,7 +1,7 @@
 -- A store of a collector, which is told of each reference before it is written.
 use Rattle.std.specs.Prelude.{◌≡◌, ℕ, zero, suc, ◌+◌, ◌<◌, ◌==◌, List, [], ◌∷◌, length, map, slice_get, slice_index_or, Bool, true, false, not, Option, Some, None, IsSome, IfSome, Result, Ok, Err}
 use Rattle.std.specs.List.{list_any}
-use Rattle.pool_pages.specs.Told.{risen, Rose}
+use Rattle.pool_types.specs.Rising.{risen, Rose}
 use Rattle.pool_table.specs.Elements.{Element, gc_ref}
 use Rattle.pool_table.specs.Views.{TableView, FillsTable}
 use Rattle.pool_table.specs.declared.gc_store.GcTableError.{GcTableError}
@@ -17,7 +17,7 @@ pub record StoreTold : Type 0 where
 abbrev pub store_called : StoreTold → StoreTold
 store_called t = record t { made = risen t.made }
 
--- after n of them
+-- What a store tells after n calls that went through.
 abbrev pub store_calls : ℕ → StoreTold → StoreTold
 store_calls zero t = t
 store_calls (suc n) t = store_called (store_calls n t)
@@ -42,6 +42,7 @@ pub record StoreCall : Type 0 where
   pub new : Option ℕ
   pub passed : Bool
 
+-- One call on a store: the reference that goes, the one that comes, and whether the store let it through.
 abbrev pub call_of : Option ℕ → Option ℕ → Bool → StoreCall
 call_of old new passed = record { old = old; new = new; passed = passed }
 

@@ -3,9 +3,9 @@ use Rattle.std.specs.Prelude.{◌≡◌, ℕ, ◌+◌, ◌-◌, ◌*◌, ◌^◌
 use Rattle.std.specs.List.{concat, range_with_len}
 use Rattle.pool_pages.specs.Contents.{Contents, IsShaped, CanReach, put, put_all}
 use Rattle.pool_pages.specs.Told.{Told, overwritten}
-use Rattle.pool_pages.specs.declared.module_types.IndexType.{IndexType}
-use Rattle.pool_pages.specs.declared.module_types.IndexType.TheVariants.{I32, I64}
-use Rattle.pool_pages.specs.declared.table_type.TableType.{TableType}
+use Rattle.pool_types.specs.declared.module_types.IndexType.{IndexType}
+use Rattle.pool_types.specs.declared.module_types.IndexType.TheVariants.{I32, I64}
+use Rattle.pool_types.specs.declared.table_type.TableType.{TableType}
 use Rattle.pool_limits.specs.declared.errors.Trap.{Trap}
 use Rattle.pool_limits.specs.declared.errors.Trap.TheVariants.{TableOutOfBounds}
 use Rattle.pool_table.specs.Elements.{ElementKind, Element, width, word, empty, element_of}
@@ -61,10 +61,11 @@ pub record Empties (old after : TableState) : Type 0 where
   pub bytes : Rewrites 0 (replicate (old.size * width old.kind) 0) old.region after.region
   pub elements : elements after ≡ option_map (λ es. replicate old.size (empty old.kind)) (elements old)
 
--- the word of element k is zeros, and so are all
+-- Element k lies as zeros in these bytes.
 abbrev pub IsZeroWord : ElementKind → ℕ → List ℕ → Type 0
 IsZeroWord kind k bytes = slice_range bytes (k * width kind) (k * width kind + width kind) ≡ replicate (width kind) 0
 
+-- Each element of the table lies as zeros in these bytes.
 abbrev pub WordsAreZero : TableState → List ℕ → Type 0
 WordsAreZero t bytes = (k : ℕ) → k < t.size → IsZeroWord t.kind k bytes
 
@@ -78,14 +79,16 @@ pub record GrowsBy (more : ℕ) (old after : TableState) : Type 0 where
   pub same : after ≡ record old { size = old.size + more }
   pub elements : elements after ≡ option_map (λ es. es ++ replicate more (empty old.kind)) (elements old)
 
--- the greatest size of a table of a type: its maximum, or what its addresses reach
+-- The last number that an index of this type can name.
 abbrev pub greatest_index : IndexType → ℕ
 greatest_index I32 = 2 ^ 32 - 1
 greatest_index I64 = 2 ^ 64 - 1
 
+-- A maximum where there is one, else the bound that holds anyway.
 abbrev pub greatest_of : Option ℕ → ℕ → ℕ
 greatest_of None bound = bound
 greatest_of (Some most) bound = most
 
+-- The greatest number of elements by a table's type: its maximum, or the last that its index can name.
 abbrev pub type_maximum : TableType → ℕ
 type_maximum ty = greatest_of ty.limits.max (greatest_index ty.idx_type)

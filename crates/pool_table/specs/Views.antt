@@ -25,6 +25,7 @@ pub record ListedTable : Type 0 where
   pub maximum : ℕ
   pub elements : List Element
 
+-- What callers see of a table in a list: its elements, and no region.
 abbrev pub in_list : ListedTable → TableView
 in_list t = record { kind = t.kind; size = length t.elements; maximum = t.maximum; elements = Some t.elements; region = None }
 

@@ -4,7 +4,7 @@ ghost use Rattle.pool_table.specs.TableStates.{listed_table, listed_type};
 
 use crate::dynamic_elements::DynamicElements;
 use crate::element_rule::{ContRule, FuncRule, GcRefRule};
-use pool_pages::TableElementType;
+use pool_types::TableElementType;
 use std::alloc::AllocError;
 
 /// A table of functions in a list.

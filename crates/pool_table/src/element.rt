@@ -1,7 +1,7 @@
 ghost use Rattle.std.specs.Prelude.{◌≡◌, ℕ};
 ghost use Rattle.pool_table.specs.Elements.{element_size, ReadsBack, ZeroIsEmpty};
 
-use pool_pages::TableElementType;
+use pool_types::TableElementType;
 
 /// A function by its name, which is even and above zero, or null.
 pub type FuncTableElem = Option<u64>;

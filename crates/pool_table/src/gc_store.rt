@@ -1,10 +1,10 @@
 ghost use Rattle.std.specs.Prelude.{◌≡◌, ◌==◌, is_ok, not, IfSome, OnOk, OnErr};
 ghost use Rattle.std.specs.List.{list_any};
-ghost use Rattle.pool_pages.specs.Told.{risen};
+ghost use Rattle.pool_types.specs.Rising.{risen};
 ghost use Rattle.pool_table.specs.Stores.{StoreTold, StoreCall, call_of, store_called, store_passes, StoreFaulted, listed_store};
 
 use pool_limits::Trap;
-use pool_pages::PlainList;
+use pool_types::PlainList;
 
 /// A call on a store failed.
 #[derive(Clone, Copy, Debug, PartialEq, Eq)]

@@ -15,7 +15,8 @@ use crate::element_rule::{ContRule, FuncRule, GcRefRule};
 use crate::table::Table;
 use crate::table_error::TableError;
 use pool_limits::{LimiterError, ResourceLimiter, Unlimited};
-use pool_pages::{IndexType, Pages, TableElementType, TableType, Tunables, Unsupported};
+use pool_pages::Pages;
+use pool_types::{IndexType, TableElementType, TableType, Tunables, Unsupported};
 use std::alloc::{AllocError, Global};
 
 impl<P: Pages> Table<P> {

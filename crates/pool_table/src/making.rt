@@ -15,7 +15,8 @@ use crate::static_elements::StaticElements;
 use crate::table::Table;
 use crate::table_error::TableError;
 use pool_limits::{LimiterError, ResourceLimiter, Unlimited};
-use pool_pages::{Pages, TableElementType, TableType, Tunables, Unsupported};
+use pool_pages::Pages;
+use pool_types::{TableElementType, TableType, Tunables, Unsupported};
 
 impl<P: Pages> Table<P> {
     /// The table of this type over the first `data_bytes` bytes of a region, which can be reached and are zeros. The

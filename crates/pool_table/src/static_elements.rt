@@ -9,7 +9,8 @@ ghost use Rattle.pool_table.specs.Tables.{IsTable, Rewrites, Fills, Empties, Zer
 use crate::element::{ContTableElem, FuncTableElem};
 use crate::element_rule::{ContRule, ElementRule, FuncRule, GcRefRule};
 use pool_limits::Trap;
-use pool_pages::{HostAlignedByteCount, PageFault, Pages};
+use pool_pages::{PageFault, Pages};
+use pool_types::HostAlignedByteCount;
 use std::marker::Model;
 
 /// A table of one kind of elements, which lie in a region that it owns.

@@ -6,7 +6,8 @@ ghost use Rattle.pool_table.specs.TableStates.{static_state, static_type};
 
 use crate::element_rule::{ContRule, FuncRule, GcRefRule};
 use crate::static_elements::StaticElements;
-use pool_pages::{HostAlignedByteCount, PageFault, Pages, TableElementType};
+use pool_pages::{PageFault, Pages};
+use pool_types::{HostAlignedByteCount, TableElementType};
 
 /// A table of functions over a region.
 pub type StaticFuncTable<P> = StaticElements<FuncRule, P>;

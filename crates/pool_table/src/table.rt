@@ -11,7 +11,8 @@ use crate::dynamic_table::DynamicTable;
 use crate::element_rule::{ContRule, FuncRule, GcRefRule};
 use crate::static_elements::StaticElements;
 use crate::static_table::StaticTable;
-use pool_pages::{HostAlignedByteCount, PageFault, Pages, TableElementType};
+use pool_pages::{PageFault, Pages};
+use pool_types::{HostAlignedByteCount, TableElementType};
 use std::alloc::{AllocError, Global};
 
 /// A table of an instance: over a region, or with a list of its own. Calls by kind need a table of that kind, for which

@@ -1,5 +1,5 @@
 ghost use Rattle.std.specs.Prelude.{◌≡◌, ◌+◌, ◌<◌, ◌≤◌, is_ok, nat_le, nat_lt, slice_get, Some, Err, IfSome, IfOk, IfErr, OnOk, OnErr};
-ghost use Rattle.pool_pages.specs.declared.table_type.TableElementType.TheVariants.{Func, GcRef, Cont};
+ghost use Rattle.pool_types.specs.declared.table_type.TableElementType.TheVariants.{Func, GcRef, Cont};
 ghost use Rattle.pool_limits.specs.declared.errors.Trap.TheVariants.{TableOutOfBounds};
 ghost use Rattle.pool_table.specs.Elements.{func, gc_ref, cont, IsFunc, IsGc, IsCont, func_item};
 ghost use Rattle.pool_table.specs.Tables.{table_access};

@@ -1,13 +1,14 @@
 ghost use Rattle.std.specs.Prelude.{◌≡◌, ◌⊎◌, ◌+◌, ◌-◌, ◌%◌, ◌<◌, ◌≤◌, [], ◌∷◌, length, true, IfSome, is_ok, OnOk, OnErr, option_map};
 ghost use Rattle.std.specs.Arc.{arc_value};
-ghost use Rattle.pool_pages.specs.Count.{count, rounded_up};
+ghost use Rattle.pool_types.specs.Count.{count, rounded_up};
 ghost use Rattle.pool_pages.specs.Told.{exposing, hiding};
 ghost use Rattle.pool_images.specs.Orders.{Follows, resizing, replacing};
 ghost use Rattle.pool_images.specs.Slots.{size_of, IsClean, IsLeft, IsBegun, IsSized, IsSlot, FitsInto, HasImage, name_of, called, resized, reused, replaced, hides};
 
 use crate::image_slot::MemoryImageSlot;
 use crate::memory_image::MemoryImage;
-use pool_pages::{HostAlignedByteCount, MemoryTunables, MemoryType, PageFault, PageSize, Pages};
+use pool_pages::{PageFault, Pages};
+use pool_types::{HostAlignedByteCount, MemoryTunables, MemoryType, PageSize};
 use std::sync::Arc;
 
 impl<P: Pages> MemoryImageSlot<P> {

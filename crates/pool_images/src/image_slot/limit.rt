@@ -1,10 +1,11 @@
 ghost use Rattle.std.specs.Prelude.{◌≡◌, ◌%◌, ◌≤◌, is_ok, IfSome, OnOk, OnErr};
-ghost use Rattle.pool_pages.specs.Count.{rounded_up};
+ghost use Rattle.pool_types.specs.Count.{rounded_up};
 ghost use Rattle.pool_pages.specs.Told.{passes};
 ghost use Rattle.pool_images.specs.Slots.{size_of, CallFaulted, IsSlot, OnlyExposed, raising, raised, limited};
 
 use crate::image_slot::MemoryImageSlot;
-use pool_pages::{HostAlignedByteCount, PageFault, Pages};
+use pool_pages::{PageFault, Pages};
+use pool_types::HostAlignedByteCount;
 
 impl<P: Pages> MemoryImageSlot<P> {
     /// Makes the first `size` bytes accessible, in whole pages, where they aren't; hides none. What the pages hold stays.

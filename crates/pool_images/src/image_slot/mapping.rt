@@ -4,7 +4,8 @@ ghost use Rattle.pool_images.specs.Slots.{IsReady, IsClean, IsLeft, IsBegun, IsS
 
 use crate::image_slot::{ImageName, MemoryImageSlot};
 use crate::memory_image::MemoryImage;
-use pool_pages::{HostAlignedByteCount, PageFault, Pages};
+use pool_pages::{PageFault, Pages};
+use pool_types::HostAlignedByteCount;
 
 impl<P: Pages> MemoryImageSlot<P> {
     /// Takes the image away; its pages become zeros. Makes no page call where there is no image.

@@ -7,7 +7,8 @@ ghost use Rattle.pool_images.specs.Slots.{size_of, IsSlot, IsReady, IsClean, IsL
 
 use crate::image_slot::MemoryImageSlot;
 use crate::ranges::{ByteRange, Ranges};
-use pool_pages::{DecommitBehavior, HostAlignedByteCount, PageFault, PageRegion, Pages};
+use pool_pages::{PageFault, PageRegion, Pages};
+use pool_types::{DecommitBehavior, HostAlignedByteCount};
 
 impl<P: Pages> MemoryImageSlot<P> {
     /// Resets a slot that was in use, and answers how many of its bytes stay resident. `ranges` must be empty.

@@ -1,8 +1,5 @@
-use Rattle.std.proofs.Common.{◌≡◌, ◌<◌, length, take, length-take, get_or, refl, sym, ap, ◌∙◌, ◌+◌, arith}
-use Rattle.std.specs.Prelude.{min}
-use Rattle.std.proofs.lemmas.List.{take_more}
-use Rattle.pool_slots.specs.declared.plan.Home.{Home}
-use Rattle.pool_slots.specs.Plans.{home_of}
+use Rattle.std.proofs.Common.{◌≡◌, ◌<◌, length, take, length-take, get_or, refl, sym, ap, ◌∙◌, ◌+◌, arith, min}
+use Rattle.pool_alloc.proofs.Imports.{take_more, Home, home_of}
 use Rattle.pool_alloc.specs.Steps.{first_shard}
 use Rattle.pool_alloc.proofs.FreeTurns.{first_more}
 use Rattle.pool_alloc.proofs.freeing.first_shard.Goals as goal

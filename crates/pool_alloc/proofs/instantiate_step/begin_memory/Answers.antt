@@ -1,7 +1,5 @@
-use Rattle.std.specs.Prelude.{option_map}
-use Rattle.std.specs.Arc.{arc_value}
-use Rattle.pool_pages.specs.MemoryTypes.{minimum_byte_size}
-use Rattle.pool_memory.specs.Making.{EndsWithin}
+use Rattle.std.proofs.Common.{option_map}
+use Rattle.pool_alloc.proofs.Imports.{arc_value, minimum_byte_size, EndsWithin}
 use Rattle.pool_alloc.proofs.Begun.{instantiates_as, follows_as, ends_of, holds_as}
 use Rattle.pool_alloc.proofs.instantiate_step.begin_memory.Goals as goal
 

@@ -1,7 +1,5 @@
 use Rattle.std.proofs.Common.{◌<◌, length, take, ap, ◌∙◌, arith}
-use Rattle.pool_pages.specs.declared.pages.PageCalls.{PageCalls}
-use Rattle.pool_memory.specs.Memories.{slot_of}
-use Rattle.pool_pages.specs.CallSums.{added}
+use Rattle.pool_alloc.proofs.Imports.{PageCalls, slot_of, added}
 use Rattle.pool_alloc.specs.Leases.{Lease}
 use Rattle.pool_alloc.specs.Sums.{calls_of_leases}
 use Rattle.pool_alloc.proofs.Totals.{leases_more}

@@ -1,6 +1,5 @@
 use Rattle.std.proofs.Common.{◌<◌, length, take, ap, ◌∙◌, arith}
-use Rattle.pool_pages.specs.declared.pages.PageCalls.{PageCalls}
-use Rattle.pool_pages.specs.CallSums.{added}
+use Rattle.pool_alloc.proofs.Imports.{PageCalls, added}
 use Rattle.pool_alloc.specs.Sums.{calls_of_tables, table_calls}
 use Rattle.pool_alloc.proofs.Totals.{tables_more}
 use Rattle.pool_alloc.proofs.lease.calls_of_tables.Goals as goal

@@ -1,6 +1,5 @@
 use Rattle.std.proofs.Common.{refl, subst}
-use Rattle.pool_memory.specs.Linear.{no_slot as no_image_slot}
-use Rattle.pool_slots.specs.declared.cells.ImageSlot.{ImageSlot}
+use Rattle.pool_alloc.proofs.Imports.{no_image_slot, ImageSlot}
 use Rattle.pool_alloc.specs.CanStep.{CanDrain}
 use Rattle.pool_alloc.proofs.release_steps.drained.Goals as goal
 

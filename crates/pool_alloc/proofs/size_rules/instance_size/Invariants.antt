@@ -1,6 +1,5 @@
-use Rattle.std.proofs.Common.{◌≡◌, ◌+◌, ◌-◌, ◌^◌, take}
-use Rattle.std.specs.Prelude.{min, sum_by}
-use Rattle.pool_pages.specs.declared.module_types.Part.{Part}
+use Rattle.std.proofs.Common.{◌≡◌, ◌+◌, ◌-◌, ◌^◌, take, min, sum_by}
+use Rattle.pool_types.specs.declared.module_types.Part.{Part}
 use Rattle.pool_alloc.proofs.size_rules.instance_size.Given as goal
 
 -- that of the parts so far

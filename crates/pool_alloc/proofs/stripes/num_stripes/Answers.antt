@@ -1,9 +1,5 @@
 use Rattle.std.proofs.Common.{◌≡◌, ◌∙◌, ap, sym, arith}
-use Rattle.std.proofs.lemmas.Bool.{false≢true}
-use Rattle.pool_slots.specs.Slabs.{has_room, stripe_count}
-use Rattle.pool_slots.specs.declared.slab.SlabConstraints.{SlabConstraints}
-use Rattle.pool_slots.specs.declared.slab.SlabLayout.{SlabLayout}
-use Rattle.pool_slots.proofs.Settings.{settings_speak}
+use Rattle.pool_alloc.proofs.Imports.{false≢true, has_room, stripe_count, SlabConstraints, SlabLayout, settings_speak}
 use Rattle.pool_alloc.proofs.Striping.{slab_there}
 use Rattle.pool_alloc.proofs.stripes.num_stripes.Goals as goal
 

@@ -1,13 +1,5 @@
-use Rattle.std.proofs.Common.{◌≡◌, ℕ, ◌*◌, true, List, Some, sym, ap, ◌∙◌, subst}
-use Rattle.std.specs.Prelude.{min, Option, unwrap_or}
-use Rattle.pool_images.specs.Slots.{Slot}
-use Rattle.pool_images.specs.declared.ranges.ByteRange.{ByteRange}
-use Rattle.pool_pages.specs.Count.{Count, rounded_up}
-use Rattle.pool_pages.specs.Told.{Told}
-use Rattle.pool_slots.specs.PlainSlots.{IsUnusedFrom, bottom_reset}
-use Rattle.pool_slots.specs.SlotQueues.{IsReset, plain_slot}
-use Rattle.pool_table.specs.Elements.{element_size, width}
-use Rattle.pool_table.specs.TableStates.{table_view}
+use Rattle.std.proofs.Common.{◌≡◌, ℕ, ◌*◌, true, List, Some, sym, ap, ◌∙◌, subst, min, Option, unwrap_or}
+use Rattle.pool_alloc.proofs.Imports.{Slot, ByteRange, Count, rounded_up, Told, IsUnusedFrom, bottom_reset, IsReset, plain_slot, element_size, width, table_view}
 use Rattle.pool_alloc.specs.TableLeases.{LeasedTable, table_slot}
 use Rattle.pool_alloc.specs.TableSteps.{IsInRegion, bytes_used}
 use Rattle.pool_alloc.proofs.TableResets.{table_is_reset}

@@ -1,5 +1,5 @@
 use Rattle.std.proofs.Common.{◌≡◌, drop}
-use Rattle.pool_pages.specs.MemoryTypes.{refused_limits}
+use Rattle.pool_types.specs.MemoryTypes.{refused_limits}
 use Rattle.pool_alloc.specs.Refusals.{first_refused}
 use Rattle.pool_alloc.proofs.validate_step.limits_refused.Given as goal
 

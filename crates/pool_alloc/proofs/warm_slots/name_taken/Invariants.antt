@@ -1,5 +1,4 @@
-use Rattle.std.proofs.Common.{◌≡◌, ◌+◌, ◌++◌, ◌≤◌, length}
-use Rattle.std.specs.Prelude.{drop}
+use Rattle.std.proofs.Common.{◌≡◌, ◌+◌, ◌++◌, ◌≤◌, length, drop}
 use Rattle.pool_alloc.proofs.TakenSlots.{named}
 use Rattle.pool_alloc.proofs.warm_slots.name_taken.Given as goal
 

@@ -1,16 +1,6 @@
 -- The slot that is allocated comes to those that are held, and its unit to those of the seat.
-use Rattle.std.proofs.Common.{◌≡◌, ℕ, ◌+◌, ◌≤◌, List, [], ◌∷◌, ◌++◌, ap, ◌∙◌, subst, arith, Result, Ok}
-use Rattle.std.specs.Prelude.{map}
-use Rattle.std.specs.Result.{result_ok}
-use Rattle.pool_hall.specs.declared.unit_name.SlotKind.TheVariants.{Memory}
-use Rattle.pool_hall.specs.declared.unit_name.UnitName.{UnitName}
-use Rattle.pool_hall.specs.Sum.{one_if}
-use Rattle.pool_hall.specs.Unit.{same, times, pick_unit}
-use Rattle.pool_hall.specs.Seat.{view}
-use Rattle.pool_index.specs.declared.allocator.FullNotes.{FullNotes}
-use Rattle.pool_index.specs.declared.ids.SlotId.{SlotId}
-use Rattle.pool_index.specs.Allocator.{slot_answered}
-use Rattle.pool_index.specs.Round.{found_units}
+use Rattle.std.proofs.Common.{◌≡◌, ℕ, ◌+◌, ◌≤◌, List, [], ◌∷◌, ◌++◌, ap, ◌∙◌, subst, arith, Result, Ok, map}
+use Rattle.pool_checks.proofs.Imports.{result_ok, Memory, UnitName, one_if, same, times, pick_unit, view, FullNotes, SlotId, slot_answered, found_units}
 use Rattle.pool_checks.proofs.allocator_tests.allocate.Goals as goal
 
 abbrev unit : SlotId → UnitName

@@ -1,13 +1,6 @@
 -- A slot that is held has its unit in the seat, and the others keep theirs when it goes.
-use Rattle.std.proofs.Common.{◌≡◌, ℕ, zero, suc, ◌+◌, ◌<◌, ◌≤◌, List, [], ◌∷◌, ◌++◌, length, ap, ◌∙◌, sym, subst, arith}
-use Rattle.std.specs.Prelude.{map, slice_index_or, remove}
-use Rattle.pool_hall.specs.declared.unit_name.SlotKind.TheVariants.{Memory}
-use Rattle.pool_hall.specs.declared.unit_name.UnitName.{UnitName}
-use Rattle.pool_hall.specs.Sum.{one_if}
-use Rattle.pool_hall.specs.Unit.{same, times, pick_unit}
-use Rattle.pool_hall.specs.Seat.{view}
-use Rattle.pool_hall.proofs.Units.{same_self}
-use Rattle.pool_index.specs.declared.ids.SlotId.{SlotId}
+use Rattle.std.proofs.Common.{◌≡◌, ℕ, zero, suc, ◌+◌, ◌<◌, ◌≤◌, List, [], ◌∷◌, ◌++◌, length, ap, ◌∙◌, sym, subst, arith, map, slice_index_or, remove}
+use Rattle.pool_checks.proofs.Imports.{Memory, UnitName, one_if, same, times, pick_unit, view, same_self, SlotId}
 use Rattle.pool_checks.proofs.allocator_tests.free_at.Goals as goal
 
 abbrev unit : SlotId → UnitName

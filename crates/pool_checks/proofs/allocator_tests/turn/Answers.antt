@@ -1,16 +1,6 @@
 -- The slot that is allocated has its unit in the seat, which is all that came.
 use Rattle.std.proofs.Common.{◌≡◌, ℕ, ◌+◌, ◌<◌, subst, ap, arith, Result, Ok}
-use Rattle.std.specs.Result.{result_ok}
-use Rattle.pool_hall.specs.declared.unit_name.SlotKind.TheVariants.{Memory}
-use Rattle.pool_hall.specs.declared.unit_name.UnitName.{UnitName}
-use Rattle.pool_hall.specs.Sum.{one_if}
-use Rattle.pool_hall.specs.Unit.{same, times, pick_unit}
-use Rattle.pool_hall.specs.Seat.{view}
-use Rattle.pool_hall.proofs.Units.{same_self}
-use Rattle.pool_index.specs.declared.allocator.FullNotes.{FullNotes}
-use Rattle.pool_index.specs.declared.ids.SlotId.{SlotId}
-use Rattle.pool_index.specs.Allocator.{slot_answered}
-use Rattle.pool_index.specs.Round.{found_units}
+use Rattle.pool_checks.proofs.Imports.{result_ok, Memory, UnitName, one_if, same, times, pick_unit, view, same_self, FullNotes, SlotId, slot_answered, found_units}
 use Rattle.pool_checks.proofs.allocator_tests.turn.Goals as goal
 
 pub free-requires-clause-unit : goal.free-requires-clause-unit

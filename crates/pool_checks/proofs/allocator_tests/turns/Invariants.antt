@@ -1,8 +1,5 @@
 use Rattle.std.proofs.Common.{◌≡◌}
-use Rattle.pool_hall.specs.declared.unit_name.UnitName.{UnitName}
-use Rattle.pool_hall.specs.Unit.{times}
-use Rattle.pool_hall.specs.Seat.{view}
-use Rattle.pool_index.specs.Allocator.{IsIndexSeat}
+use Rattle.pool_checks.proofs.Imports.{UnitName, times, view, IsIndexSeat}
 use Rattle.pool_checks.proofs.allocator_tests.turns.Given as goal
 
 abbrev pub invariant-loop : goal.invariant-loop

@@ -1,10 +1,6 @@
 -- Neither seat has a unit in the end.
 use Rattle.std.proofs.Common.{◌≡◌, ℕ, ◌+◌, List, [], ◌++◌, ap, ◌∙◌, arith}
-use Rattle.pool_hall.specs.declared.unit_name.UnitName.{UnitName}
-use Rattle.pool_hall.specs.Unit.{times}
-use Rattle.pool_hall.specs.Seat.{view}
-use Rattle.pool_hall.proofs.Units.{times_append}
-use Rattle.pool_hall.proofs.Callers.{none_left}
+use Rattle.pool_checks.proofs.Imports.{UnitName, times, view, times_append, none_left}
 use Rattle.pool_checks.proofs.allocator_tests.two_threads_take_turns.Goals as goal
 
 none_together : (us ws : List UnitName) → ((u : UnitName) → times u us ≡ 0) → ((u : UnitName) → times u ws ≡ 0) → us ++ ws ≡ []

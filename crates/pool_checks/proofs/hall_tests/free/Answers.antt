@@ -1,16 +1,7 @@
 -- A slot whose pick unit the seat has is used, and takes the unit back.
-use Rattle.std.proofs.Common.{◌≡◌, ℕ, zero, suc, ◌+◌, if◌then◌else◌, ◌^◌, ◌<◌, ◌≤◌, Bool, true, false, List, [], ◌∷◌, sym, refl, ap, ◌∙◌, subst, arith, true≢false}
-use Rattle.std.specs.Prelude.{slice_index}
-use Rattle.pool_hall.specs.declared.unit_name.SlotKind.TheVariants.{Memory}
-use Rattle.pool_hall.specs.declared.unit_name.UnitName.{UnitName}
+use Rattle.std.proofs.Common.{◌≡◌, ℕ, zero, suc, ◌+◌, if◌then◌else◌, ◌^◌, ◌<◌, ◌≤◌, Bool, true, false, List, [], ◌∷◌, sym, refl, ap, ◌∙◌, subst, arith, true≢false, slice_index}
+use Rattle.pool_checks.proofs.Imports.{Memory, UnitName, one_if, same, times, pick_unit, Beside, Meaning, StandsAt, moved, MayPut, view, made_with, limits_of, same_is, same_self, lent_is, can_put, view_after, none_left, may_take_back, times_returned}
 use Rattle.pool_checks.specs.declared.hall_tests.Slot.{Slot}
-use Rattle.pool_hall.specs.Sum.{one_if}
-use Rattle.pool_hall.specs.Unit.{same, times, pick_unit, Beside}
-use Rattle.pool_hall.specs.Meaning.{Meaning, StandsAt}
-use Rattle.pool_hall.specs.Step.{moved, MayPut}
-use Rattle.pool_hall.specs.Seat.{view, made_with, limits_of}
-use Rattle.pool_hall.proofs.Units.{same_is, same_self}
-use Rattle.pool_hall.proofs.Callers.{lent_is, can_put, view_after, none_left, may_take_back, times_returned}
 use Rattle.pool_checks.proofs.hall_tests.free.Goals as goal
 
 abbrev slot_meaning : Meaning Slot

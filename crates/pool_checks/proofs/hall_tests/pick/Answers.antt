@@ -1,17 +1,7 @@
 -- A slot that is picked stands at its place, and gives its unit where it was free.
-use Rattle.std.proofs.Common.{◌≡◌, ℕ, zero, suc, ◌+◌, ◌^◌, ◌<◌, ◌≤◌, if◌then◌else◌, Bool, true, false, not, List, [], ◌∷◌, sym, refl, ap, ◌∙◌, ⊎_elim, arith, true≢false}
-use Rattle.std.proofs.lemmas.Bool.{cases_Bool}
-use Rattle.std.specs.Prelude.{slice_index}
-use Rattle.pool_hall.specs.declared.unit_name.SlotKind.TheVariants.{Memory}
-use Rattle.pool_hall.specs.declared.unit_name.UnitName.{UnitName}
+use Rattle.std.proofs.Common.{◌≡◌, ℕ, zero, suc, ◌+◌, ◌^◌, ◌<◌, ◌≤◌, if◌then◌else◌, Bool, true, false, not, List, [], ◌∷◌, sym, refl, ap, ◌∙◌, ⊎_elim, arith, true≢false, slice_index}
+use Rattle.pool_checks.proofs.Imports.{cases_Bool, Memory, UnitName, one_if, same, times, pick_unit, Beside, Meaning, StandsAt, moved, MayPut, view, made_with, limits_of, same_is, lent_is, can_put, view_after, may_stay, times_stay, may_give, times_given}
 use Rattle.pool_checks.specs.declared.hall_tests.Slot.{Slot}
-use Rattle.pool_hall.specs.Sum.{one_if}
-use Rattle.pool_hall.specs.Unit.{same, times, pick_unit, Beside}
-use Rattle.pool_hall.specs.Meaning.{Meaning, StandsAt}
-use Rattle.pool_hall.specs.Step.{moved, MayPut}
-use Rattle.pool_hall.specs.Seat.{view, made_with, limits_of}
-use Rattle.pool_hall.proofs.Units.{same_is}
-use Rattle.pool_hall.proofs.Callers.{lent_is, can_put, view_after, may_stay, times_stay, may_give, times_given}
 use Rattle.pool_checks.proofs.hall_tests.pick.Goals as goal
 
 abbrev pub slot_meaning : Meaning Slot

@@ -1,8 +1,5 @@
 use Rattle.std.proofs.Common.{◌+◌, if◌then◌else◌, ◌∙◌}
-use Rattle.pool_hall.specs.declared.unit_name.SlotKind.TheVariants.{Memory}
-use Rattle.pool_hall.specs.Sum.{one_if}
-use Rattle.pool_hall.specs.Unit.{same, times, pick_unit}
-use Rattle.pool_hall.proofs.Callers.{none_left}
+use Rattle.pool_checks.proofs.Imports.{Memory, one_if, same, times, pick_unit, none_left}
 use Rattle.pool_checks.proofs.hall_tests.turn.Goals as goal
 
 pub returns-then-not-pick-clause-none : goal.returns-then-not-pick-clause-none

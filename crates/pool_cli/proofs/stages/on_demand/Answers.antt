@@ -1,7 +1,7 @@
 use Rattle.std.proofs.Common.{Ok, Err, refl, ap, ◌∙◌}
 use Rattle.pool_run.specs.Built.{broken_rule}
 use Rattle.pool_run.specs.Validity.{is_valid}
-use Rattle.pool_cli.specs.Output.{replies_text}
+use Rattle.pool_forms.specs.Output.{replies_text}
 use Rattle.pool_cli.specs.Statuses.{run_format}
 use Rattle.pool_cli.specs.declared.words.Task.TheVariants.{RunOnDemand}
 use Rattle.pool_cli.proofs.Endings.{can_run, is_valid_unless, no_limit, not_run}

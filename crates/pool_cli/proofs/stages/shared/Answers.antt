@@ -1,7 +1,7 @@
 use Rattle.std.proofs.Common.{Ok, Err, refl, ap, ◌∙◌}
-use Rattle.pool_run.specs.SharedRuns.{broken_page}
-use Rattle.pool_run.specs.SharedValidity.{is_valid_shared}
-use Rattle.pool_cli.specs.SharedOutput.{shared_text}
+use Rattle.pool_run_shared.specs.Runs.{broken_page}
+use Rattle.pool_run_shared.specs.Validity.{is_valid_shared}
+use Rattle.pool_forms.specs.SharedOutput.{shared_text}
 use Rattle.pool_cli.specs.Statuses.{shared_format}
 use Rattle.pool_cli.specs.declared.words.Task.TheVariants.{Shared}
 use Rattle.pool_cli.proofs.Endings.{can_run, is_valid_unless, no_limit, not_run}

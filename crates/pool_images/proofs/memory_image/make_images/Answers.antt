@@ -1,6 +1,5 @@
 use Rattle.std.proofs.Common.{◌≡◌, None, Some, Err, IfSome, true, ap, sym, ◌∙◌, subst, arith, is_some, false, ◌&&◌}
-use Rattle.pool_pages.specs.declared.module_types.MemoryDecl.{MemoryDecl}
-use Rattle.pool_pages.specs.MakerTold.{fails_images}
+use Rattle.pool_images.proofs.Imports.{MemoryDecl, fails_images}
 use Rattle.pool_images.specs.Images.{misplaced, makes_listed_images}
 use Rattle.pool_images.specs.ImageErrors.{RaisesImageBehind}
 use Rattle.pool_images.specs.declared.memory_image.ImageError.{ImageError}

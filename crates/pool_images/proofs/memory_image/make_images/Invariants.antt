@@ -1,5 +1,4 @@
-use Rattle.std.proofs.Common.{◌≡◌, take, map, vec_len, false}
-use Rattle.std.specs.Prelude.{option_map, IfSome}
+use Rattle.std.proofs.Common.{◌≡◌, take, map, vec_len, false, option_map, IfSome}
 use Rattle.std.specs.Arc.{arc_value}
 use Rattle.pool_images.specs.Images.{images_from, makes_listed_images}
 use Rattle.pool_images.proofs.memory_image.make_images.Given as goal

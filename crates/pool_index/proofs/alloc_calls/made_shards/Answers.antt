@@ -1,8 +1,5 @@
-use Rattle.std.proofs.Common.{◌≡◌, ℕ, ◌+◌, ◌++◌, ◌∷◌, [], List, ◌∙◌, sym, subst, arith}
-use Rattle.std.specs.Prelude.{map, All}
-use Rattle.std.specs.List.{range_with_len}
-use Rattle.std.proofs.lemmas.List.Elements.{All-push}
-use Rattle.std.proofs.lemmas.List.FromFn.{map-range_with_len_more}
+use Rattle.std.proofs.Common.{◌≡◌, ℕ, ◌+◌, ◌++◌, ◌∷◌, [], List, ◌∙◌, sym, subst, arith, map, All}
+use Rattle.pool_index.proofs.Imports.{range_with_len, All-push, map-range_with_len_more}
 use Rattle.pool_index.specs.MadeShards.{made_shard}
 use Rattle.pool_index.specs.Shard.{ShardState, IsShard}
 use Rattle.pool_index.proofs.alloc_calls.made_shards.Goals as goal

@@ -1,5 +1,4 @@
-use Rattle.std.proofs.Common.{◌≡◌}
-use Rattle.std.specs.Prelude.{map, All}
+use Rattle.std.proofs.Common.{◌≡◌, map, All}
 use Rattle.std.specs.List.{range_with_len}
 use Rattle.pool_index.specs.MadeShards.{made_shard}
 use Rattle.pool_index.specs.Shard.{IsShard}

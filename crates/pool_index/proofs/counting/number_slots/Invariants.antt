@@ -1,5 +1,4 @@
-use Rattle.std.proofs.Common.{◌≡◌, ◌++◌, take}
-use Rattle.std.specs.Prelude.{map}
+use Rattle.std.proofs.Common.{◌≡◌, ◌++◌, take, map}
 use Rattle.pool_index.specs.Freed.{known_outside}
 use Rattle.pool_index.proofs.counting.number_slots.Given as goal
 

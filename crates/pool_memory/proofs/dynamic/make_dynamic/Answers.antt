@@ -1,5 +1,4 @@
-use Rattle.std.proofs.Common.{ℕ, Option, Result, subst}
-use Rattle.std.specs.Prelude.{IfOk}
+use Rattle.std.proofs.Common.{ℕ, Option, Result, subst, IfOk}
 use Rattle.pool_memory.specs.Making.{Granted}
 use Rattle.pool_memory.specs.declared.memory_error.MemoryError.{MemoryError}
 use Rattle.pool_memory.proofs.Dynamics.{dynamic_room, begun_supported, refused_alike}

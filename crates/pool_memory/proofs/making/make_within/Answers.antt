@@ -1,7 +1,5 @@
-use Rattle.std.proofs.Common.{◌≡◌, ◌≤◌, ℕ, Option, Result, sym, ap, ◌∙◌, subst}
-use Rattle.std.specs.Prelude.{IfOk, IfSome}
-use Rattle.pool_images.specs.Images.{start}
-use Rattle.pool_pages.specs.MemoryTypes.{minimum_byte_size}
+use Rattle.std.proofs.Common.{◌≡◌, ◌≤◌, ℕ, Option, Result, sym, ap, ◌∙◌, subst, IfOk, IfSome}
+use Rattle.pool_memory.proofs.Imports.{start, minimum_byte_size}
 use Rattle.pool_memory.specs.Linear.{Linear, linear_bytes}
 use Rattle.pool_memory.specs.Memories.{MemoryState}
 use Rattle.pool_memory.specs.Static.{linear_of}

@@ -1,5 +1,5 @@
 use Rattle.std.proofs.Common.{◌≡◌, ◌%◌, subst}
-use Rattle.pool_pages.specs.Count.{Count, IsPageSize}
+use Rattle.pool_types.specs.Count.{Count, IsPageSize}
 use Rattle.pool_memory.proofs.Fresh.{region_made}
 use Rattle.pool_memory.proofs.moving.make_slot.Goals as goal
 

@@ -1,5 +1,5 @@
 use Rattle.std.proofs.Common.{◌≡◌, ◌%◌, ℕ, ap, ◌∙◌, subst}
-use Rattle.pool_pages.specs.Count.{Count, count, IsPageSize}
+use Rattle.pool_types.specs.Count.{Count, count, IsPageSize}
 use Rattle.pool_memory.specs.Moving.{slot_of_region}
 use Rattle.pool_memory.proofs.Fresh.{opened, open_room, made_slot}
 use Rattle.pool_memory.proofs.moving.open_slot.Goals as goal

@@ -1,6 +1,5 @@
 use Rattle.std.proofs.Common.{◌≡◌, ◌∙◌, sym, length, take}
-use Rattle.std.proofs.lemmas.Bool.Decides.{Decides-eqb}
-use Rattle.std.proofs.lemmas.Slice.Eq.{slice_eq-Decides}
+use Rattle.pool_pages.proofs.Imports.{Decides-eqb, slice_eq-Decides}
 use Rattle.pool_pages.proofs.Prefixes.{zeros_behind, begins_kept}
 use Rattle.pool_pages.proofs.column.is_with_zeros.Goals as goal
 

@@ -1,6 +1,5 @@
 use Rattle.std.proofs.Common.{◌≡◌, ap, rules, ◌∙◌}
-use Rattle.std.specs.List.{filter}
-use Rattle.std.proofs.lemmas.List.Sorted.{IsNonDecreasingBy-from_sort_by_key, answers_always}
+use Rattle.pool_pages.proofs.Imports.{filter, IsNonDecreasingBy-from_sort_by_key, answers_always}
 use Rattle.pool_pages.specs.SortedFaults.{has_number}
 use Rattle.pool_pages.proofs.SortedFaults.{same_numbers}
 use Rattle.pool_pages.proofs.fault_index.by_number.Goals as goal

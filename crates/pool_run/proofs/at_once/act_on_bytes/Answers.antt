@@ -1,10 +1,8 @@
-use Rattle.std.proofs.Common.{◌≡◌, List, Option, Some, None, sym, ◌∙◌}
-use Rattle.std.specs.Prelude.{slice_index_or}
-use Rattle.pool_alloc.specs.declared.frame.Grant.{Grant}
+use Rattle.std.proofs.Common.{◌≡◌, List, Option, Some, None, sym, ◌∙◌, slice_index_or}
+use Rattle.pool_run.proofs.Imports.{Grant, PlainHeap}
 use Rattle.pool_run.specs.AtOnce.{given_op}
 use Rattle.pool_run.specs.PartyRules.{rule_of}
 use Rattle.pool_run.proofs.BytesMoved.{bytes_taken, bytes_none}
-use Rattle.pool_slots.specs.declared.listed_heaps.PlainHeap.{PlainHeap}
 use Rattle.pool_run.proofs.at_once.act_on_bytes.Goals as goal
 
 pub returns-in-Some : goal.returns-in-Some

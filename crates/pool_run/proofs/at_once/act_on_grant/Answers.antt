@@ -1,7 +1,5 @@
 use Rattle.std.proofs.Common.{refl, sym, subst}
-use Rattle.pool_slots.specs.declared.listed_heaps.PlainHeap.{PlainHeap}
-use Rattle.pool_alloc.specs.StackLeases.{LeasedStack}
-use Rattle.pool_alloc.specs.declared.frame.Grant.{Grant}
+use Rattle.pool_run.proofs.Imports.{PlainHeap, LeasedStack, Grant}
 use Rattle.pool_alloc.specs.declared.frame.Grant.TheVariants.{Stack}
 use Rattle.pool_run.specs.AtOnce.{given_op, MovesGrantBytes}
 use Rattle.pool_run.specs.PartyRules.{rule_of}

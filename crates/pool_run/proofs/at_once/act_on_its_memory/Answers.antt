@@ -1,6 +1,5 @@
 use Rattle.std.proofs.Common.{replicate, sym, subst}
-use Rattle.pool_limits.specs.Growth.{GrowthRule}
-use Rattle.pool_alloc.specs.Leases.{Lease}
+use Rattle.pool_run.proofs.Imports.{GrowthRule, Lease}
 use Rattle.pool_run.specs.AtOnce.{given_op}
 use Rattle.pool_run.specs.PartyRules.{rule_of}
 use Rattle.pool_run.specs.Turns.{LeaseMoves}

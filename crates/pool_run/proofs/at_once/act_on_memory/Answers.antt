@@ -1,6 +1,5 @@
 use Rattle.std.proofs.Common.{◌≡◌, refl, replicate, sym, subst}
-use Rattle.pool_limits.specs.Growth.{GrowthRule}
-use Rattle.pool_alloc.specs.Leases.{IsWritten, IsChanged}
+use Rattle.pool_run.proofs.Imports.{GrowthRule, IsWritten, IsChanged}
 use Rattle.pool_run.specs.AtOnce.{given_op, GrowsUnder, write_reply, growth_reply}
 use Rattle.pool_run.specs.PartyRules.{rule_of}
 use Rattle.pool_run.specs.Private.{IsRead}

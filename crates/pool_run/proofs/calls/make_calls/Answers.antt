@@ -1,8 +1,5 @@
-use Rattle.std.proofs.Common.{◌≡◌, ℕ, Err, Some, length, ap, refl, ◌∙◌, subst, arith, false}
-use Rattle.std.specs.Prelude.{IfSome, slice_get}
-use Rattle.std.proofs.lemmas.List.{length-take-le, take_all}
-use Rattle.std.proofs.lemmas.Option.{slice_get_read}
-use Rattle.pool_pages.specs.MakerTold.{MakerTold}
+use Rattle.std.proofs.Common.{◌≡◌, ℕ, Err, Some, length, ap, refl, ◌∙◌, subst, arith, false, IfSome, slice_get}
+use Rattle.pool_run.proofs.Imports.{length-take-le, take_all, slice_get_read, MakerTold}
 use Rattle.pool_run.specs.Made.{call_made, calls_made}
 use Rattle.pool_run.specs.Runs.{ModuleFaults, module_listed}
 use Rattle.pool_run.specs.declared.output.RunFault.TheVariants.{PageFault}

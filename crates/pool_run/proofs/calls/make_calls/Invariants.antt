@@ -1,5 +1,4 @@
-use Rattle.std.proofs.Common.{◌≡◌, vec_len}
-use Rattle.std.specs.Prelude.{IfSome, take}
+use Rattle.std.proofs.Common.{◌≡◌, vec_len, IfSome, take}
 use Rattle.pool_run.specs.Made.{calls_made}
 use Rattle.pool_run.proofs.Makings.{AreUnlisted}
 use Rattle.pool_run.proofs.calls.make_calls.Given as goal

@@ -1,5 +1,4 @@
-use Rattle.std.proofs.Common.{◌≡◌, ℕ, Some, None, Option, List, false, subst}
-use Rattle.std.specs.Prelude.{IfSome}
+use Rattle.std.proofs.Common.{◌≡◌, ℕ, Some, None, Option, List, false, subst, IfSome}
 use Rattle.pool_pages.specs.MakerTold.{Planned}
 use Rattle.pool_run.specs.Private.{images_of}
 use Rattle.pool_run.specs.Runs.{module_listed}

@@ -1,7 +1,5 @@
-use Rattle.std.proofs.Common.{◌+◌, ◌<◌, List, length, drop, sym, ap, ◌∙◌, arith}
-use Rattle.std.specs.Prelude.{fold}
-use Rattle.std.proofs.lemmas.List.{at_drop_more, at_drop_all}
-use Rattle.pool_pages.specs.declared.pages.PageCalls.{PageCalls}
+use Rattle.std.proofs.Common.{◌+◌, ◌<◌, List, length, drop, sym, ap, ◌∙◌, arith, fold}
+use Rattle.pool_run.proofs.Imports.{at_drop_more, at_drop_all, PageCalls}
 use Rattle.pool_run.specs.Numbers.{with_party}
 use Rattle.pool_run.specs.declared.running_party.RunningParty.{RunningParty}
 use Rattle.pool_run.proofs.run.add_parties.Goals as goal

@@ -1,5 +1,4 @@
-use Rattle.std.proofs.Common.{◌≡◌, drop}
-use Rattle.std.specs.Prelude.{fold}
+use Rattle.std.proofs.Common.{◌≡◌, drop, fold}
 use Rattle.pool_run.specs.Numbers.{with_party}
 use Rattle.pool_run.proofs.run.add_parties.Given as goal
 

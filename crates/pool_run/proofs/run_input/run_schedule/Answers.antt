@@ -1,6 +1,5 @@
 use Rattle.std.proofs.Common.{rules, ◌≡◌, ℕ, List, true, false, refl, sym, ap, ◌∙◌}
-use Rattle.pool_pages.specs.FaultPlans.{failing_maker, planned_faults}
-use Rattle.pool_pages.specs.MakerTold.{MakerTold}
+use Rattle.pool_run.proofs.Imports.{failing_maker, planned_faults, MakerTold}
 use Rattle.pool_pages.specs.declared.fault_plan.Fault.{Fault}
 use Rattle.pool_run.specs.Runs.{with_faults}
 use Rattle.pool_run.proofs.Makings.{fault_of_run}

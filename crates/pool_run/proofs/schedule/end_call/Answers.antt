@@ -1,5 +1,4 @@
-use Rattle.std.proofs.Common.{length, refl, sym, ◌∙◌, arith}
-use Rattle.std.specs.Prelude.{slice_get}
+use Rattle.std.proofs.Common.{length, refl, sym, ◌∙◌, arith, slice_get}
 use Rattle.pool_run.specs.Folds.{commands_of}
 use Rattle.pool_run.proofs.Finishing.{some_none, some_more, none_begins}
 use Rattle.pool_run.proofs.schedule.end_call.Goals as goal

@@ -1,5 +1,4 @@
-use Rattle.std.proofs.Common.{◌≡◌}
-use Rattle.std.specs.Prelude.{slice_get}
+use Rattle.std.proofs.Common.{◌≡◌, slice_get}
 use Rattle.pool_run.specs.Progress.{calls_begun, turns_left, TurnsSome, IsRunOf}
 use Rattle.pool_run.proofs.schedule.end_call.Given as goal
 

@@ -1,5 +1,4 @@
-use Rattle.std.proofs.Common.{◌≡◌, ℕ, ◌<◌, ◌≤◌, List, length, ap, ◌∙◌, arith}
-use Rattle.std.specs.Prelude.{slice_get}
+use Rattle.std.proofs.Common.{◌≡◌, ℕ, ◌<◌, ◌≤◌, List, length, ap, ◌∙◌, arith, slice_get}
 use Rattle.pool_index.specs.Shard.{one_if}
 use Rattle.pool_run.specs.Folds.{commands_of}
 use Rattle.pool_run.specs.Progress.{commands_done, begins_call}

@@ -1,5 +1,4 @@
-use Rattle.std.proofs.Common.{◌≡◌, ◌+◌, ◌-◌, false, length}
-use Rattle.std.specs.Prelude.{slice_get}
+use Rattle.std.proofs.Common.{◌≡◌, ◌+◌, ◌-◌, false, length, slice_get}
 use Rattle.pool_run.specs.Folds.{commands_of}
 use Rattle.pool_run.specs.Progress.{is_busy, calls_begun, TurnsSome, IsRunOf}
 use Rattle.pool_run.proofs.schedule.finish_party.Given as goal

@@ -1,5 +1,4 @@
-use Rattle.std.proofs.Common.{rules, ℕ, List, replicate, take, subst, arith}
-use Rattle.std.specs.Prelude.{slice_index_or}
+use Rattle.std.proofs.Common.{rules, ℕ, List, replicate, take, subst, arith, slice_index_or}
 use Rattle.pool_run.specs.Folds.{Folds}
 use Rattle.pool_run.specs.Schedules.{turns_of}
 use Rattle.pool_run.specs.declared.input.ScheduleEntry.{ScheduleEntry}

@@ -1,6 +1,5 @@
 use Rattle.std.proofs.Common.{sym, subst}
-use Rattle.pool_limits.specs.Growth.{GrowthRule}
-use Rattle.pool_alloc.specs.Leases.{IsChanged}
+use Rattle.pool_run.proofs.Imports.{GrowthRule, IsChanged}
 use Rattle.pool_run.specs.AtOnce.{given_table_op, element_reply, growth_reply, LengthensUnder}
 use Rattle.pool_run.specs.Acts.{lengthens, gets, asks_length}
 use Rattle.pool_run.specs.PartyRules.{rule_of}

@@ -1,11 +1,9 @@
-use Rattle.std.proofs.Common.{◌≡◌, List, Option, Some, None, sym, ◌∙◌}
-use Rattle.std.specs.Prelude.{slice_index_or}
-use Rattle.pool_alloc.specs.declared.frame.Grant.{Grant}
+use Rattle.std.proofs.Common.{◌≡◌, List, Option, Some, None, sym, ◌∙◌, slice_index_or}
+use Rattle.pool_run.proofs.Imports.{Grant, PlainHeap}
 use Rattle.pool_run.specs.AtOnce.{given_table_op}
 use Rattle.pool_run.specs.PartyRules.{rule_of}
 use Rattle.pool_run.specs.Turns.{MovesTable, table_leases}
 use Rattle.pool_run.proofs.Named.{taken_moved}
-use Rattle.pool_slots.specs.declared.listed_heaps.PlainHeap.{PlainHeap}
 use Rattle.pool_run.proofs.table_commands.act_on_table.Goals as goal
 
 pub returns-in-Some-clause-moves : goal.returns-in-Some-clause-moves

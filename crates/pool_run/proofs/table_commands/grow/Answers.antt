@@ -1,6 +1,5 @@
 use Rattle.std.proofs.Common.{Option, Some, sym, ap, subst, refl}
-use Rattle.pool_limits.specs.Growth.{GrowthLimits, GrowthRule, always, limited_by}
-use Rattle.pool_alloc.specs.Leases.{IsChanged}
+use Rattle.pool_run.proofs.Imports.{GrowthLimits, GrowthRule, always, limited_by, IsChanged}
 use Rattle.pool_run.specs.AtOnce.{LengthensUnder}
 use Rattle.pool_run.specs.PartyRules.{growth_of, rule_of}
 use Rattle.pool_run.specs.declared.input.PartyLimits.{PartyLimits}

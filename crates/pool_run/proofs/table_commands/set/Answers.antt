@@ -1,13 +1,6 @@
-use Rattle.std.proofs.Common.{◌≡◌, List, Some, sym, ap, ◌∙◌, subst}
-use Rattle.std.specs.Prelude.{slice_get, slice_index_or}
-use Rattle.std.proofs.lemmas.Option.{get_or_from_slice_get, slice_get-get_or}
-use Rattle.pool_pages.specs.declared.table_type.TableElementType.{TableElementType}
+use Rattle.std.proofs.Common.{◌≡◌, List, Some, sym, ap, ◌∙◌, subst, slice_get, slice_index_or}
+use Rattle.pool_run.proofs.Imports.{get_or_from_slice_get, slice_get-get_or, TableElementType, type_of, StoreCall, ListedStore, IsChanged, LeasedTable, element_of, IsFilled}
 use Rattle.pool_table.specs.Elements as elem
-use Rattle.pool_table.specs.Elements.{type_of}
-use Rattle.pool_table.specs.Stores.{StoreCall}
-use Rattle.pool_table.specs.declared.gc_store.ListedStore.{ListedStore}
-use Rattle.pool_alloc.specs.Leases.{IsChanged}
-use Rattle.pool_alloc.specs.TableLeases.{LeasedTable, element_of, IsFilled}
 use Rattle.pool_run.specs.Acts.{sets}
 use Rattle.pool_run.specs.TableValues.{element_for}
 use Rattle.pool_run.specs.AtOnce.{store_told}

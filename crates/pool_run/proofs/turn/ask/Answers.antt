@@ -1,12 +1,7 @@
 use Rattle.std.proofs.Common.{◌≡◌, ℕ, [], length, refl, sym, ap, ◌∙◌, subst, inl, inr, arith, rules}
+use Rattle.pool_run.proofs.Imports.{begun_call, Frame, ModuleAsked, Reserved, memories_wanted, tables_wanted, module_asked, PlainHeap}
 use Rattle.pool_slots.specs.declared.errors.AllocError.TheVariants.{Memory}
-use Rattle.pool_alloc.specs.Calls.{begun_call}
 use Rattle.pool_alloc.specs.declared.frame.Call.TheVariants as call
-use Rattle.pool_alloc.specs.declared.frame.Frame.{Frame}
-use Rattle.pool_alloc.specs.Asked.{ModuleAsked}
-use Rattle.pool_alloc.specs.Reserved.{Reserved}
-use Rattle.pool_alloc.specs.Steps.{memories_wanted, tables_wanted}
-use Rattle.pool_alloc.specs.declared.frame.Asked.TheVariants.{Module as module_asked}
 use Rattle.pool_run.specs.Ties.{CanTurn, IsReserved}
 use Rattle.pool_run.specs.Turns.{Turned, Steps, replies, makes_step}
 use Rattle.pool_run.specs.declared.reply.Reply.TheVariants.{Refused}
@@ -16,7 +11,6 @@ use Rattle.pool_run.specs.declared.slot_lists.SlotLists.{SlotLists}
 use Rattle.pool_run.proofs.Parties.{called_module}
 use Rattle.pool_run.proofs.TurnsMade.{ok_there}
 use Rattle.pool_run.proofs.turn.ask.Goals as goal
-use Rattle.pool_slots.specs.declared.listed_heaps.PlainHeap.{PlainHeap}
 
 pub returns-in-Err-clause-turn : goal.returns-in-Err-clause-turn
 returns-in-Err-clause-turn g c = (replies (Refused (Alloc Memory)) c.args.party.now.live c.args.party.now.store, inl refl, c.end_at_once.ensures.turn c.args.core.now)

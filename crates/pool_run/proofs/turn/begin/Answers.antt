@@ -1,11 +1,10 @@
 use Rattle.std.proofs.Common.{refl, sym, subst}
-use Rattle.pool_alloc.specs.declared.pool_core.PoolCore.{PoolCore}
+use Rattle.pool_run.proofs.Imports.{PoolCore, PlainHeap}
 use Rattle.pool_run.specs.AtOnce.{given_act}
 use Rattle.pool_run.specs.Turns.{Turned, replies, OpensAct, TurnsFrom}
 use Rattle.pool_run.specs.declared.act.Act.{Act}
 use Rattle.pool_run.specs.declared.running_party.RunningParty.{RunningParty}
 use Rattle.pool_run.proofs.turn.begin.Goals as goal
-use Rattle.pool_slots.specs.declared.listed_heaps.PlainHeap.{PlainHeap}
 
 pub returns-in-OnMemory-clause-turn : goal.returns-in-OnMemory-clause-turn
 returns-in-OnMemory-clause-turn g c =

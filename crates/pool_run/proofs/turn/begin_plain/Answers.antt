@@ -1,12 +1,10 @@
 use Rattle.std.proofs.Common.{rules, sym, subst}
-use Rattle.pool_alloc.specs.declared.frame.Call.{Call}
-use Rattle.pool_alloc.specs.declared.frame.Frame.{Frame}
+use Rattle.pool_run.proofs.Imports.{Call, Frame, PlainHeap}
 use Rattle.pool_run.specs.Ties.{CanTurn, IsReserved}
 use Rattle.pool_run.specs.declared.running_party.RunningParty.{RunningParty}
 use Rattle.pool_run.proofs.Parties.{called_plain}
 use Rattle.pool_run.proofs.Reserving.{plain_reserved}
 use Rattle.pool_run.proofs.turn.begin_plain.Goals as goal
-use Rattle.pool_slots.specs.declared.listed_heaps.PlainHeap.{PlainHeap}
 
 pub step_call-requires : goal.step_call-requires
 step_call-requires g c κs within =

@@ -1,10 +1,6 @@
-use Rattle.std.proofs.Common.{rules, ◌≡◌, Some, None, sym, ap, ◌∙◌, subst, List, Option}
-use Rattle.std.specs.Prelude.{slice_index_or, slice_set}
-use Rattle.std.proofs.lemmas.List.{set-get_or}
-use Rattle.pool_alloc.specs.Calls.{begun_call}
+use Rattle.std.proofs.Common.{rules, ◌≡◌, Some, None, sym, ap, ◌∙◌, subst, List, Option, slice_index_or, slice_set}
+use Rattle.pool_run.proofs.Imports.{set-get_or, begun_call, Frame, Grant, PlainHeap}
 use Rattle.pool_alloc.specs.declared.frame.Call.TheVariants as call
-use Rattle.pool_alloc.specs.declared.frame.Frame.{Frame}
-use Rattle.pool_alloc.specs.declared.frame.Grant.{Grant}
 use Rattle.pool_run.specs.Ties.{CanTurn, IsReserved}
 use Rattle.pool_run.specs.Turns.{Turned, replies, drop_opening, ended_at_once}
 use Rattle.pool_run.specs.declared.reply.Reply.TheVariants.{Refused}
@@ -13,7 +9,6 @@ use Rattle.pool_run.specs.declared.running_party.RunningParty.{RunningParty}
 use Rattle.pool_run.proofs.Parties.{called_back}
 use Rattle.pool_run.proofs.Reserving.{back_reserved}
 use Rattle.pool_run.proofs.turn.give_back.Goals as goal
-use Rattle.pool_slots.specs.declared.listed_heaps.PlainHeap.{PlainHeap}
 
 pub step_call-requires : goal.step_call-requires
 step_call-requires g c κs within =

@@ -1,11 +1,10 @@
 use Rattle.std.proofs.Common.{rules}
-use Rattle.pool_alloc.specs.Turns.{After}
+use Rattle.pool_run.proofs.Imports.{After, PlainHeap}
 use Rattle.pool_run.proofs.Parties.{can_step}
 use Rattle.pool_run.proofs.Reserving.{memories_granted, tables_granted, step_reserved, reserved_there}
 use Rattle.pool_run.proofs.Stepped.{stepped}
 use Rattle.pool_run.proofs.TurnsMade.{place_for, steps_made}
 use Rattle.pool_run.proofs.turn.step_call.Goals as goal
-use Rattle.pool_slots.specs.declared.listed_heaps.PlainHeap.{PlainHeap}
 
 pub step_under-outcome-requires : goal.step_under-outcome-requires
 step_under-outcome-requires g c κs within =

@@ -1,5 +1,4 @@
-use Rattle.std.proofs.Common.{◌≡◌, length, drop}
-use Rattle.std.specs.Prelude.{nat_le}
+use Rattle.std.proofs.Common.{◌≡◌, length, drop, nat_le}
 use Rattle.pool_run.specs.Schedules.{turns_of}
 use Rattle.pool_run.specs.Validity.{most_steps}
 use Rattle.pool_run.proofs.validity.has_few_steps.Given as goal

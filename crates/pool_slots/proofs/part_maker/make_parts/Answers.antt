@@ -1,9 +1,6 @@
 use Rattle.std.proofs.Common.{rules, ◌≡◌, ◌+◌, ◌<◌, ◌^◌, ◌++◌, false, sym, subst, arith}
-use Rattle.std.specs.List.{AllByRecursion}
-use Rattle.std.proofs.lemmas.Result.{IfOk-weaker}
-use Rattle.pool_hall.specs.declared.unit_name.SlotKind.{SlotKind}
+use Rattle.pool_slots.proofs.Imports.{AllByRecursion, IfOk-weaker, SlotKind, MakerTold}
 use Rattle.pool_hall.specs.declared.unit_name.SlotKind.TheVariants as of_slot
-use Rattle.pool_pages.specs.MakerTold.{MakerTold}
 use Rattle.pool_slots.specs.PartsMade.{fails_some_slot, lists_some_making, SomeGivenUp, heaps_parts, HaveNumbers, AreMadeTo}
 use Rattle.pool_slots.specs.Plans.{allocators_of}
 use Rattle.pool_slots.specs.PlansMade.{heaps_from, places_planned, shards_planned}

@@ -1,7 +1,6 @@
 use Rattle.std.proofs.Common.{◌≡◌, ◌++◌, List, refl, sym, subst, ◌∙◌}
-use Rattle.std.specs.List.{AllByRecursion}
-use Rattle.std.proofs.lemmas.Result.{IfOk-weaker}
-use Rattle.pool_hall.specs.declared.unit_name.SlotKind.TheVariants.{Memory, Table, Stack, Heap}
+use Rattle.pool_slots.proofs.Imports.{AllByRecursion, IfOk-weaker, Table, Stack, Heap}
+use Rattle.pool_hall.specs.declared.unit_name.SlotKind.TheVariants.{Memory}
 use Rattle.pool_slots.specs.PartsMade.{HaveNumbers, shard_parts}
 use Rattle.pool_slots.specs.declared.plan.Allocator.{Allocator}
 use Rattle.pool_slots.specs.declared.plan.Plan.{Plan}

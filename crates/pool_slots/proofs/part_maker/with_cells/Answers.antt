@@ -1,6 +1,5 @@
-use Rattle.std.proofs.Common.{◌≡◌, ℕ, ◌+◌, ◌<◌, ◌∷◌, [], ◌++◌, ◌∙◌, List, Bool, false, sym, subst, ap, refl, arith}
-use Rattle.std.specs.Prelude.{IfSome}
-use Rattle.pool_pages.specs.MakerTold.{MakerTold, Planned, fails_making}
+use Rattle.std.proofs.Common.{◌≡◌, ℕ, ◌+◌, ◌<◌, ◌∷◌, [], ◌++◌, ◌∙◌, List, Bool, false, sym, subst, ap, refl, arith, IfSome}
+use Rattle.pool_slots.proofs.Imports.{told_weaker, told_both, MakerTold, Planned, fails_making}
 use Rattle.pool_slots.specs.Colourings.{RaisesUnlessGivenUp, RaisesBehindUnlessGivenUp}
 use Rattle.pool_slots.specs.Makings.{IsListedPoolFault}
 use Rattle.pool_slots.specs.PartsMade.{region_count, nth_region, region_name, slot_region, cell_part, cell_part_made, fails_slot, fails_some_slot, IsGivenUp, SomeGivenUp, AreMadeTo}
@@ -11,7 +10,7 @@ use Rattle.pool_slots.specs.declared.part.PoolPart.{PoolPart}
 use Rattle.pool_slots.specs.declared.part_maker.PartSettings.{PartSettings}
 use Rattle.pool_slots.specs.declared.striped_plan.StripedPlanSettings.{StripedPlanSettings}
 use Rattle.pool_slots.proofs.PartPlaces.{stacks_some, cell_behind}
-use Rattle.pool_slots.proofs.Plans.{NoneOf, none_of, behind_of, faults_of, none_more, mapped_told, both_told, any_told, listed_of, same_maker}
+use Rattle.pool_slots.proofs.Plans.{NoneOf, none_of, behind_of, faults_of, none_more, any_told, listed_of, same_maker}
 use Rattle.pool_slots.proofs.part_maker.with_cells.Goals as goal
 
 pub make_slot_region-made-requires-clause-guard : goal.make_slot_region-made-requires-clause-guard
@@ -92,7 +91,7 @@ loop-number-preserved g c =
       maker = same_maker (g.M.PageMaker.told c.loop-number.maker) (g.M.PageMaker.told c.make_slot_region-made.new.maker) c.in-Ok.ensures.maker c.in-Ok.ensures.behind c.in-Ok.ensures.faults ∙ c.loop-number.invariant.maker;
       borrows = c.in-Ok.ensures.borrows ∙ c.loop-number.invariant.borrows;
       listed = none_more (λ k. fails_making (region_name (nth k).0 (nth k).1) first.listed) n c.loop-number.invariant.listed unlisted;
-      planned = both_told (λ plan. NoneOf (f plan) n) (λ plan. f plan n ≡ false) (λ plan. NoneOf (f plan) (n + 1)) first.plan (λ plan none now. none_more (f plan) n none now) c.loop-number.invariant.planned passed;
+      planned = told_both (λ plan. NoneOf (f plan) n) (λ plan. f plan n ≡ false) (λ plan. NoneOf (f plan) (n + 1)) first.plan (λ plan none now. none_more (f plan) n none now) c.loop-number.invariant.planned passed;
     }
 
 pub returns-clause-made : goal.returns-clause-made
@@ -108,7 +107,7 @@ returns-clause-planned g c =
     let first : MakerTold = g.M.PageMaker.told c.args.maker.now in
     let f : List Planned → ℕ → Bool = λ plan k. fails_slot z.num_stripes s (nth_region z.totals k).0 (nth_region z.totals k).1 plan in
     let last : c.loop-number.number ≡ region_count z.totals = omega (arith, c.loop-number-test.false, c.loop-number.auto.number-end, c.region_count-number-end.ensures) in
-    mapped_told (λ plan. NoneOf (f plan) c.loop-number.number) (λ plan. fails_some_slot z s plan ≡ false) first.plan (λ plan none. none_of (f plan) (region_count z.totals) (subst (NoneOf (f plan)) last none)) c.loop-number.invariant.planned
+    told_weaker (λ plan. NoneOf (f plan) c.loop-number.number) (λ plan. fails_some_slot z s plan ≡ false) first.plan (λ plan none. none_of (f plan) (region_count z.totals) (subst (NoneOf (f plan)) last none)) c.loop-number.invariant.planned
 
 pub returns-clause-listed : goal.returns-clause-listed
 returns-clause-listed g c =

@@ -1,5 +1,4 @@
-use Rattle.std.proofs.Common.{◌≡◌, ℕ, ◌+◌}
-use Rattle.std.specs.Prelude.{IfSome}
+use Rattle.std.proofs.Common.{◌≡◌, ℕ, ◌+◌, IfSome}
 use Rattle.pool_pages.specs.MakerTold.{fails_making}
 use Rattle.pool_slots.proofs.Plans.{NoneOf}
 use Rattle.pool_slots.specs.PartsMade.{nth_region, region_name, fails_slot, AreMadeTo}

@@ -1,5 +1,5 @@
 use Rattle.std.proofs.Common.{◌≡◌, ◌<◌, Bool, true, ◌&&◌, sym, ap, ◌∙◌, subst, arith}
-use Rattle.pool_pages.specs.SettingsRules.{is_address}
+use Rattle.pool_types.specs.SettingsRules.{is_address}
 use Rattle.pool_slots.specs.declared.slab.SlabConstraints.{SlabConstraints}
 use Rattle.pool_slots.specs.declared.slab.SlabLayout.{SlabLayout}
 use Rattle.pool_slots.specs.Slabs.{IsLayout, SlotsLieApart, faulting_region, has_room, layout_of, total_bytes}

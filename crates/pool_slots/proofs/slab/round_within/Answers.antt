@@ -1,7 +1,5 @@
 use Rattle.std.proofs.Common.{◌≡◌, ℕ, ◌*◌, ◌%◌, ◌<◌, ap, ◌∙◌, arith}
-use Rattle.std.specs.Int.{div_ceil}
-use Rattle.std.proofs.Math.Nat.{mul-mod_left}
-use Rattle.pool_pages.specs.Count.{count}
+use Rattle.pool_slots.proofs.Imports.{div_ceil, mul-mod_left, count}
 use Rattle.pool_slots.proofs.Layouts.{rounded_by_pages}
 use Rattle.pool_slots.proofs.slab.round_within.Goals as goal
 

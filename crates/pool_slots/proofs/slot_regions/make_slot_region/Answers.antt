@@ -1,7 +1,5 @@
-use Rattle.std.proofs.Common.{◌≡◌, ℕ, Option, sym, subst}
-use Rattle.std.specs.Prelude.{Result, MatchResult}
-use Rattle.pool_pages.specs.Told.{Told}
-use Rattle.pool_pages.specs.MakerTold.{MakerTold, fails_making}
+use Rattle.std.proofs.Common.{◌≡◌, ℕ, Option, sym, subst, Result, MatchResult}
+use Rattle.pool_slots.proofs.Imports.{Told, MakerTold, fails_making}
 use Rattle.pool_pages.specs.declared.pages.RegionName.TheVariants.{Memory}
 use Rattle.pool_slots.specs.Colourings.{RaisesBehindUnlessGivenUp, IsUncoloured}
 use Rattle.pool_slots.specs.PartsMade.{region_name, IsGivenUp}

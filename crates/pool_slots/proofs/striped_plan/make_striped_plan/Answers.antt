@@ -1,8 +1,5 @@
-use Rattle.std.proofs.Common.{◌≡◌, ◌<◌, ◌^◌, List, subst, arith}
-use Rattle.std.specs.Prelude.{IfOk}
-use Rattle.std.specs.List.{AllByRecursion}
-use Rattle.std.proofs.lemmas.Result.{IfOk-weaker}
-use Rattle.pool_hall.specs.declared.unit_name.SlotKind.{SlotKind}
+use Rattle.std.proofs.Common.{◌≡◌, ◌<◌, ◌^◌, List, subst, arith, IfOk}
+use Rattle.pool_slots.proofs.Imports.{AllByRecursion, IfOk-weaker, SlotKind}
 use Rattle.pool_slots.specs.SlotNames.{of_kind}
 use Rattle.pool_slots.specs.Plans.{allocators_of, home_of, IsPlacedAllocator, IsPlanned, IsAtHome}
 use Rattle.pool_slots.specs.PlansMade.{IsPlanWith, places_planned}

@@ -1,7 +1,5 @@
-use Rattle.std.proofs.Common.{◌≡◌, ℕ, ◌-◌, ◌<◌, length, ap, ◌∙◌, arith}
-use Rattle.std.specs.Prelude.{slice_set}
-use Rattle.pool_pages.specs.Contents.{put_all}
-use Rattle.pool_pages.proofs.PageRuns.{mark_more}
+use Rattle.std.proofs.Common.{◌≡◌, ℕ, ◌-◌, ◌<◌, length, ap, ◌∙◌, arith, slice_set}
+use Rattle.pool_table.proofs.Imports.{put_all, mark_more}
 use Rattle.pool_table.proofs.dynamic_elements.fill_items.Goals as goal
 
 pub loop-index-preserved : goal.loop-index-preserved

@@ -1,8 +1,5 @@
-use Rattle.std.proofs.Common.{◌≡◌, ◌/◌, ◌<◌, ◌≤◌, ◌^◌, ℕ, Bool, Ok, refl, sym, ap, ◌∙◌, subst, arith}
-use Rattle.std.specs.Prelude.{min}
-use Rattle.pool_pages.specs.Count.{Count}
-use Rattle.pool_pages.specs.Told.{Told}
-use Rattle.pool_pages.specs.declared.table_type.TableType.{TableType}
+use Rattle.std.proofs.Common.{◌≡◌, ◌/◌, ◌<◌, ◌≤◌, ◌^◌, ℕ, Bool, Ok, refl, sym, ap, ◌∙◌, subst, arith, min}
+use Rattle.pool_table.proofs.Imports.{Count, Told, TableType}
 use Rattle.pool_table.specs.Elements.{element_size}
 use Rattle.pool_table.specs.Tables.{IsTable, type_maximum}
 use Rattle.pool_table.specs.Views.{in_region}

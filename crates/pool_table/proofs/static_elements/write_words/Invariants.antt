@@ -1,6 +1,5 @@
 use Rattle.std.proofs.Common.{replicate}
-use Rattle.std.specs.List.{concat}
-use Rattle.pool_pages.specs.Told.{TellsShaped}
+use Rattle.pool_table.proofs.Imports.{concat, TellsShaped}
 use Rattle.pool_table.specs.Tables.{Rewrites}
 use Rattle.pool_table.proofs.static_elements.write_words.Given as goal
 

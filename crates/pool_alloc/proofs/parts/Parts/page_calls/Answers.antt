@@ -1,6 +1,5 @@
 use Rattle.std.proofs.Common.{◌∙◌, ap, take}
-use Rattle.pool_pages.specs.declared.pages.PageCalls.{PageCalls}
-use Rattle.pool_pages.specs.CallSums.{added}
+use Rattle.pool_alloc.proofs.Imports.{PageCalls, added}
 use Rattle.pool_alloc.specs.Sums.{part_calls, calls_of_parts}
 use Rattle.pool_alloc.proofs.Totals.{parts_more}
 use Rattle.pool_alloc.proofs.parts.Parts.page_calls.Goals as goal

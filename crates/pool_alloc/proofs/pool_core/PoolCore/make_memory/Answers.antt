@@ -1,5 +1,4 @@
-use Rattle.std.proofs.Common.{◌∙◌, ap, length}
-use Rattle.std.specs.Prelude.{slice_get}
+use Rattle.std.proofs.Common.{◌∙◌, ap, length, slice_get}
 use Rattle.pool_memory.specs.Making.{static_limiter_answer}
 use Rattle.pool_alloc.specs.Steps.{memories_wanted}
 use Rattle.pool_alloc.specs.Turns.{stepped}

@@ -1,10 +1,9 @@
-use Rattle.std.proofs.Common.{◌∙◌, ap, length, Option}
-use Rattle.std.specs.Prelude.{slice_get}
-use Rattle.pool_pages.specs.declared.table_type.TableType.{TableType}
+use Rattle.std.proofs.Common.{◌∙◌, ap, length, Option, slice_get}
+use Rattle.pool_alloc.proofs.Imports.{told_weaker, TableType}
 use Rattle.pool_alloc.specs.Steps.{tables_wanted}
 use Rattle.pool_alloc.specs.Turns.{stepped}
 use Rattle.pool_alloc.proofs.Makings.{table_in_code}
-use Rattle.pool_alloc.proofs.Telling.{told_there, told_weaker}
+use Rattle.pool_alloc.proofs.Telling.{told_there}
 use Rattle.pool_alloc.proofs.pool_core.PoolCore.make_table.Goals as goal
 
 pub returns : goal.returns

@@ -1,8 +1,5 @@
 use Rattle.std.proofs.Common.{◌≡◌, rules, true, false, List, sym, subst, is_ok}
-use Rattle.pool_images.specs.Slots.{Slot}
-use Rattle.pool_images.specs.declared.ranges.ByteRange.{ByteRange}
-use Rattle.pool_pages.specs.declared.pages.DecommitBehavior.TheVariants.{Zero}
-use Rattle.pool_slots.specs.SlotQueues.{Queued, IsReset}
+use Rattle.pool_alloc.proofs.Imports.{Slot, ByteRange, Zero, Queued, IsReset}
 use Rattle.pool_alloc.specs.Answers.{Resets}
 use Rattle.pool_alloc.specs.Leases.{slot_taken}
 use Rattle.pool_alloc.proofs.LocalQueues.{memory_queued, memory_reset, reset_told, zeros_of}

@@ -1,6 +1,5 @@
 use Rattle.std.proofs.Common.{◌≡◌, false, sym, ◌∙◌}
-use Rattle.std.specs.List.{list_any}
-use Rattle.pool_slots.specs.SlotQueues.{Queue, is_to_zero}
+use Rattle.pool_alloc.proofs.Imports.{list_any, Queue, is_to_zero}
 use Rattle.pool_alloc.specs.Rows.{settled_step, put_step}
 use Rattle.pool_alloc.proofs.FlushCalls.{settled_puts, zeroed_none, can_flush_as, settles_as}
 use Rattle.pool_alloc.proofs.pool_core.PoolCore.settle.Goals as goal

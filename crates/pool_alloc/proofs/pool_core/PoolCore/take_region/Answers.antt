@@ -1,6 +1,5 @@
 use Rattle.std.proofs.Common.{ℕ, sym, ap, ◌∙◌}
-use Rattle.pool_slots.specs.Parts.{part_at, cell_of_part}
-use Rattle.pool_slots.specs.declared.part.PoolPart.{PoolPart}
+use Rattle.pool_alloc.proofs.Imports.{part_at, cell_of_part, PoolPart}
 use Rattle.pool_alloc.proofs.pool_core.PoolCore.take_region.Goals as goal
 
 pub take_region-requires-clause-fresh : goal.take_region-requires-clause-fresh

@@ -1,11 +1,6 @@
-use Rattle.std.proofs.Common.{◌≡◌, ℕ, ◌<◌, ◌≤◌, refl, sym, ap, subst, ◌∙◌, arith}
-use Rattle.std.specs.Prelude.{false, Some}
+use Rattle.std.proofs.Common.{◌≡◌, ℕ, ◌<◌, ◌≤◌, refl, sym, ap, subst, ◌∙◌, arith, false, Some}
+use Rattle.pool_alloc.proofs.Imports.{MakerTold, IsWithinRules, HaveGuards, PartSettings, StripedPlanSettings}
 use Rattle.pool_alloc.specs.declared.frame.FrameLists.{FrameLists}
-use Rattle.pool_pages.specs.MakerTold.{MakerTold}
-use Rattle.pool_pages.specs.SettingsRules.{IsWithinRules}
-use Rattle.pool_slots.specs.PartsMade.{HaveGuards}
-use Rattle.pool_slots.specs.declared.part_maker.PartSettings.{PartSettings}
-use Rattle.pool_slots.specs.declared.striped_plan.StripedPlanSettings.{StripedPlanSettings}
 use Rattle.pool_alloc.specs.Made.{settings_of}
 use Rattle.pool_alloc.proofs.Advancing.{told_of_none}
 use Rattle.pool_alloc.proofs.MadeNumbers.{fails_in, fault_in, listed_as, raises_in, behind_in, plan_in, few_in, parts_in}

@@ -1,5 +1,4 @@
-use Rattle.std.proofs.Common.{◌≡◌, ◌+◌, length}
-use Rattle.std.specs.Prelude.{drop}
+use Rattle.std.proofs.Common.{◌≡◌, ◌+◌, length, drop}
 use Rattle.pool_alloc.specs.Releases.{not_resident}
 use Rattle.pool_alloc.proofs.release.ReleaseCursor.next_resident.Given as goal
 

@@ -1,5 +1,4 @@
-use Rattle.std.proofs.Common.{◌≡◌, ◌<◌, List, length, refl}
-use Rattle.std.specs.Prelude.{slice_index_or}
+use Rattle.std.proofs.Common.{◌≡◌, ◌<◌, List, length, refl, slice_index_or}
 use Rattle.std.proofs.lemmas.List.{get_or_read}
 use Rattle.pool_alloc.specs.TableLeases.{LeasedTable}
 use Rattle.pool_alloc.proofs.table_lease.ReservedList+TableLease+P.grow.Goals as goal

@@ -1,5 +1,4 @@
-use Rattle.std.proofs.Common.{◌+◌, ◌≤◌, Option, Bor, length, true, sym, subst}
-use Rattle.std.specs.Prelude.{option_map}
+use Rattle.std.proofs.Common.{◌+◌, ◌≤◌, Option, Bor, length, true, sym, subst, option_map}
 use Rattle.pool_images.specs.Images.{Image}
 use Rattle.pool_images.specs.Slots.{Slot, IsBegun}
 use Rattle.pool_images.proofs.Begun.{begun, if_mapped}

@@ -1,6 +1,5 @@
 use Rattle.std.proofs.Common.{◌≡◌, sym, ap, subst, arith}
-use Rattle.pool_pages.specs.Count.{Count}
-use Rattle.pool_pages.specs.Told.{Told}
+use Rattle.pool_images.proofs.Imports.{Count, Told}
 use Rattle.pool_images.specs.Slots.{IsFresh}
 use Rattle.pool_images.proofs.Making.{fresh_keeps, fresh_clean}
 use Rattle.pool_images.proofs.image_slot.MemoryImageSlot.create.Goals as goal

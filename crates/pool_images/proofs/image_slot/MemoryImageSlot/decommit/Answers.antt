@@ -1,5 +1,5 @@
 use Rattle.std.proofs.Common.{◌≡◌, ◌+◌, ap}
-use Rattle.pool_pages.specs.Count.{Count}
+use Rattle.pool_types.specs.Count.{Count}
 use Rattle.pool_images.specs.Slots.{Slot}
 use Rattle.pool_images.proofs.Decommits.{clean_ok, clean_err}
 use Rattle.pool_images.proofs.Fitting.{keeps_decommitted}

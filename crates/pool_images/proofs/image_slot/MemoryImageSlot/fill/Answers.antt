@@ -1,7 +1,5 @@
-use Rattle.std.proofs.Common.{◌≡◌, ℕ, ◌+◌, ◌≤◌, List, replicate, sym, subst, true, arith}
-use Rattle.std.specs.Prelude.{IfSome}
-use Rattle.std.proofs.lemmas.List.{length-replicate}
-use Rattle.pool_pages.specs.Told.{Told, TellsShaped, overwritten}
+use Rattle.std.proofs.Common.{◌≡◌, ℕ, ◌+◌, ◌≤◌, List, replicate, sym, subst, true, arith, IfSome}
+use Rattle.pool_images.proofs.Imports.{length-replicate, Told, TellsShaped, overwritten}
 use Rattle.pool_images.specs.Slots.{Slot, Keeps, IsReady}
 use Rattle.pool_images.proofs.Making.{reach_slot, written_keeps, written_ready}
 use Rattle.pool_images.proofs.image_slot.MemoryImageSlot.fill.Goals as goal

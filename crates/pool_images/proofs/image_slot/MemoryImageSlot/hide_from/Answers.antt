@@ -1,5 +1,5 @@
 use Rattle.std.proofs.Common.{◌≡◌, ◌+◌, ◌-◌, sym, ap, subst, ◌∙◌, arith}
-use Rattle.pool_pages.specs.Count.{Count}
+use Rattle.pool_types.specs.Count.{Count}
 use Rattle.pool_images.specs.Slots.{Slot, IsClean}
 use Rattle.pool_images.proofs.Ready.{hidden_clean}
 use Rattle.pool_images.proofs.image_slot.MemoryImageSlot.hide_from.Goals as goal

@@ -1,7 +1,5 @@
-use Rattle.std.proofs.Common.{◌≡◌, ℕ, Option, Bool, ap, subst, ◌∙◌}
-use Rattle.std.specs.Prelude.{IfSome, OnOk, is_ok, option_map}
-use Rattle.std.specs.Arc.{arc_value}
-use Rattle.pool_pages.specs.Count.{rounded_up}
+use Rattle.std.proofs.Common.{◌≡◌, ℕ, Option, Bool, ap, subst, ◌∙◌, IfSome, OnOk, is_ok, option_map}
+use Rattle.pool_images.proofs.Imports.{arc_value, rounded_up}
 use Rattle.pool_images.specs.Images.{Image}
 use Rattle.pool_images.specs.Orders.{Follows, replacing}
 use Rattle.pool_images.specs.Slots.{Slot, replaced, HasImage, hides}

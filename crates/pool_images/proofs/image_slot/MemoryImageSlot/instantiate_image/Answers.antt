@@ -1,6 +1,5 @@
-use Rattle.std.proofs.Common.{◌≡◌, Bor, ap}
-use Rattle.std.specs.Prelude.{option_map}
-use Rattle.pool_pages.specs.Count.{Count, rounded_up}
+use Rattle.std.proofs.Common.{◌≡◌, Bor, ap, option_map}
+use Rattle.pool_types.specs.Count.{Count, rounded_up}
 use Rattle.pool_images.specs.Images.{Image}
 use Rattle.pool_images.specs.Slots.{Slot}
 use Rattle.pool_images.proofs.Sizes.{sized_of}

@@ -1,5 +1,5 @@
 use Rattle.std.proofs.Common.{◌≡◌, ◌+◌, ap, arith}
-use Rattle.pool_pages.specs.Count.{Count}
+use Rattle.pool_types.specs.Count.{Count}
 use Rattle.pool_images.specs.Slots.{Slot}
 use Rattle.pool_images.proofs.Making.{none_mapped}
 use Rattle.pool_images.proofs.Fitting.{keeps_mapped}

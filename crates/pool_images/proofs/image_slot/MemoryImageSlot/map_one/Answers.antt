@@ -1,5 +1,5 @@
 use Rattle.std.proofs.Common.{◌≡◌, length, Some, true, sym, ap, subst, ◌∙◌}
-use Rattle.pool_pages.specs.Count.{Count}
+use Rattle.pool_types.specs.Count.{Count}
 use Rattle.pool_images.specs.Images.{Image}
 use Rattle.pool_images.specs.declared.image_slot.ImageName.{ImageName}
 use Rattle.pool_images.specs.Slots.{Slot, IsBegun, name_of}

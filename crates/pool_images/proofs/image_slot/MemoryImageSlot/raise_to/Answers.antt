@@ -1,5 +1,5 @@
 use Rattle.std.proofs.Common.{◌≡◌, ◌-◌, sym, ap, subst, ◌∙◌}
-use Rattle.pool_pages.specs.Count.{Count}
+use Rattle.pool_types.specs.Count.{Count}
 use Rattle.pool_images.specs.Slots.{Slot, OnlyExposed}
 use Rattle.pool_images.proofs.Kept.{kept_ok, kept_err}
 use Rattle.pool_images.proofs.image_slot.MemoryImageSlot.raise_to.Goals as goal

@@ -1,5 +1,4 @@
-use Rattle.std.proofs.Common.{Bool, ap, sym, subst, true, false, Bor}
-use Rattle.std.specs.Prelude.{option_map}
+use Rattle.std.proofs.Common.{Bool, ap, sym, subst, true, false, Bor, option_map}
 use Rattle.pool_pages.specs.Told.{Told}
 use Rattle.pool_images.specs.Images.{Image}
 use Rattle.pool_images.specs.Orders.{Follows, replacing}

@@ -1,5 +1,4 @@
-use Rattle.std.proofs.Common.{◌≡◌, ℕ, ◌%◌, List, min, sym, ap, subst, ◌∙◌}
-use Rattle.std.specs.Prelude.{All}
+use Rattle.std.proofs.Common.{◌≡◌, ℕ, ◌%◌, List, min, sym, ap, subst, ◌∙◌, All}
 use Rattle.pool_images.specs.declared.ranges.ByteRange.{ByteRange}
 use Rattle.pool_images.specs.Slots.{Slot, IsClean, IsPart, size_of, cleared, reset_ranges, decommitted_all}
 use Rattle.pool_images.proofs.Resets.{reset_clean, kept_clean, reset_parts}

@@ -1,6 +1,5 @@
-use Rattle.std.proofs.Common.{◌≡◌, ℕ, None, false, sym, ap, subst, ◌∙◌}
-use Rattle.std.specs.Prelude.{IfSome}
-use Rattle.pool_pages.specs.Count.{Count, count}
+use Rattle.std.proofs.Common.{◌≡◌, ℕ, None, false, sym, ap, subst, ◌∙◌, IfSome}
+use Rattle.pool_types.specs.Count.{Count, count}
 use Rattle.pool_images.specs.Slots.{Slot, IsClean, IsShut, size_of}
 use Rattle.pool_images.proofs.Wiped.{size_whole, wiped_clean, wiped_is, wiped_shut}
 use Rattle.pool_images.proofs.image_slot.MemoryImageSlot.reset_with_anon_memory.Goals as goal

@@ -1,5 +1,5 @@
 use Rattle.std.proofs.Common.{◌≡◌, None, sym, ap, subst, ◌∙◌}
-use Rattle.pool_pages.specs.Count.{Count}
+use Rattle.pool_types.specs.Count.{Count}
 use Rattle.pool_images.specs.Slots.{Slot, IsClean}
 use Rattle.pool_images.proofs.Unmapped.{clean_without, unmapped_is}
 use Rattle.pool_images.proofs.image_slot.MemoryImageSlot.unmap.Goals as goal

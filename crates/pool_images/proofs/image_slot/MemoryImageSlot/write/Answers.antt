@@ -1,5 +1,4 @@
-use Rattle.std.proofs.Common.{◌≡◌, ◌+◌, length, sym, subst, true}
-use Rattle.std.specs.Prelude.{IfSome}
+use Rattle.std.proofs.Common.{◌≡◌, ◌+◌, length, sym, subst, true, IfSome}
 use Rattle.pool_pages.specs.Told.{Told, TellsShaped, overwritten}
 use Rattle.pool_images.specs.Slots.{Slot, Keeps, IsReady}
 use Rattle.pool_images.proofs.Making.{reach_slot, written_keeps, written_ready}

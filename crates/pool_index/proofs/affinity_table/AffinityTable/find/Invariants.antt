@@ -1,5 +1,4 @@
-use Rattle.std.proofs.Common.{◌≡◌, ℕ, ◌<◌, false}
-use Rattle.std.specs.Prelude.{None, slice_index_or}
+use Rattle.std.proofs.Common.{◌≡◌, ℕ, ◌<◌, false, None, slice_index_or}
 use Rattle.pool_index.specs.Table.{has, place}
 use Rattle.pool_index.proofs.affinity_table.AffinityTable.find.Given as goal
 

@@ -1,6 +1,4 @@
-use Rattle.std.proofs.Common.{◌≡◌, ◌∙◌, sym, subst}
-use Rattle.std.proofs.Common.{arith, Some}
-use Rattle.std.specs.Prelude.{None, slice_index_or}
+use Rattle.std.proofs.Common.{◌≡◌, ◌∙◌, sym, subst, arith, Some, None, slice_index_or}
 use Rattle.std.proofs.lemmas.Grind.{common_steps}
 use Rattle.pool_index.specs.TableFields.{IsTable}
 use Rattle.pool_index.proofs.Tables.{Entries, none_has, found_ends, has_own}

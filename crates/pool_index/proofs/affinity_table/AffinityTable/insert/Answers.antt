@@ -1,5 +1,4 @@
-use Rattle.std.proofs.Common.{◌+◌, ◌∙◌, rules, arith, subst, sym}
-use Rattle.std.specs.Prelude.{Option, slice_set}
+use Rattle.std.proofs.Common.{◌+◌, ◌∙◌, rules, arith, subst, sym, Option, slice_set}
 use Rattle.std.proofs.lemmas.Grind.{common_steps}
 use Rattle.pool_index.specs.Table.{ends_at, ends_len, table_total}
 use Rattle.pool_index.specs.TableFields.{IsTable}

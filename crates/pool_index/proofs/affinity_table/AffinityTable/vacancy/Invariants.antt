@@ -1,5 +1,4 @@
-use Rattle.std.proofs.Common.{◌≡◌, ℕ, ◌<◌, true}
-use Rattle.std.specs.Prelude.{None, is_some, slice_index_or}
+use Rattle.std.proofs.Common.{◌≡◌, ℕ, ◌<◌, true, None, is_some, slice_index_or}
 use Rattle.pool_index.specs.Table.{place}
 use Rattle.pool_index.proofs.affinity_table.AffinityTable.vacancy.Given as goal
 

@@ -1,5 +1,4 @@
-use Rattle.std.proofs.Common.{◌≡◌, ℕ, ◌+◌, ◌++◌, ◌∷◌, [], length, sym, ◌∙◌, subst, arith}
-use Rattle.std.specs.Prelude.{Some}
+use Rattle.std.proofs.Common.{◌≡◌, ℕ, ◌+◌, ◌++◌, ◌∷◌, [], length, sym, ◌∙◌, subst, arith, Some}
 use Rattle.pool_hall.specs.Seat.{view}
 use Rattle.pool_index.specs.Allocator.{made_of, limits_in}
 use Rattle.pool_index.specs.Part.{shard_meaning}

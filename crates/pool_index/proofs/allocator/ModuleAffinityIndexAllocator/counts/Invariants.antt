@@ -1,7 +1,5 @@
-use Rattle.std.specs.Prelude.{◌≡◌, List, Some}
-use Rattle.pool_hall.specs.declared.unit_name.UnitName.{UnitName}
-use Rattle.pool_hall.specs.Unit.{times}
-use Rattle.pool_hall.specs.Seat.{view}
+use Rattle.std.proofs.Common.{◌≡◌, List, Some}
+use Rattle.pool_index.proofs.Imports.{UnitName, times, view}
 use Rattle.pool_index.specs.Allocator.{made_of, limits_in, IsIndexSeat}
 use Rattle.pool_index.specs.Part.{shard_meaning}
 use Rattle.pool_index.specs.Round.{HeldInTurn, KeepsCounts, KeepsRest}

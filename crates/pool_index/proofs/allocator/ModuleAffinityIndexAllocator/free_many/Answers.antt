@@ -1,6 +1,7 @@
-use Rattle.std.proofs.Common.{◌∙◌, arith}
+use Rattle.std.proofs.Common.{arith}
 use Rattle.pool_hall.specs.Seat.{view}
 use Rattle.pool_index.proofs.Counted.{next_there, gave_more, rest_both}
+use Rattle.pool_index.proofs.FreedSlots.{freed_more, bytes_more}
 use Rattle.pool_index.proofs.allocator.ModuleAffinityIndexAllocator.free_many.Goals as goal
 
 pub free-requires-clause-unit : goal.free-requires-clause-unit
@@ -13,6 +14,7 @@ loop-at-preserved g c =
     record {
       seat = did.seat;
       gave = gave_more c.args.items.now c.loop-at.at _ (omega arith) (view c.args.seat.now) (view c.loop-at.seat) had.gave (view c.free.new.seat) did.units;
-      counts = λ p i. did.counts p i ∙ had.counts p i;
+      freed = freed_more c.args.self.now c.args.items.now c.loop-at.at _ (omega arith) (view c.args.seat.now) (view c.loop-at.seat) (view c.free.new.seat) had.freed did.freed;
+      counts = bytes_more c.args.self.now c.args.items.now c.loop-at.at _ (omega arith) (view c.args.seat.now) (view c.loop-at.seat) (view c.free.new.seat) had.counts did.counts;
       rest = rest_both (view c.args.seat.now) (view c.loop-at.seat) (view c.free.new.seat) had.rest did.rest;
     }

@@ -1,5 +1,4 @@
-use Rattle.std.proofs.Common.{◌≡◌, length, ap, ◌∙◌, sym, subst, arith}
-use Rattle.std.specs.Prelude.{List, [], All}
+use Rattle.std.proofs.Common.{◌≡◌, length, ap, ◌∙◌, sym, subst, arith, List, [], All}
 use Rattle.pool_hall.specs.Meaning.{AllFresh}
 use Rattle.pool_index.specs.Shard.{ShardState, IsShard}
 use Rattle.pool_index.specs.Part.{shard_meaning}

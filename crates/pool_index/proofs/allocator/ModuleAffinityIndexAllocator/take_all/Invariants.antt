@@ -1,5 +1,4 @@
-use Rattle.std.proofs.Common.{◌≡◌, ℕ, ◌*◌, ◌^◌, ◌≤◌, List, [], length, min}
-use Rattle.std.specs.Prelude.{All, Some, flat_map}
+use Rattle.std.proofs.Common.{◌≡◌, ℕ, ◌*◌, ◌^◌, ◌≤◌, List, [], length, min, All, Some, flat_map}
 use Rattle.pool_hall.specs.Seat.{view}
 use Rattle.pool_index.specs.Allocator.{made_of, limits_in, IsIndexSeat}
 use Rattle.pool_index.specs.Freed.{taken_outside, units_of_slots}

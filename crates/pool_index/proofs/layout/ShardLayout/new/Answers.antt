@@ -1,8 +1,5 @@
-use Rattle.std.proofs.Common.{◌≡◌, ℕ, ◌+◌, ◌∙◌, ◌++◌, ◌∷◌, [], ap, arith}
-use Rattle.std.specs.Prelude.{map, sum_by}
-use Rattle.std.specs.List.{range_with_len}
-use Rattle.std.proofs.lemmas.Grind.{common_steps}
-use Rattle.std.proofs.lemmas.List.FromFn.{map-range_with_len_more}
+use Rattle.std.proofs.Common.{◌≡◌, ℕ, ◌+◌, ◌∙◌, ◌++◌, ◌∷◌, [], ap, arith, map, sum_by}
+use Rattle.pool_index.proofs.Imports.{range_with_len, common_steps, map-range_with_len_more}
 use Rattle.pool_index.specs.Layout.{shard_at, layout}
 use Rattle.pool_index.proofs.Layouts.{layout_slots, layout_budgets}
 use Rattle.pool_index.proofs.layout.ShardLayout.new.Goals as goal

@@ -1,5 +1,4 @@
-use Rattle.std.proofs.Common.{◌≡◌}
-use Rattle.std.specs.Prelude.{map}
+use Rattle.std.proofs.Common.{◌≡◌, map}
 use Rattle.std.specs.List.{range_with_len}
 use Rattle.pool_index.specs.Layout.{shard_at}
 use Rattle.pool_index.proofs.layout.ShardLayout.new.Given as goal

@@ -1,5 +1,4 @@
-use Rattle.std.proofs.Common.{◌∙◌, sym, ap, arith, subst}
-use Rattle.std.specs.Prelude.{All, None, IsSome, slice_index_or}
+use Rattle.std.proofs.Common.{◌∙◌, sym, ap, arith, subst, All, None, IsSome, slice_index_or}
 use Rattle.pool_index.specs.Lists.{SlotLists, use_again}
 use Rattle.std.proofs.lemmas.Grind.{common_steps}
 use Rattle.pool_index.specs.Shard.{ShardState, use_of, taken_slots}

@@ -1,5 +1,4 @@
-use Rattle.std.proofs.Common.{◌≡◌, ◌∙◌, ◌≤◌, ◌<◌, ◌+◌, ◌++◌, ◌∷◌, [], ℕ, sym, ap, subst, arith, length, Some}
-use Rattle.std.specs.Prelude.{Option, None, slice_set, if◌then◌else◌}
+use Rattle.std.proofs.Common.{◌≡◌, ◌∙◌, ◌≤◌, ◌<◌, ◌+◌, ◌++◌, ◌∷◌, [], ℕ, sym, ap, subst, arith, length, Some, Option, None, slice_set, if◌then◌else◌}
 use Rattle.pool_index.specs.Links.{ends_last, ends_with}
 use Rattle.pool_index.specs.Records.{record_of, appended}
 use Rattle.pool_index.specs.Table.{ends_at, ends_len, table_total, same_affinity}
@@ -10,6 +9,8 @@ use Rattle.pool_index.specs.declared.slot_row.SlotRecord.TheVariants.{Used, Warm
 use Rattle.pool_index.proofs.Records.{Within, used_within}
 use Rattle.pool_index.proofs.Freeing.{freed_record, freed_rows, freed_within_now, affine_within_now, freed_length, affine_few}
 use Rattle.pool_index.proofs.Views.{free_woven, free_shown, shown_length, shown_used, shown_bytes, shown_len}
+use Rattle.pool_index.specs.Records.{link_accesses}
+use Rattle.pool_index.proofs.Ticks.{freed_ticks, affine_ticks}
 use Rattle.pool_index.proofs.slot_lists.SlotLists.free.Goals as goal
 
 pub append-requires : goal.append-requires
@@ -105,3 +106,14 @@ returns-clause-after g c =
     let ends : (a : Option MemoryInModule) → ends_at c.put.new.self a ≡ (if same_affinity a c.in-Used.affinity then ends_with (ends_at c.self.inside.table c.in-Used.affinity) c.args.slot.0 else ends_at c.self.inside.table a) =
     λ a. c.put.ensures.ends a ∙ (λ k. if same_affinity a c.in-Used.affinity then more k else ends_at c.self.inside.table a) in
     free_shown c.self.inside.rows c.self.inside.table c.self.inside.freed c.self.inside.bytes c.self.invariant.slots c.self.invariant.woven c.args.self.now c.self.view_is c.args.slot.0 c.in-Used.affinity c.args.bytes here inside c.append-2.new.self c.put.new.self (Some c.with-2.result) rows c.with-2.ensures ends total
+
+pub returns-clause-steps : goal.returns-clause-steps
+returns-clause-steps g c =
+    let here : record_of c.self.inside.rows c.args.slot.0 ≡ Used c.in-Used.affinity = sym c.read.ensures.value ∙ c.in-Used.is in
+    let first = ap link_accesses c.last_of.ensures ∙ freed_ticks c.self.inside.rows c.self.inside.table c.self.inside.freed c.self.inside.bytes c.self.invariant.slots c.self.invariant.woven c.args.self.now c.self.view_is in
+    let second = ap link_accesses (c.last_of-2.ensures ∙ ap ends_last c.get-affine.ensures) ∙ affine_ticks c.self.inside.rows c.self.inside.table c.self.inside.freed c.self.inside.bytes c.self.invariant.slots c.self.invariant.woven c.args.self.now c.self.view_is c.args.slot.0 c.in-Used.affinity here in
+    let read = c.read.ensures.steps in
+    let replaced = c.replace.ensures.steps in
+    let freed = c.append.ensures.steps in
+    let affine = c.append-2.ensures.steps in
+    omega arith

@@ -1,7 +1,6 @@
-use Rattle.std.proofs.Common.{◌≡◌, ◌*◌, arith, max, ap, ◌∙◌, length}
+use Rattle.std.proofs.Common.{◌≡◌, ◌*◌, arith, max, ap, ◌∙◌, length, None}
 use Rattle.std.proofs.lemmas.List.{length-replicate}
 use Rattle.pool_index.specs.declared.slot_row.SlotRecord.TheVariants.{Cold}
-use Rattle.std.specs.Prelude.{None}
 use Rattle.pool_index.proofs.Views.{fresh_woven, fresh_shown}
 use Rattle.pool_index.proofs.slot_lists.SlotLists.new.Goals as goal
 

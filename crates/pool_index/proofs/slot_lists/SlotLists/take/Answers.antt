@@ -1,5 +1,4 @@
-use Rattle.std.proofs.Common.{◌≡◌, ◌∙◌, ◌++◌, suc, sym, ap, subst, arith, length, take, drop, ◌<◌, ◌+◌}
-use Rattle.std.specs.Prelude.{IfSome, Option, if◌then◌else◌}
+use Rattle.std.proofs.Common.{◌≡◌, ◌∙◌, ◌++◌, suc, sym, ap, subst, arith, length, take, drop, ◌<◌, ◌+◌, IfSome, Option, if◌then◌else◌}
 use Rattle.pool_index.specs.Links.{ends_without}
 use Rattle.pool_index.specs.Lists.{with_bytes}
 use Rattle.pool_index.specs.Records.{record_of, unlinked}
@@ -11,6 +10,7 @@ use Rattle.pool_index.specs.declared.slot_row.SlotRecord.TheVariants.{Warm}
 use Rattle.pool_index.proofs.Records.{Within, warm_within, warm_record}
 use Rattle.pool_index.proofs.Weaving.{taken_rows, first_before_within, first_after_within, then_before_within, then_after_within, its_some, left_some, bytes_enough, taken_length, entry_of}
 use Rattle.pool_index.proofs.Views.{IsFound, slot_found, split_woven, take_woven, take_shown}
+use Rattle.pool_index.proofs.Ticks.{take_ticks}
 use Rattle.pool_index.proofs.slot_lists.SlotLists.take.Goals as goal
 
 pub replace-requires : goal.replace-requires
@@ -95,3 +95,12 @@ returns-clause-after g c i inside slot =
     let ends : (a : Option MemoryInModule) → ends_at c.put.new.self a ≡ (if same_affinity a c.in-Warm.record.affinity then ends_without c.in-Warm.record.affine (ends_at c.self.inside.table c.in-Warm.record.affinity) else ends_at c.self.inside.table a) =
     λ a. c.put.ensures.ends a ∙ (λ k. if same_affinity a c.in-Warm.record.affinity then left k else ends_at c.self.inside.table a) in
     take_shown c.self.inside.rows c.self.inside.table c.self.inside.freed c.self.inside.bytes c.self.invariant.slots c.self.invariant.woven c.args.self.now c.self.view_is i c.args.slot found c.in-Warm.record here c.args.want c.unlink-2.new.self c.put.new.self c.without-self-inside.result rows c.without-self-inside.ensures ends total
+
+pub returns-clause-steps : goal.returns-clause-steps
+returns-clause-steps g c i inside slot =
+    let found : IsFound c.self.inside.rows c.self.invariant.slots c.args.self.now i c.args.slot = slot_found c.self.inside.rows c.self.inside.table c.self.inside.freed c.self.inside.bytes c.self.invariant.slots c.self.invariant.woven c.args.self.now c.self.view_is i c.args.slot inside slot in
+    let ticks = take_ticks c.self.inside.rows c.self.inside.table c.self.inside.freed c.self.inside.bytes c.self.invariant.slots c.self.invariant.woven c.args.self.now c.self.view_is i c.args.slot inside found c.in-Warm.record (sym c.replace.ensures.value ∙ c.in-Warm.is) c.args.want in
+    let replaced = c.replace.ensures.steps in
+    let freed = c.unlink.ensures.steps in
+    let affine = c.unlink-2.ensures.steps in
+    omega arith

@@ -1,5 +1,4 @@
-use Rattle.std.proofs.Common.{◌≡◌, ◌++◌, length}
-use Rattle.std.specs.Prelude.{map}
+use Rattle.std.proofs.Common.{◌≡◌, ◌++◌, length, map}
 use Rattle.pool_index.specs.Lists.{with_bytes, use_again}
 use Rattle.pool_index.proofs.slot_lists.SlotLists.take_all.Given as goal
 

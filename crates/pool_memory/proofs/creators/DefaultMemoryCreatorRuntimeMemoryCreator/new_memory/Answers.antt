@@ -1,6 +1,5 @@
-use Rattle.std.proofs.Common.{◌≡◌, Bool, sym, ◌∙◌, subst, Some, Err}
-use Rattle.std.specs.Prelude.{◌↔◌, if◌then◌else◌}
-use Rattle.pool_pages.specs.declared.unsupported.Unsupported.{Unsupported}
+use Rattle.std.proofs.Common.{◌≡◌, Bool, sym, ◌∙◌, subst, Some, Err, ◌↔◌, if◌then◌else◌}
+use Rattle.pool_types.specs.declared.unsupported.Unsupported.{Unsupported}
 use Rattle.pool_memory.specs.Malloc.{malloc_refusal}
 use Rattle.pool_memory.specs.Mapped.{mapped_refusal}
 use Rattle.pool_memory.specs.declared.memory_error.MemoryError.TheVariants as refused

@@ -1,11 +1,5 @@
 use Rattle.std.proofs.Common.{◌≡◌, ℕ, Bool, true, false, Option, Some, Result, Ok, Err, sym, ap, ◌∙◌, subst}
-use Rattle.pool_pages.specs.MemoryTypes.{allow_growth_to}
-use Rattle.pool_pages.specs.declared.module_types.MemoryType.{MemoryType}
-use Rattle.pool_limits.specs.Growth.{memory_answer}
-use Rattle.pool_limits.specs.LimiterTold.{LimiterTold, after_answer}
-use Rattle.pool_limits.specs.Exchanges.{Exchange, question_of, may_grow}
-use Rattle.pool_limits.specs.declared.growing.Growable.TheVariants.{Memory}
-use Rattle.pool_limits.specs.declared.errors.LimiterError.{LimiterError}
+use Rattle.pool_memory.proofs.Imports.{allow_growth_to, MemoryType, memory_answer, LimiterTold, after_answer, Exchange, question_of, may_grow, Memory, LimiterError}
 use Rattle.pool_memory.specs.Memories.{MemoryState}
 use Rattle.pool_memory.specs.Making.{maximum_asked}
 use Rattle.pool_memory.specs.Growing.{GrowsMoving, IsAllowedGrowth, growth_question, grown_size, past_room}

@@ -1,8 +1,5 @@
 use Rattle.std.proofs.Common.{◌≡◌, ℕ, Bool, Option, Result, refl, sym, ap, ◌∙◌, subst}
-use Rattle.pool_pages.specs.declared.module_types.MemoryKind.{MemoryKind}
-use Rattle.pool_pages.specs.declared.module_types.MemoryTunables.{MemoryTunables}
-use Rattle.pool_pages.specs.declared.module_types.Tunables.{Tunables}
-use Rattle.pool_limits.specs.declared.errors.LimiterError.{LimiterError}
+use Rattle.pool_memory.proofs.Imports.{MemoryKind, MemoryTunables, Tunables, LimiterError}
 use Rattle.pool_memory.specs.Dynamic.{RefusesBy, dynamic_limits}
 use Rattle.pool_memory.specs.Making.{limiter_answer}
 use Rattle.pool_memory.specs.declared.memory_error.MemoryError.{MemoryError}

@@ -1,5 +1,4 @@
-use Rattle.std.proofs.Common.{◌≤◌, Bool, false, sym, ap, ◌∙◌, subst}
-use Rattle.std.specs.Prelude.{if◌then◌else◌}
+use Rattle.std.proofs.Common.{◌≤◌, Bool, false, sym, ap, ◌∙◌, subst, if◌then◌else◌}
 use Rattle.pool_images.specs.Slots.{IsSlot}
 use Rattle.pool_memory.specs.Growing.{GrowsTo}
 use Rattle.pool_memory.specs.Mapped.{Mapped, mapped_linear, mapped_capacity}

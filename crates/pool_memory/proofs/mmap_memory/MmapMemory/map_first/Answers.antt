@@ -1,6 +1,5 @@
 use Rattle.std.proofs.Common.{◌≡◌, ◌≤◌, ◌+◌, true, false, length, sym, subst}
-use Rattle.std.specs.Arc.{arc_value}
-use Rattle.pool_images.specs.Images.{Image}
+use Rattle.pool_memory.proofs.Imports.{arc_value, Image}
 use Rattle.pool_memory.specs.Mapped.{Mapped, mapped_linear}
 use Rattle.pool_memory.specs.Starting.{HasStarted}
 use Rattle.pool_memory.proofs.Started.{begun_keeps, begun_started}

@@ -1,6 +1,5 @@
 use Rattle.std.proofs.Common.{◌≤◌, ◌<◌, ◌+◌, replicate, sym, subst, arith}
-use Rattle.std.proofs.lemmas.List.{length-replicate}
-use Rattle.pool_images.specs.Slots.{IsSlot}
+use Rattle.pool_memory.proofs.Imports.{length-replicate, IsSlot}
 use Rattle.pool_memory.specs.Mapped.{Mapped}
 use Rattle.pool_memory.proofs.Mapped.{wrote_keeps}
 use Rattle.pool_memory.proofs.mmap_memory.MmapMemoryRuntimeLinearMemory.fill.Goals as goal

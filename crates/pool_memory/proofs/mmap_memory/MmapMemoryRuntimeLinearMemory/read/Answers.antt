@@ -1,5 +1,4 @@
-use Rattle.std.proofs.Common.{◌≡◌, ◌≤◌, ◌+◌, length, slice_range, sym, subst}
-use Rattle.std.specs.Prelude.{IfSome}
+use Rattle.std.proofs.Common.{◌≡◌, ◌≤◌, ◌+◌, length, slice_range, sym, subst, IfSome}
 use Rattle.pool_memory.specs.Linear.{linear_bytes}
 use Rattle.pool_memory.specs.Mapped.{Mapped, held_in, mapped_linear}
 use Rattle.pool_memory.proofs.Statics.{read_static}

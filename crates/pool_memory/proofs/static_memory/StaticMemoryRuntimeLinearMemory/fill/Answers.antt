@@ -1,6 +1,5 @@
 use Rattle.std.proofs.Common.{ℕ, ◌+◌, ◌≤◌, List, replicate, sym, subst, arith, IfSome}
-use Rattle.std.proofs.lemmas.List.{length-replicate}
-use Rattle.pool_images.specs.Slots.{Slot, IsSlot, IsReady}
+use Rattle.pool_memory.proofs.Imports.{length-replicate, Slot, IsSlot, IsReady}
 use Rattle.pool_memory.specs.Static.{Static, IsStatic}
 use Rattle.pool_memory.proofs.Statics.{written_is_static}
 use Rattle.pool_memory.proofs.static_memory.StaticMemoryRuntimeLinearMemory.fill.Goals as goal

@@ -1,6 +1,5 @@
 use Rattle.std.proofs.Common.{◌≤◌, sym, subst, arith}
-use Rattle.pool_images.specs.Slots.{IsSlot}
-use Rattle.pool_images.proofs.Kept.{kept_self}
+use Rattle.pool_memory.proofs.Imports.{IsSlot, kept_self}
 use Rattle.pool_memory.specs.Linear.{ready}
 use Rattle.pool_memory.specs.Static.{Static, linear_of}
 use Rattle.pool_memory.proofs.Raised.{kept_static}

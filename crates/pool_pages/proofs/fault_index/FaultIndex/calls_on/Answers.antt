@@ -1,6 +1,5 @@
 use Rattle.std.proofs.Common.{◌≡◌, ap, ◌∙◌, subst}
-use Rattle.std.specs.List.{filter, filter_map}
-use Rattle.std.specs.Result.{IfOk}
+use Rattle.pool_pages.proofs.Imports.{filter, filter_map, IfOk}
 use Rattle.pool_pages.specs.FaultPlans.{planned_call}
 use Rattle.pool_pages.specs.SortedFaults.{IsByNumber, has_number, number_of}
 use Rattle.pool_pages.proofs.SortedFaults.{calls_by_number}

@@ -1,7 +1,5 @@
 use Rattle.std.proofs.Common.{◌≡◌, ℕ, List, [], ◌∷◌, ◌++◌, replicate, None, Option, ap, ◌∙◌, subst, arith}
-use Rattle.std.proofs.lemmas.List.{replicate_more}
-use Rattle.pool_alloc.specs.declared.frame.Grant.{Grant}
-use Rattle.pool_slots.specs.declared.listed_heaps.PlainHeap.{PlainHeap}
+use Rattle.pool_run.proofs.Imports.{replicate_more, Grant, PlainHeap}
 use Rattle.pool_run.proofs.leases.Leases.new.Goals as goal
 
 pub loop-place-preserved : goal.loop-place-preserved

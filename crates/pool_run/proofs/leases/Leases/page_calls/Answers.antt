@@ -1,9 +1,6 @@
-use Rattle.std.proofs.Common.{List, Option, sym, ap, ◌∙◌, arith}
-use Rattle.std.specs.Prelude.{fold}
-use Rattle.std.proofs.lemmas.List.{at_drop_all}
-use Rattle.pool_alloc.specs.declared.frame.Grant.{Grant}
+use Rattle.std.proofs.Common.{List, Option, sym, ap, ◌∙◌, arith, fold}
+use Rattle.pool_run.proofs.Imports.{at_drop_all, Grant, PlainHeap}
 use Rattle.pool_run.specs.Numbers.{with_grant}
-use Rattle.pool_slots.specs.declared.listed_heaps.PlainHeap.{PlainHeap}
 use Rattle.pool_run.proofs.leases.Leases.page_calls.Goals as goal
 
 pub returns : goal.returns

@@ -1,5 +1,4 @@
-use Rattle.std.proofs.Common.{◌≡◌, drop}
-use Rattle.std.specs.Prelude.{fold}
+use Rattle.std.proofs.Common.{◌≡◌, drop, fold}
 use Rattle.pool_run.specs.Numbers.{with_grant}
 use Rattle.pool_run.proofs.leases.Leases.page_calls.Given as goal
 

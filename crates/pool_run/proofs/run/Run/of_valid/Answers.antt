@@ -1,9 +1,5 @@
-use Rattle.std.proofs.Common.{rules, ◌≡◌, List, Err, Some, true, false, sym, ap, ◌∙◌, subst}
-use Rattle.std.specs.Prelude.{IfSome}
-use Rattle.std.specs.List.{list_all, list_any}
-use Rattle.pool_pages.specs.MakerTold.{MakerTold}
-use Rattle.pool_pages.specs.declared.module_types.ModuleInfo.{ModuleInfo}
-use Rattle.pool_alloc.specs.Sound.{IsCore}
+use Rattle.std.proofs.Common.{rules, ◌≡◌, List, Err, Some, true, false, sym, ap, ◌∙◌, subst, IfSome}
+use Rattle.pool_run.proofs.Imports.{list_all, list_any, MakerTold, ModuleInfo, IsCore}
 use Rattle.pool_run.specs.Built.{is_built_module, broken_rule}
 use Rattle.pool_run.specs.Folds.{RunParts}
 use Rattle.pool_run.specs.Made.{calls_made}

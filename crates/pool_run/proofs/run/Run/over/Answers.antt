@@ -1,11 +1,10 @@
 use Rattle.std.proofs.Common.{List, sym, subst}
-use Rattle.pool_alloc.specs.declared.pool_core.PoolCore.{PoolCore}
+use Rattle.pool_run.proofs.Imports.{PoolCore, PlainHeap}
 use Rattle.pool_run.specs.RunsMade.{IsKept, AreReserved}
 use Rattle.pool_run.specs.declared.running_party.RunningParty.{RunningParty}
 use Rattle.pool_run.proofs.Reserving.{made_reserved}
 use Rattle.pool_run.proofs.RunMade.{kept_at_start}
 use Rattle.pool_run.proofs.run.Run.over.Goals as goal
-use Rattle.pool_slots.specs.declared.listed_heaps.PlainHeap.{PlainHeap}
 
 pub invariant_of-result : goal.invariant_of-result
 invariant_of-result g c =

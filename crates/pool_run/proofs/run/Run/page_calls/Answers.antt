@@ -1,7 +1,5 @@
-use Rattle.std.proofs.Common.{List, ap, ◌∙◌}
-use Rattle.std.specs.Prelude.{fold}
-use Rattle.pool_pages.specs.declared.pages.PageCalls.{PageCalls}
-use Rattle.pool_alloc.specs.Sums.{calls_kept}
+use Rattle.std.proofs.Common.{List, ap, ◌∙◌, fold}
+use Rattle.pool_run.proofs.Imports.{PageCalls, calls_kept}
 use Rattle.pool_run.specs.Numbers.{with_party}
 use Rattle.pool_run.specs.declared.running_party.RunningParty.{RunningParty}
 use Rattle.pool_run.proofs.run.Run.page_calls.Goals as goal

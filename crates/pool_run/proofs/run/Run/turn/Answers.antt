@@ -1,8 +1,6 @@
-use Rattle.std.proofs.Common.{rules, ◌≡◌, ℕ, ◌<◌, List, length, Some, sym, ap, ◌∙◌, subst, arith}
-use Rattle.std.specs.Prelude.{slice_get, slice_index_or}
-use Rattle.std.proofs.lemmas.Option.{slice_get-get_or}
+use Rattle.std.proofs.Common.{rules, ◌≡◌, ℕ, ◌<◌, List, length, Some, sym, ap, ◌∙◌, subst, arith, slice_get, slice_index_or}
+use Rattle.pool_run.proofs.Imports.{slice_get-get_or, ModuleAsked}
 use Rattle.pool_run.specs.declared.slot_lists.SlotLists.{SlotLists}
-use Rattle.pool_alloc.specs.Asked.{ModuleAsked}
 use Rattle.pool_run.specs.Folds.{RunState, commands_of}
 use Rattle.pool_run.specs.Progress.{IsRunOf}
 use Rattle.pool_run.specs.Turns.{Turned, Turns}

@@ -1,6 +1,5 @@
 use Rattle.std.proofs.Common.{length, ap, arith}
-use Rattle.std.proofs.lemmas.List.{length-map}
-use Rattle.pool_alloc.specs.Reserved.{Reserved}
+use Rattle.pool_run.proofs.Imports.{length-map, Reserved}
 use Rattle.pool_run.specs.Folds.{RunState}
 use Rattle.pool_run.specs.declared.reply.Reply.{Reply}
 use Rattle.pool_run.proofs.told_run.ToldRun.end.Goals as goal

@@ -1,12 +1,10 @@
-use Rattle.std.proofs.Common.{◌≡◌, ◌<◌, true, false, length, get_or, map, refl, sym, ap, subst}
-use Rattle.std.specs.Prelude.{slice_set}
-use Rattle.std.specs.List.{HoldsAt}
+use Rattle.std.proofs.Common.{◌≡◌, ◌<◌, true, false, length, get_or, map, refl, sym, ap, subst, slice_set}
+use Rattle.pool_slots.proofs.Imports.{HoldsAt, each_at}
 use Rattle.pool_slots.specs.declared.queued_range.QueuedRange.{QueuedRange}
 use Rattle.pool_slots.specs.SlotQueues.{Queued, QueuedList, Queue, LeavesClean, IsQueue, owner, first_slot, forgotten, decommitted_at}
 use Rattle.pool_slots.specs.SlotOrders.{first_of, AreInOrder}
 use Rattle.pool_slots.specs.SlotSteps.{begins_with}
 use Rattle.pool_slots.proofs.SlotFirst.{part_first, first_done, queue_done, queue_left, left_by_all, first_faulted}
-use Rattle.pool_slots.proofs.Lists.{each_at}
 use Rattle.pool_slots.proofs.SlotOrders.{order_first, order_forgotten}
 use Rattle.pool_slots.proofs.decommit_queue.DecommitQueue.decommit_first.Goals as goal
 

@@ -1,5 +1,4 @@
-use Rattle.std.proofs.Common.{List, ap, ◌∙◌, subst}
-use Rattle.std.specs.Prelude.{is_ok}
+use Rattle.std.proofs.Common.{List, ap, ◌∙◌, subst, is_ok}
 use Rattle.std.proofs.lemmas.Result.{on_ok_weaker}
 use Rattle.pool_slots.specs.SlotQueues.{Queued, Queue, after_run_of}
 use Rattle.pool_slots.specs.declared.slot_name.SlotName.{SlotName}

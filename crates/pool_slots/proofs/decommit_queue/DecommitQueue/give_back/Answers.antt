@@ -1,5 +1,4 @@
-use Rattle.std.proofs.Common.{◌≡◌, false, List, [], sym, ap, ◌∙◌, subst}
-use Rattle.std.specs.Prelude.{map}
+use Rattle.std.proofs.Common.{◌≡◌, false, List, [], sym, ap, ◌∙◌, subst, map}
 use Rattle.std.specs.List.{list_any}
 use Rattle.pool_hall.specs.declared.unit_name.SlotKind.TheVariants as of_slot
 use Rattle.pool_slots.specs.SlotQueues.{Queued, Queue}

@@ -1,6 +1,5 @@
 use Rattle.std.proofs.Common.{◌≡◌, false, true, refl, List, sym, ap, ◌∙◌, Some, None, Option}
-use Rattle.std.proofs.lemmas.Bool.{true≢false}
-use Rattle.pool_hall.specs.declared.unit_name.SlotKind.{SlotKind}
+use Rattle.pool_slots.proofs.Imports.{true≢false, SlotKind}
 use Rattle.pool_hall.specs.declared.unit_name.SlotKind.TheVariants as of_slot
 use Rattle.pool_slots.specs.SlotQueues.{Queued, Queue, first_of_kind, same_kind}
 use Rattle.pool_slots.specs.HeldSlots.{held_kind}

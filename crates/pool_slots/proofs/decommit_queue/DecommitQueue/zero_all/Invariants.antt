@@ -1,5 +1,4 @@
-use Rattle.std.proofs.Common.{◌≡◌, length}
-use Rattle.std.specs.Prelude.{map, filter}
+use Rattle.std.proofs.Common.{◌≡◌, length, map, filter}
 use Rattle.pool_slots.specs.SlotQueues.{is_to_zero}
 use Rattle.pool_slots.specs.Flushes.{zeroed_of}
 use Rattle.pool_slots.proofs.decommit_queue.DecommitQueue.zero_all.Given as goal

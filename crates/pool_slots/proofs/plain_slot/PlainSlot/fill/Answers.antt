@@ -1,8 +1,5 @@
 use Rattle.std.proofs.Common.{◌≡◌, ℕ, ◌+◌, ◌≤◌, replicate, sym, subst}
-use Rattle.std.proofs.lemmas.List.{length-replicate}
-use Rattle.pool_pages.specs.Told.{Told, overwritten}
-use Rattle.pool_images.specs.Slots.{Slot}
-use Rattle.pool_images.proofs.Making.{reach_slot}
+use Rattle.pool_slots.proofs.Imports.{length-replicate, Told, overwritten, Slot, reach_slot}
 use Rattle.pool_slots.specs.PlainSlots.{IsPlain}
 use Rattle.pool_slots.specs.SlotQueues.{plain_slot}
 use Rattle.pool_slots.proofs.PlainSlots.{plain_after}

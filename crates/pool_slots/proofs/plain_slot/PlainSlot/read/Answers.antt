@@ -1,6 +1,5 @@
 use Rattle.std.proofs.Common.{◌+◌, ◌≤◌, length}
-use Rattle.pool_images.specs.Slots.{Slot}
-use Rattle.pool_images.proofs.Making.{reach_slot}
+use Rattle.pool_slots.proofs.Imports.{Slot, reach_slot}
 use Rattle.pool_slots.specs.SlotQueues.{plain_slot}
 use Rattle.pool_slots.proofs.plain_slot.PlainSlot.read.Goals as goal
 

@@ -1,7 +1,5 @@
 use Rattle.std.proofs.Common.{◌≡◌, ◌+◌, ◌≤◌, length, sym, subst}
-use Rattle.pool_pages.specs.Told.{Told, overwritten}
-use Rattle.pool_images.specs.Slots.{Slot}
-use Rattle.pool_images.proofs.Making.{reach_slot}
+use Rattle.pool_slots.proofs.Imports.{Told, overwritten, Slot, reach_slot}
 use Rattle.pool_slots.specs.PlainSlots.{IsPlain}
 use Rattle.pool_slots.specs.SlotQueues.{plain_slot}
 use Rattle.pool_slots.proofs.PlainSlots.{plain_after}

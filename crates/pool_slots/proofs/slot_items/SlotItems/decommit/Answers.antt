@@ -1,9 +1,5 @@
-use Rattle.std.proofs.Common.{◌≡◌, ◌<◌, List, length, refl, sym, ap, ◌∙◌, subst}
-use Rattle.std.specs.Prelude.{slice_index_or, slice_set}
-use Rattle.std.specs.List.{HoldsAt}
-use Rattle.std.proofs.lemmas.List.{get_or_read}
-use Rattle.std.proofs.lemmas.Result.{on_ok_weaker, on_err_weaker}
-use Rattle.pool_images.specs.Slots.{IsPart, IsSlot, size_of}
+use Rattle.std.proofs.Common.{◌≡◌, ◌<◌, List, length, refl, sym, ap, ◌∙◌, subst, slice_index_or, slice_set}
+use Rattle.pool_slots.proofs.Imports.{HoldsAt, get_or_read, on_ok_weaker, on_err_weaker, IsPart, IsSlot, size_of}
 use Rattle.pool_slots.specs.SlotQueues.{decommitted_at, Queued, IsLeftItem}
 use Rattle.pool_slots.proofs.slot_items.SlotItems.decommit.Goals as goal
 

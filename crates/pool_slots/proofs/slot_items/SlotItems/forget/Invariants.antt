@@ -1,5 +1,4 @@
-use Rattle.std.proofs.Common.{◌≡◌, ◌++◌, length, take, drop}
-use Rattle.std.specs.Prelude.{map}
+use Rattle.std.proofs.Common.{◌≡◌, ◌++◌, length, take, drop, map}
 use Rattle.pool_slots.specs.SlotQueues.{forgotten}
 use Rattle.pool_slots.proofs.slot_items.SlotItems.forget.Given as goal
 

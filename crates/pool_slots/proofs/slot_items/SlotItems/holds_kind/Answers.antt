@@ -1,5 +1,4 @@
-use Rattle.std.proofs.Common.{ℕ, ◌<◌, List, Option, length, sym, ap}
-use Rattle.std.specs.Prelude.{is_some}
+use Rattle.std.proofs.Common.{ℕ, ◌<◌, List, Option, length, sym, ap, is_some}
 use Rattle.pool_slots.specs.SlotQueues.{Queued}
 use Rattle.pool_slots.proofs.SlotPops.{kind_there, none_of_kind}
 use Rattle.pool_slots.proofs.slot_items.SlotItems.holds_kind.Goals as goal

@@ -1,5 +1,4 @@
-use Rattle.std.proofs.Common.{◌≡◌, ℕ, ◌<◌, List, length, sym, ap, subst}
-use Rattle.std.specs.Prelude.{IfSome, IsSome, OnSome, remove, slice_index_or}
+use Rattle.std.proofs.Common.{◌≡◌, ℕ, ◌<◌, List, length, sym, ap, subst, IfSome, IsSome, OnSome, remove, slice_index_or}
 use Rattle.pool_slots.specs.SlotQueues.{Queued, QueuedList}
 use Rattle.pool_slots.proofs.SlotPops.{taken_first, none_of_kind}
 use Rattle.pool_slots.proofs.slot_items.SlotItems.take_first.Goals as goal

@@ -1,5 +1,4 @@
-use Rattle.std.proofs.Common.{◌≡◌}
-use Rattle.std.specs.Prelude.{map}
+use Rattle.std.proofs.Common.{◌≡◌, map}
 use Rattle.std.specs.List.{range_with_len}
 use Rattle.pool_slots.specs.StripedPlans.{shards_before, stripe_allocator}
 use Rattle.pool_slots.proofs.striped_plan.StripedPlanSettings.stripe_allocators.Given as goal

@@ -1,5 +1,4 @@
-use Rattle.std.proofs.Common.{◌≡◌, List, ap, ◌∙◌, subst}
-use Rattle.std.specs.Prelude.{map}
+use Rattle.std.proofs.Common.{◌≡◌, List, ap, ◌∙◌, subst, map}
 use Rattle.pool_pages.specs.Contents.{put_all}
 use Rattle.pool_table.specs.Elements.{Element}
 use Rattle.pool_table.specs.Views.{ListedTable}

@@ -1,7 +1,5 @@
-use Rattle.std.proofs.Common.{◌≡◌, ℕ, ◌<◌, length, get_or, true, refl, sym, ap, ◌∙◌, subst, arith, inl, inr}
-use Rattle.std.specs.Prelude.{map}
-use Rattle.std.proofs.lemmas.Bool.{cases_lt}
-use Rattle.std.proofs.lemmas.List.{length-map, get_or-map}
+use Rattle.std.proofs.Common.{◌≡◌, ℕ, ◌<◌, length, get_or, true, refl, sym, ap, ◌∙◌, subst, arith, inl, inr, map}
+use Rattle.pool_table.proofs.Imports.{cases_lt, length-map, get_or-map}
 use Rattle.pool_table.specs.Elements.{Element, empty}
 use Rattle.pool_table.specs.Views.{ListedTable}
 use Rattle.pool_table.proofs.Mapped.{all_one, not_one}

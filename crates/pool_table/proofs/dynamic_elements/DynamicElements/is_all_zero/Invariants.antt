@@ -1,5 +1,4 @@
-use Rattle.std.proofs.Common.{◌≡◌, ℕ, ◌<◌}
-use Rattle.std.specs.Prelude.{slice_index_or}
+use Rattle.std.proofs.Common.{◌≡◌, ℕ, ◌<◌, slice_index_or}
 use Rattle.pool_table.specs.Elements.{Element, empty}
 use Rattle.pool_table.proofs.dynamic_elements.DynamicElements.is_all_zero.Given as goal
 

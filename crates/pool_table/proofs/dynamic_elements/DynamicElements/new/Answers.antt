@@ -1,5 +1,4 @@
-use Rattle.std.proofs.Common.{◌≡◌, ℕ, ◌-◌, ◌++◌, List, [], replicate, take, ap, ◌∙◌, arith}
-use Rattle.std.specs.Prelude.{map}
+use Rattle.std.proofs.Common.{◌≡◌, ℕ, ◌-◌, ◌++◌, List, [], replicate, take, ap, ◌∙◌, arith, map}
 use Rattle.pool_table.specs.Elements.{Element, empty}
 use Rattle.pool_table.proofs.Mapped.{map_replicate, take_none}
 use Rattle.pool_table.proofs.dynamic_elements.DynamicElements.new.Goals as goal

@@ -1,5 +1,4 @@
-use Rattle.std.proofs.Common.{◌≡◌, ◌-◌, ◌≤◌, ◌++◌, List, length, replicate, sym, ap, ◌∙◌, subst, arith}
-use Rattle.std.specs.Prelude.{map}
+use Rattle.std.proofs.Common.{◌≡◌, ◌-◌, ◌≤◌, ◌++◌, List, length, replicate, sym, ap, ◌∙◌, subst, arith, map}
 use Rattle.std.proofs.lemmas.List.{length-map}
 use Rattle.pool_table.specs.Elements.{Element, empty}
 use Rattle.pool_table.specs.Views.{ListedTable}

@@ -1,5 +1,4 @@
-use Rattle.std.proofs.Common.{◌≡◌, ◌<◌, ◌≤◌, ℕ, List, length, sym, ◌∙◌, subst}
-use Rattle.std.specs.Prelude.{IfSome, Some, slice_get}
+use Rattle.std.proofs.Common.{◌≡◌, ◌<◌, ◌≤◌, ℕ, List, length, sym, ◌∙◌, subst, IfSome, Some, slice_get}
 use Rattle.pool_table.specs.Elements.{ElementKind, element_of}
 use Rattle.pool_table.specs.Tables.{TableState, elements}
 use Rattle.pool_table.proofs.Accesses.{width_small, front, front_long, read_element}

@@ -1,5 +1,4 @@
-use Rattle.std.proofs.Common.{◌<◌, ℕ}
-use Rattle.std.specs.Prelude.{IfSome}
+use Rattle.std.proofs.Common.{◌<◌, ℕ, IfSome}
 use Rattle.pool_table.specs.Tables.{IsZeroWord}
 use Rattle.pool_table.proofs.static_elements.StaticElements.is_all_zero.Given as goal
 

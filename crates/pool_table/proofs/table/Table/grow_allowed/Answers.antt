@@ -1,8 +1,6 @@
 use Rattle.std.proofs.Common.{◌≡◌, ◌-◌, ◌≤◌, ℕ, Bool, false, nat_lt, Ok, Some, refl, sym, subst, arith, inl, inr}
-use Rattle.std.proofs.lemmas.Bool.Decides.{nat_tests}
-use Rattle.pool_limits.specs.Growing.{IsAllowed}
+use Rattle.pool_table.proofs.Imports.{nat_tests, IsAllowed, allowed_grown}
 use Rattle.pool_limits.specs.declared.growing.Growable.TheVariants.{Table}
-use Rattle.pool_limits.proofs.Ruled.{allowed_grown}
 use Rattle.pool_table.specs.Views.{TableView, GrowsTable}
 use Rattle.pool_table.specs.TableStates.{table_view}
 use Rattle.pool_table.proofs.table.Table.grow_allowed.Goals as goal

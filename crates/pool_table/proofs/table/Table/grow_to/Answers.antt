@@ -1,9 +1,6 @@
 use Rattle.std.proofs.Common.{◌≡◌, ◌≢◌, ◌+◌, ◌-◌, ◌<◌, ℕ, Bool, true, false, Some, Result, Ok, Err, sym, ap, ◌∙◌, subst, arith, inl}
-use Rattle.pool_limits.specs.Growth.{table_answer}
-use Rattle.pool_limits.specs.LimiterTold.{LimiterTold, after_answer}
-use Rattle.pool_limits.specs.Exchanges.{Exchange, question_of, may_grow}
+use Rattle.pool_table.proofs.Imports.{table_answer, LimiterTold, after_answer, Exchange, question_of, may_grow, LimiterError}
 use Rattle.pool_limits.specs.declared.growing.Growable.TheVariants.{Table}
-use Rattle.pool_limits.specs.declared.errors.LimiterError.{LimiterError}
 use Rattle.pool_table.specs.Views.{TableView}
 use Rattle.pool_table.specs.TableStates.{table_view}
 use Rattle.pool_table.specs.Growing.{table_question, AllowedTableGrows}

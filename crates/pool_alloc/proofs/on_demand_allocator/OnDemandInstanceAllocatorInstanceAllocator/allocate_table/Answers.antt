@@ -1,5 +1,0 @@
-use Rattle.std.proofs.Common.{refl}
-use Rattle.pool_alloc.proofs.on_demand_allocator.OnDemandInstanceAllocatorInstanceAllocator.allocate_table.Goals as goal
-
-pub returns-clause-made : goal.returns-clause-made
-returns-clause-made g c = (c.next_table.ensures.made (g.M.PageMaker.told c.args._seat.now.maker), refl)

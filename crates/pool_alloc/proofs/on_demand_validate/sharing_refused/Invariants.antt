@@ -1,7 +1,0 @@
-use Rattle.std.proofs.Common.{◌≡◌, drop}
-use Rattle.pool_alloc.specs.Refusals.{first_refused}
-use Rattle.pool_alloc.specs.OnDemandRefusals.{shared_refused}
-use Rattle.pool_alloc.proofs.on_demand_validate.sharing_refused.Given as goal
-
-abbrev pub invariant-loop-decl : goal.invariant-loop-decl
-invariant-loop-decl l = first_refused (λ d. shared_refused d.ty) (drop l.decl-index l.decls) ≡ first_refused (λ d. shared_refused d.ty) l.decls

@@ -1,0 +1,7 @@
+pub mod Answers
+pub mod Grants
+mod Imports
+pub mod InTurn
+pub mod Instances
+pub mod Refusals
+pub mod Stacks

@@ -1,4 +1,0 @@
-use Rattle.pool_run.proofs.on_demand.run_seated.Given as goal
-
-abbrev pub ghost-run_in_seat : goal.ghost-run_in_seat
-ghost-run_in_seat g a = g.M.PageMaker.told a.seat.now.maker

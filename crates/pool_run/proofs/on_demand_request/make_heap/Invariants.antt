@@ -1,4 +1,0 @@
-use Rattle.pool_run.proofs.on_demand_request.make_heap.Given as goal
-
-abbrev pub ghost-heap_memory : goal.ghost-heap_memory
-ghost-heap_memory g a = g.terms

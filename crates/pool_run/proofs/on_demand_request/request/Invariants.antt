@@ -1,7 +1,0 @@
-use Rattle.pool_run.proofs.on_demand_request.request.Given as goal
-
-abbrev pub ghost-allocate : goal.ghost-allocate
-ghost-allocate g a = g.terms
-
-abbrev pub ghost-allocate-2 : goal.ghost-allocate-2
-ghost-allocate-2 g a = g.terms

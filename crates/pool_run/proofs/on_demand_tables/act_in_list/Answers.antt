@@ -1,6 +1,0 @@
-use Rattle.std.proofs.lemmas.List.Elements.{All-set}
-use Rattle.pool_alloc.specs.TableLeases.{HasType}
-use Rattle.pool_run.proofs.on_demand_tables.act_in_list.Goals as goal
-
-pub returns-clause-held : goal.returns-clause-held
-returns-clause-held g c = All-set (λ l. HasType l.table) c.args.tables.now.items c.args.table _ c.act_on_table.ensures.held c.requires.held

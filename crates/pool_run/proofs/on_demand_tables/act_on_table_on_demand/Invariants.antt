@@ -1,4 +1,0 @@
-use Rattle.pool_run.proofs.on_demand_tables.act_on_table_on_demand.Given as goal
-
-abbrev pub ghost-act_on_taken : goal.ghost-act_on_taken
-ghost-act_on_taken g a = g.tells

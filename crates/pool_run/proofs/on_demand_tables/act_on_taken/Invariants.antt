@@ -1,4 +1,0 @@
-use Rattle.pool_run.proofs.on_demand_tables.act_on_taken.Given as goal
-
-abbrev pub ghost-act_on_grant : goal.ghost-act_on_grant
-ghost-act_on_grant g a = g.tells

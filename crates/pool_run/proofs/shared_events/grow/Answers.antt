@@ -1,5 +1,0 @@
-use Rattle.pool_run.proofs.SharedGrowth.{growth_moves}
-use Rattle.pool_run.proofs.shared_events.grow.Goals as goal
-
-pub returns-clause-grows : goal.returns-clause-grows
-returns-clause-grows g c = growth_moves c.args.pages c.args.state.now c.grow.new.self c.grow.result c.growth_reply.result c.requires c.grow.ensures.same c.grow.ensures.growth c.growth_reply.ensures

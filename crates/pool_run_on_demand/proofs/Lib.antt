@@ -1,0 +1,21 @@
+pub mod Alike
+pub mod AlikeBytes
+pub mod AlikeTables
+pub mod Folding
+pub mod Grants
+pub mod Growing
+pub mod HeapFaults
+pub mod Heaps
+mod Imports
+pub mod Live
+pub mod Made
+pub mod Moves
+pub mod OtherReplies
+pub mod Paid
+pub mod Parties
+pub mod Refused
+pub mod Requests
+pub mod Spending
+pub mod Started
+pub mod StepsBy
+pub mod TableMoves

@@ -1,0 +1,5 @@
+pub mod Counts
+pub mod Growth
+mod Imports
+pub mod Made
+pub mod Moves

@@ -1,0 +1,4 @@
+pub mod Events
+pub mod Runs
+pub mod Steps
+pub mod Validity

@@ -1,0 +1,2 @@
+pub mod ConfigRules
+pub mod Multiples

@@ -1,0 +1,11 @@
+pub mod Breakdown
+pub mod ByteCountTexts
+pub mod Config
+pub mod ConfigLimits
+pub mod ConfigTexts
+pub mod Count
+pub mod MemoryTypes
+pub mod Numerals
+pub mod Rising
+pub mod SettingsRules
+pub mod UnsupportedTexts
