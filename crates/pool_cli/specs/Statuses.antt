@@ -2,7 +2,7 @@
 use Rattle.std.specs.Prelude.{◌≡◌, ℕ, ◌≤◌, ◌<◌, List, length, ◌⊎◌, Bool, true, false, Option, Some, None, string_bytes}
 use Rattle.pool_types.specs.declared.bad_config.BadConfig.{BadConfig}
 use Rattle.pool_pages.specs.declared.failing.Failing.{Failing}
-use Rattle.pool_pages.specs.FailingTold.{failing_told}
+use Rattle.pool_pages.specs.FailingRegions.{with_failing}
 use Rattle.pool_pages.specs.MakerTold.{MakerTold}
 use Rattle.pool_pages.specs.Told.{Told}
 use Rattle.pool_types.specs.Rising.{Rose}
@@ -113,10 +113,6 @@ HasBadConfig Run error source_old source_new = BreaksRule run_format error sourc
 HasBadConfig RunOnDemand error source_old source_new = BreaksRule run_format error source_old source_new
 HasBadConfig Shared error source_old source_new = BreaksRule shared_format error source_old source_new
 HasBadConfig _ error source_old source_new = ⊥
-
--- what a region tells with the input's faults before it, by what it tells itself
-abbrev pub with_failing : {P : Type 0} → (P → Told) → Failing P → Told
-with_failing told f = failing_told (told f.region) f.plan f.counts
 
 -- The source was read to its end, the bytes read are an input that can be run, no rule of its settings is broken, and
 -- a making, or the first call on a region, failed as its pool was made: the input lists one, or the maker's own count of

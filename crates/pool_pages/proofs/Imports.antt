@@ -1,6 +1,6 @@
 -- What the files of proofs/ import from the crates below and from std, but for std's plainest words.
 pub use Rattle.std.proofs.Math.Nat.{div-mul-le_self, lt-mul-div-succ, mod-add-div', mul-le-mul_left, mul-le-mul_right, zero-div, zero-mod}
-pub use Rattle.std.proofs.lemmas.Bool.{cases_eq, cases_lt, leb-false, ltb-true, ne_eqb}
+pub use Rattle.std.proofs.lemmas.Bool.{cases_eq, cases_lt, leb-false, ltb-false, ltb-true, ne_eqb}
 pub use Rattle.std.proofs.lemmas.Bool.Decides.{Decides-eqb, nat_tests}
 pub use Rattle.std.proofs.lemmas.List.{append-nil, drop-replicate, get_or-append_right, get_or-drop, get_or-replicate, get_or-take, get_or_append_left, get_or_default, get_or_past, length-append, length-drop, length-replicate, length-take, length-take-le, nil_from_length, replicate_more, same_lists, set_split, take-append-drop, take-append-le, take-replicate, take_all, take_more}
 pub use Rattle.std.proofs.lemmas.List.Elements.{filter-append, filter_agree, filter_map-append}

@@ -1,8 +1,10 @@
+pub mod CallPlans
 pub mod DenseCalls
 pub mod FailingCalls
 pub mod FailingMakers
 pub mod FaultLists
 mod Imports
+pub mod ListedCalls
 pub mod PageChanges
 pub mod PageNumbers
 pub mod PageRuns

@@ -1,6 +1,6 @@
 -- Columns of which a prefix is kept, past which they are zeros.
-use Rattle.std.proofs.Common.{◌≡◌, ℕ, ◌+◌, ◌-◌, ◌<◌, ◌≤◌, List, [], ◌∷◌, ◌++◌, length, get_or, take, drop, replicate, min, max, refl, sym, ap, ◌∙◌, arith, inl, inr, slice_range}
-use Rattle.pool_pages.proofs.Imports.{length-append, length-replicate, length-take, length-drop, take_all, take-append-le, take-append-drop, get_or_append_left, get_or-append_right, get_or-take, get_or-replicate, get_or_past, get_or_default, same_lists, cases_lt}
+use Rattle.std.proofs.Common.{◌≡◌, ℕ, ◌+◌, ◌-◌, ◌<◌, ◌≤◌, List, [], ◌∷◌, ◌++◌, length, get_or, take, drop, replicate, min, max, refl, sym, ap, ◌∙◌, arith, inl, inr, ◌⊎◌, slice_range}
+use Rattle.pool_pages.proofs.Imports.{length-append, length-replicate, length-take, length-drop, take_all, take-append-le, take-append-drop, get_or_append_left, get_or-append_right, get_or-take, get_or-drop, get_or-replicate, get_or_past, get_or_default, same_lists, cases_lt}
 use Rattle.pool_pages.specs.Contents.{put, put_all}
 use Rattle.pool_pages.specs.Dense.{with_zeros, IsPrefix}
 use Rattle.pool_pages.proofs.Puts.{length-put, get_or-put_below, get_or-put_in, get_or-put_above, length-range, get_or-range, put-put}
@@ -71,6 +71,46 @@ pub put_prefix_long : (n i m : ℕ) (p ys : List ℕ) → length p ≤ n → i +
 put_prefix_long n i m p ys fits inner room =
     let long : length (with_zeros m p) ≡ max (length p) m = omega (arith, length-append p (replicate {A = ℕ} (m - length p) 0), length-replicate {A = ℕ} (m - length p) 0) in
     omega (arith, length-put i ys (with_zeros m p) (omega arith))
+
+-- a list of which the front is put into the prefix, and the rest stands behind it
+pub put_and_append : (n i k : ℕ) (p ys : List ℕ) → length p ≤ n → i + length ys ≤ n → k ≡ min (length (with_zeros i p) - i) (length ys) → with_zeros n (put i (take k ys) (with_zeros i p) ++ drop k ys) ≡ put i ys (with_zeros n p)
+put_and_append n i k p ys fits room is =
+    let long : length (with_zeros i p) ≡ max (length p) i = omega (arith, length-append p (replicate {A = ℕ} (i - length p) 0), length-replicate {A = ℕ} (i - length p) 0) in
+    let start : i ≤ length (with_zeros i p) = omega arith in
+    let some : k ≤ length ys = omega arith in
+    let front : length (take k ys) ≡ k = omega (arith, length-take k ys) in
+    let rest : length (drop k ys) ≡ length ys - k = length-drop k ys in
+    let edge : k ≡ length ys ⊎ length (with_zeros i p) ≡ i + k = elim (cases_lt k (length ys)) [ inl less ↦ inr (omega arith) | inr all ↦ inl (omega arith) ] in
+    let whole : length (put i (take k ys) (with_zeros i p)) ≡ length (with_zeros i p) = length-put i (take k ys) (with_zeros i p) (omega arith) in
+    let short : length (put i (take k ys) (with_zeros i p) ++ drop k ys) ≤ n = elim edge [ inl all ↦ omega (arith, length-append (put i (take k ys) (with_zeros i p)) (drop k ys)) | inr full ↦ omega (arith, length-append (put i (take k ys) (with_zeros i p)) (drop k ys)) ] in
+    zeros-put n i (put i (take k ys) (with_zeros i p) ++ drop k ys) p ys short fits room
+    (λ j first.
+    get_or_append_left (put i (take k ys) (with_zeros i p)) (drop k ys) 0 j (omega arith)
+    ∙ get_or-put_below i (take k ys) (with_zeros i p) j 0 start first
+    ∙ get_or-zeros i p j)
+    (λ j from within. elim (cases_lt j (i + k)) [
+      | inl inner ↦
+          get_or_append_left (put i (take k ys) (with_zeros i p)) (drop k ys) 0 j (omega arith)
+          ∙ get_or-put_in i (take k ys) (with_zeros i p) j 0 start from (omega arith)
+          ∙ get_or-take k ys (j - i) 0 (omega arith)
+      | inr past ↦
+          let full : length (with_zeros i p) ≡ i + k = elim edge [ inl all ↦ absurd (omega arith) | inr full ↦ full ] in
+          let place : k + (j - length (put i (take k ys) (with_zeros i p))) ≡ j - i = omega arith in
+          get_or-append_right (put i (take k ys) (with_zeros i p)) (drop k ys) (length (put i (take k ys) (with_zeros i p))) j 0 refl (omega arith)
+          ∙ get_or-drop k ys (j - length (put i (take k ys) (with_zeros i p))) 0
+          ∙ ap (λ m. get_or ys m 0) place
+    ])
+    (λ j past. elim (cases_lt j (length (with_zeros i p))) [
+      | inl kept ↦
+          get_or_append_left (put i (take k ys) (with_zeros i p)) (drop k ys) 0 j (omega arith)
+          ∙ get_or-put_above i (take k ys) (with_zeros i p) j 0 start (omega arith)
+          ∙ get_or-zeros i p j
+      | inr above ↦
+          let out : length (drop k ys) ≤ j - length (put i (take k ys) (with_zeros i p)) = elim edge [ inl all ↦ omega arith | inr full ↦ omega arith ] in
+          get_or-append_right (put i (take k ys) (with_zeros i p)) (drop k ys) (length (put i (take k ys) (with_zeros i p))) j 0 refl (omega arith)
+          ∙ get_or_past (drop k ys) (j - length (put i (take k ys) (with_zeros i p))) 0 out
+          ∙ sym (get_or_past p j 0 (omega arith))
+    ])
 
 -- the same of one value
 pub fill_in_prefix : (n i c x : ℕ) (p : List ℕ) → length p ≤ n → i + c ≤ n → with_zeros n (put_all i c x (with_zeros (i + c) p)) ≡ put_all i c x (with_zeros n p)

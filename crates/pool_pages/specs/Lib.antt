@@ -1,6 +1,7 @@
 pub mod CallSums
 pub mod Contents
 pub mod Dense
+pub mod FailingRegions
 pub mod FailingTold
 pub mod FaultPlans
 pub mod ImageBytes

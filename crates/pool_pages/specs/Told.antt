@@ -1,5 +1,5 @@
 -- What a region tells of itself, and what a call does to that.
-use Rattle.std.specs.Prelude.{◌≡◌, ℕ, ◌+◌, ◌-◌, ◌<◌, ◌≤◌, ◌⊎◌, ◌==◌, ◌||◌, List, [], ◌∷◌, length, Bool, not, if◌then◌else◌, Option, Some, None, IsSome, IfSome, option_map}
+use Rattle.std.specs.Prelude.{◌≡◌, ℕ, zero, suc, ◌+◌, ◌-◌, ◌^◌, ◌<◌, ◌≤◌, ◌⊎◌, ◌==◌, ◌||◌, List, [], ◌∷◌, length, Bool, true, not, if◌then◌else◌, Option, Some, None, IsSome, IfSome, option_map}
 use Rattle.std.specs.List.{list_any}
 use Rattle.pool_types.specs.Count.{Count}
 use Rattle.pool_pages.specs.Contents.{Contents, IsShaped, page_at, IsIn, exposed, hidden, image_mapped, image_copied, erased, remapped, recoloured, decommitted, written, put_back}
@@ -157,6 +157,20 @@ zeroing t = record t { behaviour = Zero }
 -- what is told of pages has the region's shape
 abbrev pub TellsShaped : Told → Type 0
 TellsShaped t = IfSome t.contents (IsShaped t.page t.len)
+
+-- how many of the calls made so far a list of failing calls lists
+abbrev pub listed_among : List ℕ → ℕ → ℕ
+listed_among plan zero = 0
+listed_among plan (suc n) = if list_any (λ m. m == suc n) plan then suc (listed_among plan n) else listed_among plan n
+
+-- No more failures than listed calls were made. At the end of its type the count of calls stands still: a list that has
+-- that number lists each call from there on.
+abbrev pub NoMoreThanListed : List ℕ → ℕ → ℕ → Type 0
+NoMoreThanListed plan made faults = (faults ≤ listed_among plan made) ⊎ ((made ≡ 2 ^ 64 - 1) × (list_any (λ m. m == 2 ^ 64 - 1) plan ≡ true))
+
+-- where a region tells its plan, no more of its calls failed than the plan lists among those made
+abbrev pub FailsAsListed : Told → Type 0
+FailsAsListed t = IfSome t.plan (λ plan. NoMoreThanListed plan t.made t.faults)
 
 -- a range of whole pages inside the region
 pub record IsRange (start len : Count) (t : Told) : Type 0 where

@@ -25,12 +25,12 @@ pub(crate) enum CallKind {
     Decommit,
 }
 
-/// How many calls were made, how many of each kind, and how many failed.
+/// How many calls were made, how many of each kind, and how many a list refused.
 #[derive(Clone, Copy, Debug, PartialEq, Eq)]
 pub struct CallCounts {
     pub made: u64,
     pub calls: PageCalls,
-    pub faults: u64,
+    pub refused: u64,
 }
 
 impl PageCalls {
@@ -108,26 +108,29 @@ impl CallCounts {
         CallCounts {
             made: 0,
             calls: PageCalls::none(),
-            faults: 0,
+            refused: 0,
         }
     }
 
-    /// After a call on a range of this length, which failed or not.
-    pub(crate) fn after(self, kind: CallKind, len: usize, failed: bool) -> CallCounts
-        ensures { result ≡ counts_after_call kind len failed self }
+    /// After a call on a range of this length, which the list refused or not.
+    pub(crate) fn after(self, kind: CallKind, len: usize, refused: bool) -> CallCounts
+        ensures { result ≡ counts_after_call kind len refused self }
     {
-        let faults = if failed {
-            risen(self.faults)
+        let refusals = if refused {
+            risen(self.refused)
         } else {
-            self.faults
+            self.refused
         };
         if len == 0 {
-            CallCounts { faults, ..self }
+            CallCounts {
+                refused: refusals,
+                ..self
+            }
         } else {
             CallCounts {
                 made: risen(self.made),
                 calls: self.calls.raised(kind),
-                faults,
+                refused: refusals,
             }
         }
     }

@@ -1,5 +1,5 @@
 //! Rows of bytes that are touched only as far as something was put into them.
-ghost use Rattle.std.specs.Prelude.{◌≡◌, ℕ, ◌+◌, ◌-◌, ◌^◌, ◌<◌, ◌≤◌, List, length, replicate, slice_range, IfOk, IsTrue, ◌↔◌, vec_capacity};
+ghost use Rattle.std.specs.Prelude.{◌≡◌, ℕ, ◌+◌, ◌-◌, ◌^◌, ◌<◌, ◌≤◌, List, ◌++◌, length, replicate, slice_range, IfOk, IsTrue, ◌↔◌, vec_capacity};
 ghost use Rattle.pool_pages.specs.Contents.{put, put_all};
 ghost use Rattle.pool_pages.specs.Dense.{with_zeros};
 
@@ -46,8 +46,8 @@ impl Column {
         self.len
     }
 
-    /// Copies `bytes` over those from `from` on.
-    #[tactic(auto, using(crate::proofs::Prefixes::put_in_prefix, crate::proofs::Prefixes::put_prefix_long, crate::proofs::Prefixes::column_length))]
+    /// Copies `bytes` over those from `from` on. What lies past the prefix is written once.
+    #[tactic(auto, using(crate::proofs::Prefixes::column_length))]
     pub(crate) fn put(&mut self, from: usize, bytes: &[u8])
         requires { from + length bytes.now ≤ length self.old }
         ensures { self.new ≡ put from bytes.now self.old }
@@ -55,8 +55,11 @@ impl Column {
         if bytes.len() == 0 {
             return;
         }
-        lengthen(&mut self.prefix, from + bytes.len());
-        overwrite(&mut self.prefix, from, bytes);
+        lengthen(&mut self.prefix, from);
+        let inside = (self.prefix.len() - from).min(bytes.len());
+        let (over, behind) = bytes.split_at(inside);
+        overwrite(&mut self.prefix, from, over);
+        append(&mut self.prefix, behind);
     }
 
     /// Sets `count` bytes from `from` on to one value.
@@ -149,6 +152,18 @@ fn lengthen(prefix: &mut Vec<u8>, len: usize)
             Ok(()) => {}
             Err(_) => unreachable!(),
         }
+    }
+}
+
+// Adds bytes behind the prefix, which has room for them: nothing was written there before.
+fn append(prefix: &mut Vec<u8>, bytes: &[u8])
+    requires { length prefix.old.items + length bytes.now ≤ vec_capacity prefix.old }
+    ensures items { prefix.new.items ≡ prefix.old.items ++ bytes.now }
+    ensures capacity { vec_capacity prefix.old ≤ vec_capacity prefix.new }
+{
+    match prefix.extend_from_slice(bytes) {
+        Ok(()) => {}
+        Err(_) => unreachable!(),
     }
 }
 

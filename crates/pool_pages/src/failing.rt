@@ -1,96 +1,120 @@
-ghost use Rattle.std.specs.Prelude.{◌≡◌};
+ghost use Rattle.std.specs.Prelude.{◌≡◌, true, false, IfOk};
 ghost use Rattle.pool_pages.specs.Told.{TellsShaped};
+ghost use Rattle.pool_pages.specs.FailingRegions.{with_failing};
 ghost use Rattle.pool_pages.specs.FailingTold.{failing_told, lets_through, no_counts, counts_after_call};
 
-use crate::call_counts::{CallCounts, CallKind, risen};
-use crate::call_plan::CallPlan;
+use crate::call_counts::CallKind;
 use crate::image_data::ImageData;
+use crate::listed_calls::ListedCalls;
 use crate::pages::{PageCalls, PageFault, Pages, RegionName};
 use pool_types::{DecommitBehavior, HostAlignedByteCount, PageSize, PlainList};
+use std::alloc::{AllocError, Global};
 
 /// A region with a list of the numbers of its calls that fail.
 ///
 /// Its calls on pages are numbered from 1 over all kinds together; a call of length zero is none of them. A
 /// listed call isn't made on the region behind: it changes nothing but the counts.
+///
+/// It lies in memory of its own, so that to move it is to move a pointer.
 #[derive(Drop)]
 pub struct Failing<R: Pages> {
+    state: Box<FailingState<R>>,
+}
+
+#[derive(Drop)]
+struct FailingState<R: Pages> {
     region: R,
-    plan: CallPlan,
-    counts: CallCounts,
+    calls: ListedCalls,
 }
 
 impl<R: Pages> Failing<R> {
-    /// No call was made on it yet. Owns the region behind it. Takes no memory.
-    pub fn new(region: R, plan: PlainList<u64>) -> Self
-        ensures { ⟦<Failing<R> as Pages>⟧.told result ≡ failing_told (R.told region) plan no_counts }
+    /// No call was made on it yet. Owns the region behind it. Takes memory for itself and for a
+    /// sorted list.
+    pub fn new(alloc: Global, region: R, plan: PlainList<u64>) -> Result<Self, AllocError>
+        ensures { IfOk result (λ failing. ⟦<Failing<R> as Pages>⟧.told failing ≡ failing_told (R.told region) plan no_counts) }
     {
-        Failing {
+        let state = FailingState {
             region,
-            plan: CallPlan::new(plan),
-            counts: CallCounts::none(),
-        }
+            calls: ListedCalls::new(alloc, plan)?,
+        };
+        Ok(Failing {
+            state: Box::new(alloc, state)?,
+        })
     }
 
     // Whether the list lets the next call through, on a range of this length.
     fn lets_through(&self, len: usize) -> bool
-        ensures { result ≡ lets_through self.now.plan self.now.counts.made len }
+        ensures { result ≡ lets_through self.now.state.value.calls.listed self.now.state.value.calls.counts.made len }
     {
-        len == 0 || !self.plan.lists(risen(self.counts.made))
+        self.state.calls.lets_through(len)
     }
 
-    // Counts a call, made on the region behind or not. That what the region tells has its shape is known by
-    // its length, which is asked for that alone.
-    fn count(&mut self, kind: CallKind, len: usize, failed: bool)
-        ensures counted { self.new ≡ record self.old { counts = counts_after_call kind len failed self.old.counts } }
-        ensures shaped { TellsShaped (R.told self.new.region) }
+    // Counts a call that the list refuses. That what the region tells has its shape is known by its length, which is
+    // asked for that alone; in the other count likewise.
+    fn refuse(&mut self, kind: CallKind, len: usize)
+        requires { lets_through self.old.state.value.calls.listed self.old.state.value.calls.counts.made len ≡ false }
+        ensures region { self.new.state.value.region ≡ self.old.state.value.region }
+        ensures calls { self.new.state.value.calls ≡ record self.old.state.value.calls { counts = counts_after_call kind len true self.old.state.value.calls.counts } }
+        ensures shaped { TellsShaped (R.told self.new.state.value.region) }
     {
-        let _len = self.region.len();
-        self.counts = self.counts.after(kind, len, failed);
-        self.plan.reach(risen(self.counts.made));
+        let _len = self.state.region.len();
+        self.state.calls.refuse(kind, len);
+    }
+
+    // Counts a call that was made on the region behind.
+    fn pass(&mut self, kind: CallKind, len: usize)
+        ensures region { self.new.state.value.region ≡ self.old.state.value.region }
+        ensures calls { self.new.state.value.calls ≡ record self.old.state.value.calls { counts = counts_after_call kind len false self.old.state.value.calls.counts } }
+        ensures shaped { TellsShaped (R.told self.new.state.value.region) }
+    {
+        let _len = self.state.region.len();
+        self.state.calls.pass(kind, len);
     }
 }
 
 impl<R: Pages> Pages for Failing<R> {
-    ghost told = { λ f. failing_told (R.told f.region) f.plan f.counts };
+    ghost told = { with_failing R.told };
 
     fn name(&self) -> RegionName {
-        self.region.name()
+        self.state.region.name()
     }
 
     fn page(&self) -> PageSize {
-        self.region.page()
+        self.state.region.page()
     }
 
     fn len(&self) -> HostAlignedByteCount {
-        self.region.len()
+        self.state.calls.bounded();
+        self.state.region.len()
     }
 
     fn faults(&self) -> u64 {
-        if self.plan.is_empty() {
-            self.region.faults()
+        if self.state.calls.is_empty() {
+            self.state.region.faults()
         } else {
-            self.counts.faults
+            let refused = self.state.calls.counts().refused;
+            refused.saturating_add(self.state.region.faults())
         }
     }
 
     fn calls(&self) -> PageCalls {
-        if self.plan.is_empty() {
-            self.region.calls()
+        if self.state.calls.is_empty() {
+            self.state.region.calls()
         } else {
-            self.counts.calls
+            self.state.calls.counts().calls
         }
     }
 
     fn behaviour(&self) -> DecommitBehavior {
-        self.region.behaviour()
+        self.state.region.behaviour()
     }
 
     fn colour(&self, page: usize) -> u8 {
-        self.region.colour(page)
+        self.state.region.colour(page)
     }
 
     fn dirty(&self, page: usize) -> bool {
-        self.region.dirty(page)
+        self.state.region.dirty(page)
     }
 
     fn expose(
@@ -100,11 +124,11 @@ impl<R: Pages> Pages for Failing<R> {
     ) -> Result<(), PageFault> {
         let bytes = len.byte_count();
         if !self.lets_through(bytes) {
-            self.count(CallKind::Expose, bytes, true);
+            self.refuse(CallKind::Expose, bytes);
             return Err(PageFault);
         }
-        let made = self.region.expose(start, len);
-        self.count(CallKind::Expose, bytes, made.is_err());
+        let made = self.state.region.expose(start, len);
+        self.pass(CallKind::Expose, bytes);
         made
     }
 
@@ -115,11 +139,11 @@ impl<R: Pages> Pages for Failing<R> {
     ) -> Result<(), PageFault> {
         let bytes = len.byte_count();
         if !self.lets_through(bytes) {
-            self.count(CallKind::Hide, bytes, true);
+            self.refuse(CallKind::Hide, bytes);
             return Err(PageFault);
         }
-        let made = self.region.hide(start, len);
-        self.count(CallKind::Hide, bytes, made.is_err());
+        let made = self.state.region.hide(start, len);
+        self.pass(CallKind::Hide, bytes);
         made
     }
 
@@ -130,11 +154,11 @@ impl<R: Pages> Pages for Failing<R> {
     ) -> Result<(), PageFault> {
         let bytes = image.as_slice().len();
         if !self.lets_through(bytes) {
-            self.count(CallKind::MapImage, bytes, true);
+            self.refuse(CallKind::MapImage, bytes);
             return Err(PageFault);
         }
-        let made = self.region.map_image(start, image);
-        self.count(CallKind::MapImage, bytes, made.is_err());
+        let made = self.state.region.map_image(start, image);
+        self.pass(CallKind::MapImage, bytes);
         made
     }
 
@@ -145,11 +169,11 @@ impl<R: Pages> Pages for Failing<R> {
     ) -> Result<(), PageFault> {
         let bytes = len.byte_count();
         if !self.lets_through(bytes) {
-            self.count(CallKind::RemapZeros, bytes, true);
+            self.refuse(CallKind::RemapZeros, bytes);
             return Err(PageFault);
         }
-        let made = self.region.remap_zeros(start, len);
-        self.count(CallKind::RemapZeros, bytes, made.is_err());
+        let made = self.state.region.remap_zeros(start, len);
+        self.pass(CallKind::RemapZeros, bytes);
         made
     }
 
@@ -160,11 +184,11 @@ impl<R: Pages> Pages for Failing<R> {
     ) -> Result<(), PageFault> {
         let bytes = len.byte_count();
         if !self.lets_through(bytes) {
-            self.count(CallKind::Erase, bytes, true);
+            self.refuse(CallKind::Erase, bytes);
             return Err(PageFault);
         }
-        let made = self.region.erase(start, len);
-        self.count(CallKind::Erase, bytes, made.is_err());
+        let made = self.state.region.erase(start, len);
+        self.pass(CallKind::Erase, bytes);
         made
     }
 
@@ -176,11 +200,11 @@ impl<R: Pages> Pages for Failing<R> {
     ) -> Result<(), PageFault> {
         let bytes = len.byte_count();
         if !self.lets_through(bytes) {
-            self.count(CallKind::Recolour, bytes, true);
+            self.refuse(CallKind::Recolour, bytes);
             return Err(PageFault);
         }
-        let made = self.region.recolour(start, len, colour);
-        self.count(CallKind::Recolour, bytes, made.is_err());
+        let made = self.state.region.recolour(start, len, colour);
+        self.pass(CallKind::Recolour, bytes);
         made
     }
 
@@ -191,31 +215,31 @@ impl<R: Pages> Pages for Failing<R> {
     ) -> Result<(), PageFault> {
         let bytes = len.byte_count();
         if !self.lets_through(bytes) {
-            self.count(CallKind::Decommit, bytes, true);
+            self.refuse(CallKind::Decommit, bytes);
             return Err(PageFault);
         }
-        let made = self.region.decommit(start, len);
-        self.count(CallKind::Decommit, bytes, made.is_err());
+        let made = self.state.region.decommit(start, len);
+        self.pass(CallKind::Decommit, bytes);
         made
     }
 
     fn read(&self, at: usize, out: &mut [u8]) {
-        self.region.read(at, out)
+        self.state.region.read(at, out)
     }
 
     fn holds(&self, at: usize, bytes: &[u8]) -> bool {
-        self.region.holds(at, bytes)
+        self.state.region.holds(at, bytes)
     }
 
     fn write(&mut self, at: usize, bytes: &[u8]) {
-        self.region.write(at, bytes)
+        self.state.region.write(at, bytes)
     }
 
     fn fill(&mut self, at: usize, len: usize, byte: u8) {
-        self.region.fill(at, len, byte)
+        self.state.region.fill(at, len, byte)
     }
 
     fn restore(&mut self, at: usize, len: usize) {
-        self.region.restore(at, len)
+        self.state.region.restore(at, len)
     }
 }

@@ -94,7 +94,10 @@ impl<'a, M: PageMaker + Drop> PageMaker for FailingMaker<'a, M> {
             return Err(MakeFault::PageFault);
         }
         match self.maker.make(alloc, name, behaviour, accessible, len) {
-            Ok(region) => Ok(Failing::new(region, calls)),
+            Ok(region) => match Failing::new(alloc, region, calls) {
+                Ok(region) => Ok(region),
+                Err(_) => Err(MakeFault::Memory),
+            },
             Err(MakeFault::PageFault) => {
                 self.faults = risen(self.faults);
                 Err(MakeFault::PageFault)

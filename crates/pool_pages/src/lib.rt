@@ -40,6 +40,7 @@ mod failing;
 mod failing_maker;
 mod fault_index;
 mod fault_plan;
+mod listed_calls;
 
 pub use failing::Failing;
 pub use failing_maker::FailingMaker;

@@ -4,13 +4,13 @@ use Rattle.pool_pages.proofs.failing.FailingPages.map_image.Goals as goal
 
 pub returns-then-not-lets_through-clause-planned : goal.returns-then-not-lets_through-clause-planned
 returns-then-not-lets_through-clause-planned g c =
-    let region = g.R.Pages.told c.args.self.now.region in
-    refused_planned region.plan c.args.self.now.plan region.made c.args.self.now.counts.made (length c.args.image.now.bytes)
+    let region = g.R.Pages.told c.args.self.now.state.value.region in
+    refused_planned region.plan c.args.self.now.state.value.calls.listed region.made c.args.self.now.state.value.calls.counts.made (length c.args.image.now.bytes)
     (sym (rw c.as_slice-bytes.ensures.value at c.if-not-lets_through.ensures))
 
 pub returns-clause-planned : goal.returns-clause-planned
 returns-clause-planned g c =
-    let region = g.R.Pages.told c.args.self.now.region in
-    passed_planned (is_ok c.map_image-made.result) region.plan c.args.self.now.plan region.made c.args.self.now.counts.made (length c.args.image.now.bytes)
+    let region = g.R.Pages.told c.args.self.now.state.value.region in
+    passed_planned (is_ok c.map_image-made.result) region.plan c.args.self.now.state.value.calls.listed region.made c.args.self.now.state.value.calls.counts.made (length c.args.image.now.bytes)
     (sym (rw c.as_slice-bytes.ensures.value at c.if-not-lets_through.ensures))
-    c.map_image-made.ensures.planned
+    (rw c.deref_mut.ensures.value at c.map_image-made.ensures.planned)

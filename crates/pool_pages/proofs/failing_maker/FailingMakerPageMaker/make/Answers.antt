@@ -12,15 +12,15 @@ returns-then-has_making-clause-planned g c =
     listed_fails (PageFault ≡ PageFault) (fails_making c.args.name) (g.M.PageMaker.told c.args.self.now.maker).plan (planned_faults c.args.self.now.plan) refl
     (making_planned c.args.name c.args.self.now.plan c.in-Ok.calls c.as_slice.result.now _ c.in-Ok.ensures.calls c.as_slice.ensures (sym c.if-has_making.ensures))
 
-pub returns-in-Ok-make-clause-region : goal.returns-in-Ok-make-clause-region
-returns-in-Ok-make-clause-region g c =
-    c.new.ensures
+pub returns-in-Ok-new-clause-region : goal.returns-in-Ok-new-clause-region
+returns-in-Ok-new-clause-region g c =
+    c.in-Ok-new.ensures
     ∙ made_failing c.args.name c.args.behaviour c.args.accessible c.args.len (g.M.PageMaker.told c.args.self.now.maker) c.args.self.now.page c.args.self.now.next c.args.self.now.faults (planned_faults c.args.self.now.plan) _ c.in-Ok.calls no_counts c.in-Ok-make.ensures.region
     (c.in-Ok.ensures.calls ∙ sym (calls_planned c.args.name c.args.self.now.plan))
     refl
 
-pub returns-in-Ok-make-clause-planned : goal.returns-in-Ok-make-clause-planned
-returns-in-Ok-make-clause-planned g c =
+pub returns-in-Ok-new-clause-planned : goal.returns-in-Ok-new-clause-planned
+returns-in-Ok-new-clause-planned g c =
     neither_fails (fails_making c.args.name) (g.M.PageMaker.told c.args.self.now.maker).plan (planned_faults c.args.self.now.plan)
     (making_planned c.args.name c.args.self.now.plan c.in-Ok.calls c.as_slice.result.now _ c.in-Ok.ensures.calls c.as_slice.ensures (sym c.if-has_making.ensures))
     c.in-Ok-make.ensures.planned
@@ -30,8 +30,8 @@ returns-then-has_making-clause-behind g c =
     listed_stays (fails_making c.args.name (planned_faults c.args.self.now.plan)) (g.M.PageMaker.told c.args.self.now.maker).faults PageFault
     (making_planned c.args.name c.args.self.now.plan c.in-Ok.calls c.as_slice.result.now _ c.in-Ok.ensures.calls c.as_slice.ensures (sym c.if-has_making.ensures))
 
-pub returns-in-Ok-make-clause-listed : goal.returns-in-Ok-make-clause-listed
-returns-in-Ok-make-clause-listed g c = making_planned c.args.name c.args.self.now.plan c.in-Ok.calls c.as_slice.result.now _ c.in-Ok.ensures.calls c.as_slice.ensures (sym c.if-has_making.ensures)
+pub returns-in-Ok-new-clause-listed : goal.returns-in-Ok-new-clause-listed
+returns-in-Ok-new-clause-listed g c = making_planned c.args.name c.args.self.now.plan c.in-Ok.calls c.as_slice.result.now _ c.in-Ok.ensures.calls c.as_slice.ensures (sym c.if-has_making.ensures)
 
 pub returns-in-Err-PageFault-clause-behind : goal.returns-in-Err-PageFault-clause-behind
 returns-in-Err-PageFault-clause-behind g c =
