@@ -4,12 +4,15 @@ pub use Rattle.std.proofs.Math.Numerals.{suc-eq-add-one}
 pub use Rattle.std.proofs.lemmas.Bool.{cases_eq, cases_lt, eq-eqb, lt-ltb}
 pub use Rattle.std.proofs.lemmas.Bool.Decides.{nat_tests}
 pub use Rattle.std.proofs.lemmas.List.{append-nil, drop-map, get_or-append_right, get_or-map, get_or-replicate, get_or-take, get_or_append_left, length-append, length-map, length-replicate, length-take, map-append, replicate-append-replicate, same_lists, take-append-drop, take-map, take_all}
-pub use Rattle.std.proofs.lemmas.List.Folds.{concat-append}
+pub use Rattle.std.proofs.lemmas.List.Elements.{All-from_get_or}
+pub use Rattle.std.proofs.lemmas.List.Folds.{concat-append, list_any_at, list_any_none}
 pub use Rattle.std.proofs.lemmas.List.FromFn.{get_or-map-range_with_len, length-map-range_with_len}
+pub use Rattle.std.proofs.lemmas.List.Sorted.{IsNonDecreasingBy-from_sort, list_any-IsPermutation}
 pub use Rattle.std.proofs.lemmas.Nat.{from_le_bytes-to_le_bytes_4, from_le_bytes-to_le_bytes_8, le-div}
 pub use Rattle.std.proofs.lemmas.Option.{slice_get-get_or}
 pub use Rattle.std.specs.Int.{from_le_bytes, to_le_bytes, w64}
-pub use Rattle.std.specs.List.{concat}
+pub use Rattle.std.specs.List.{concat, list_any}
+pub use Rattle.std.specs.List.Sorted.{IsNonDecreasing}
 pub use Rattle.pool_limits.proofs.Ruled.{allowed_grown, ruled_error, ruled_no, ruled_nothing, ruled_past_type, ruled_yes, unasked}
 pub use Rattle.pool_limits.specs.Exchanges.{Exchange, Exchanged, GrowthQuestion, has_failed, may_grow, question_of}
 pub use Rattle.pool_limits.specs.Growing.{GrowthGiven, GrowthMakes, IsAllowed, IsRuled, Obstacles, growth_exchanges, report_result, report_seen}

@@ -1,5 +1,6 @@
 pub mod Accesses
 pub mod Copies
+pub mod ListedNumbers
 pub mod Fresh
 pub mod Growths
 mod Imports

@@ -1,4 +1,5 @@
 pub mod Elements
+pub mod FailingNumbers
 pub mod Growing
 pub mod Making
 pub mod Stores

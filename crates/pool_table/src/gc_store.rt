@@ -1,8 +1,8 @@
-ghost use Rattle.std.specs.Prelude.{◌≡◌, ◌==◌, is_ok, not, IfSome, OnOk, OnErr};
-ghost use Rattle.std.specs.List.{list_any};
+ghost use Rattle.std.specs.Prelude.{◌≡◌, is_ok, IfSome, OnOk, OnErr};
 ghost use Rattle.pool_types.specs.Rising.{risen};
 ghost use Rattle.pool_table.specs.Stores.{StoreTold, StoreCall, call_of, store_called, store_passes, StoreFaulted, listed_store};
 
+use crate::failing_numbers::FailingNumbers;
 use pool_limits::Trap;
 use pool_types::PlainList;
 
@@ -41,28 +41,22 @@ pub trait GcStore {
 /// A store with a list of the numbers of its calls that fail. Its calls are numbered from 1.
 #[derive(Debug, Drop)]
 pub struct ListedStore {
-    failing: PlainList<u64>,
+    failing: FailingNumbers,
     made: u64,
     faults: u64,
 }
 
 impl ListedStore {
-    /// No call was made on it yet. Takes no memory.
+    /// No call was made on it yet. Sorts the list, and takes no memory.
     pub fn new(failing: PlainList<u64>) -> Self
         ensures { ⟦<ListedStore as GcStore>⟧.told result ≡ listed_store failing 0 0 }
     {
         ListedStore {
-            failing,
+            failing: FailingNumbers::new(failing),
             made: 0,
             faults: 0,
         }
     }
-}
-
-fn lists(listed: &[u64], number: u64) -> bool
-    ensures { result ≡ list_any (λ n. n == number) listed.now }
-{
-    listed.iter().any(|&call| call == number)
 }
 
 impl GcStore for ListedStore {
@@ -74,7 +68,7 @@ impl GcStore for ListedStore {
 
     fn write_gc_ref(&mut self, _old: Option<u32>, _new: Option<u32>) -> Result<(), GcStoreFault> {
         self.made = self.made.saturating_add(1);
-        if lists(self.failing.as_slice(), self.made) {
+        if self.failing.lists(self.made) {
             self.faults = self.faults.saturating_add(1);
             return Err(GcStoreFault);
         }

@@ -23,6 +23,7 @@ mod table_error;
 // Elements, and their words
 mod element;
 mod element_rule;
+mod failing_numbers;
 mod gc_store;
 
 // Static tables, over a region
@@ -42,6 +43,7 @@ pub use element::{
     words_read_back,
 };
 pub use element_rule::{ContRule, ElementRule, FuncRule, GcRefRule};
+pub use failing_numbers::FailingNumbers;
 pub use gc_store::{GcStore, GcStoreFault, GcTableError, ListedStore};
 pub use making::made_regions_have_room;
 pub use static_elements::StaticElements;

@@ -16,7 +16,8 @@ use pool_limits::Trap;
 use pool_pages::Pages;
 
 // Calls on a table of functions.
-impl<P: Pages> Table<P> { /// The function with this number: None where it isn't initialised.
+impl<P: Pages> Table<P> {
+    /// The function with this number: None where it isn't initialised.
     pub fn get_func(&self, index: u64) -> Result<Option<FuncTableElem>, Trap>
         requires { element_type_of self.now ≡ Func }
         ensures answer { is_ok result ≡ nat_lt index (table_view self.now).size }
@@ -72,7 +73,8 @@ impl<P: Pages> Table<P> { /// The function with this number: None where it isn't
 }
 
 // Calls on a table of continuations.
-impl<P: Pages> Table<P> { /// The continuation with this number.
+impl<P: Pages> Table<P> {
+    /// The continuation with this number.
     pub fn get_cont(&self, index: u64) -> Result<ContTableElem, Trap>
         requires { element_type_of self.now ≡ Cont }
         ensures answer { is_ok result ≡ nat_lt index (table_view self.now).size }
@@ -118,7 +120,8 @@ impl<P: Pages> Table<P> { /// The continuation with this number.
 }
 
 // Calls on a table of GC references.
-impl<P: Pages> Table<P> { /// The reference with this number.
+impl<P: Pages> Table<P> {
+    /// The reference with this number.
     pub fn get_gc_ref(&self, index: u64) -> Result<Option<u32>, Trap>
         requires { element_type_of self.now ≡ GcRef }
         ensures answer { is_ok result ≡ nat_lt index (table_view self.now).size }
