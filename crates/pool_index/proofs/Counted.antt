@@ -1,16 +1,15 @@
 -- Shards that are held one after the other and only looked at, and slots that are freed one after the other.
-use Rattle.std.proofs.Common.{◌≡◌, ℕ, zero, suc, ◌+◌, ◌-◌, ◌*◌, ◌^◌, ◌<◌, ◌≤◌, Bool, true, false, List, [], ◌∷◌, ◌++◌, length, take, min, Option, Some, sym, refl, ap, subst, ◌∙◌, arith, length-append, ◌==◌, ◌&&◌, sum_by, map, All, slice_index_or}
-use Rattle.pool_index.proofs.Imports.{sum_by-append, sum_by-le, map_more, UnitName, Memory, View, one_if, same, times, pick_unit, IsHeld, put_view, Taken, MayPut, same_self, times_append}
+use Rattle.std.proofs.Common.{◌≡◌, ℕ, zero, suc, ◌+◌, ◌-◌, ◌*◌, ◌^◌, ◌<◌, ◌≤◌, Bool, true, false, List, [], ◌∷◌, ◌++◌, length, min, Option, Some, sym, refl, ap, subst, ◌∙◌, arith, length-append, ◌==◌, ◌&&◌, sum_by, map, All}
+use Rattle.pool_index.proofs.Imports.{sum_by-append, sum_by-le, UnitName, View, same, times, IsHeld, put_view, Taken, MayPut}
 use Rattle.pool_index.specs.declared.counting.ShardCounts.{ShardCounts}
-use Rattle.pool_index.specs.declared.ids.SlotId.{SlotId}
 use Rattle.pool_index.specs.Shard.{ShardState, IsShard, used_count, resident_bytes}
 use Rattle.pool_index.specs.Part.{shard_meaning}
 use Rattle.pool_index.specs.Moves.{Moves}
 use Rattle.pool_index.specs.ShardMeans.{shard_means}
-use Rattle.pool_index.specs.Freed.{IsCounted, IsSum, all_unused, units_of_slots, HasAll}
+use Rattle.pool_index.specs.Freed.{IsCounted, IsSum, all_unused}
 use Rattle.pool_index.specs.Layout.{capacity_of}
 use Rattle.pool_index.specs.MadeShards.{AreMade}
-use Rattle.pool_index.specs.Round.{HeldShard, HeldInTurn, Gives, KeepsCounts, KeepsRest}
+use Rattle.pool_index.specs.Round.{HeldShard, HeldInTurn, KeepsCounts, KeepsRest}
 use Rattle.pool_index.proofs.Allocating.{shard_there}
 use Rattle.pool_index.proofs.Puts.{may_gain, units_after}
 use Rattle.pool_index.proofs.Rounds.{same_counts, rest_after}
@@ -101,37 +100,6 @@ so_far_more made limits capacity warm slots shards is n h v s told ss r f before
       few = omega arith;
       light = omega arith;
     }
-
--- the first of some slots have no more units than all
-pub first_units : (items : List (SlotId × ℕ)) (n : ℕ) (u : UnitName) → times u (units_of_slots (take n items)) ≤ times u (units_of_slots items)
-first_units [] zero u = omega arith
-first_units [] (suc n) u = omega arith
-first_units (p ∷ ps) zero u = omega arith
-first_units (p ∷ ps) (suc n) u = let r = first_units ps n u in omega arith
-
-module _ (items : List (SlotId × ℕ)) (n : ℕ) (d : SlotId × ℕ) (inside : n < length items) (first now : View ShardState) (gave : Gives (units_of_slots (take n items)) first now) where
-  abbrev slot : SlotId × ℕ
-  slot = slice_index_or items n d
-
-  abbrev w : UnitName
-  w = pick_unit Memory slot.0.0
-
-  one_more : (u : UnitName) → times u (units_of_slots (take (n + 1) items)) ≡ times u (units_of_slots (take n items)) + one_if (same u w)
-  one_more u = ap (times u) (map_more (λ (p : SlotId × ℕ). pick_unit Memory p.0.0) items n d inside) ∙ times_append u (units_of_slots (take n items)) (w ∷ []) ∙ (let q : times u (units_of_slots (take n items)) + times u (w ∷ []) ≡ times u (units_of_slots (take n items)) + one_if (same u w) = omega arith in q)
-
-  -- the next slot's unit is in the seat
-  pub next_there : HasAll (units_of_slots items) first → 0 < times w now.units
-  next_there all =
-      let a = all w in
-      let b = first_units items (n + 1) w in
-      let c = one_more w in
-      let g = gave w in
-      let o : one_if (same w w) ≡ 1 = ap one_if (same_self w) in
-      omega arith
-
-  -- and leaves it
-  pub gave_more : (z : View ShardState) → Gives (w ∷ []) now z → Gives (units_of_slots (take (n + 1) items)) first z
-  gave_more z one u = let a = one u in let b = gave u in let c = one_more u in omega arith
 
 -- a view that is as before but for units and counts, twice
 pub rest_both : (u v w : View ShardState) → KeepsRest u v → KeepsRest v w → KeepsRest u w

@@ -1,8 +1,7 @@
 -- Slots that are freed one after the other.
-use Rattle.std.proofs.Common.{◌≡◌, ℕ, zero, suc, ◌+◌, ◌<◌, ◌==◌, if◌then◌else◌, Bool, true, false, List, [], ◌∷◌, ◌++◌, length, take, refl, sym, subst, ◌∙◌, ap, arith, slice_index, slice_index_or}
-use Rattle.std.proofs.Math.Seq.{take-suc}
+use Rattle.std.proofs.Common.{◌≡◌, ℕ, zero, suc, ◌+◌, ◌==◌, if◌then◌else◌, Bool, true, false, List, [], ◌∷◌, refl, sym, ◌∙◌, ap, arith, slice_index}
 use Rattle.pool_index.proofs.Imports.{View, rise, counted, number, put_view, ne_eqb, sum_by_push}
-use Rattle.pool_index.specs.Allocator.{place_in, FreedInShard, FreedInTurn, bytes_into, AddsBytes}
+use Rattle.pool_index.specs.Allocator.{place_in, bytes_into, AddsBytes}
 use Rattle.pool_index.specs.Freed.{IsFreed}
 use Rattle.pool_index.specs.Part.{shard_counts, shard_meaning, bytes_kept}
 use Rattle.pool_index.specs.Shard.{ShardState, IsShard, resident_bytes}
@@ -11,19 +10,6 @@ use Rattle.pool_index.specs.declared.ids.SlotId.{SlotId}
 use Rattle.pool_index.specs.declared.warm_slot.WarmSlot.{WarmSlot}
 use Rattle.pool_index.proofs.Puts.{small_counts}
 use Rattle.pool_index.proofs.Rounds.{no_rise, counted_after}
-
-one_behind : (a : ModuleAffinityIndexAllocator) (ps : List (SlotId × ℕ)) (p : SlotId × ℕ) (v u w : View ShardState) → FreedInTurn a ps v u → FreedInShard a p.0 p.1 u w → FreedInTurn a (ps ++ p ∷ []) v w
-one_behind a [] p v u w e freed = (w, subst (λ (z : View ShardState). FreedInShard a p.0 p.1 z w) e freed, refl)
-one_behind a (q ∷ qs) p v u w (x, first, rest) freed = (x, first, one_behind a qs p x u w rest freed)
-
--- one slot more of a list
-next_taken : (items : List (SlotId × ℕ)) (n : ℕ) (d : SlotId × ℕ) → n < length items → take (n + 1) items ≡ take n items ++ slice_index_or items n d ∷ []
-next_taken items n d inside = ap (λ (k : ℕ). take k items) (let q : n + 1 ≡ suc n = omega arith in q) ∙ take-suc items n d inside
-
--- one slot more of a list is freed
-pub freed_more : (a : ModuleAffinityIndexAllocator) (items : List (SlotId × ℕ)) (n : ℕ) (d : SlotId × ℕ) → n < length items → (v u w : View ShardState) → FreedInTurn a (take n items) v u → FreedInShard a (slice_index_or items n d).0 (slice_index_or items n d).1 u w → FreedInTurn a (take (n + 1) items) v w
-freed_more a items n d inside v u w before freed =
-    subst (λ (l : List (SlotId × ℕ)). FreedInTurn a l v w) (sym (next_taken items n d inside)) (one_behind a (take n items) (slice_index_or items n d) v u w before freed)
 
 -- what a free of one slot adds to the counts of its shard
 module _ (k : SlotId) (bytes : ℕ) (x y : ShardState) (sound : IsShard x) (freed : IsFreed k bytes x y) where
@@ -58,17 +44,6 @@ bytes_added a slot q here k bytes x y sound freed v w put p i =
     let all = after ∙ ap (λ (n : ℕ). n + number (counted p i) v) (rose ∙ split ∙ one) in
     omega arith
 
-sum_of_both : (b : Bool) (m n k : ℕ) → k ≡ m + n → (if b then m else 0) + (if b then n else 0) ≡ (if b then k else 0)
+pub sum_of_both : (b : Bool) (m n k : ℕ) → k ≡ m + n → (if b then m else 0) + (if b then n else 0) ≡ (if b then k else 0)
 sum_of_both true m n k e = sym e
 sum_of_both false m n k e = refl
-
--- and of one slot more of a list
-pub bytes_more : (a : ModuleAffinityIndexAllocator) (items : List (SlotId × ℕ)) (n : ℕ) (d : SlotId × ℕ) → n < length items → (v u w : View ShardState) → AddsBytes a (take n items) v u → AddsBytes a (slice_index_or items n d ∷ []) u w → AddsBytes a (take (n + 1) items) v w
-bytes_more a items n d inside v u w before added p i =
-    let x = slice_index_or items n d in
-    let all : bytes_into a p (take (n + 1) items) ≡ bytes_into a p (take n items) + (if p == place_in a x.0.0 then x.1 else 0) = ap (bytes_into a p) (next_taken items n d inside) ∙ sum_by_push (λ (x : SlotId × ℕ). if p == place_in a x.0.0 then x.1 else 0) (take n items) x in
-    let one = bytes_of_one a p x in
-    let both = sum_of_both (i == bytes_kept) (bytes_into a p (take n items)) (bytes_into a p (x ∷ [])) (bytes_into a p (take (n + 1) items)) (omega arith) in
-    let b = before p i in
-    let c = added p i in
-    omega arith

@@ -2,10 +2,12 @@ pub mod Allocating
 pub mod ComingBack
 pub mod Counted
 pub mod Ends
+pub mod FreedLists
 pub mod FreedSlots
 pub mod Freeing
 pub mod Filtered
 pub mod Freshness
+pub mod Growing
 mod Imports
 pub mod LastPlaces
 pub mod Layouts
@@ -18,6 +20,7 @@ pub mod Records
 pub mod Rounds
 pub mod Shards
 pub mod Tables
+pub mod Takings
 pub mod Ticks
 pub mod Views
 pub mod WarmUnits

@@ -1,14 +1,17 @@
 -- What a round over shards tells the seat.
-use Rattle.std.proofs.Common.{◌≡◌, ◌≢◌, ℕ, zero, suc, ◌+◌, ◌-◌, ◌%◌, ◌^◌, ◌<◌, ◌≤◌, Bool, true, false, List, [], ◌∷◌, length, Option, Some, None, sym, refl, ap, subst, ◌∙◌, ⊎_elim, arith, true≢false, eq-eqb, ◌==◌, nat_lt, if◌then◌else◌, slice_index}
-use Rattle.pool_index.proofs.Imports.{cases_eq, cases_lt, ne_eqb, nat_tests, option_or, SlotKind, UnitName, View, one_if, often, times, counted, number, rise, Meaning, put_view}
-use Rattle.pool_index.specs.Shard.{ShardState, IsShard, Choice, warm_at, next_cold, cold_choice, warm_choice, choice, after_pick, affine_choice, after_affine_pick}
+use Rattle.std.proofs.Common.{◌≡◌, ◌≢◌, ℕ, zero, suc, ◌+◌, ◌-◌, ◌%◌, ◌^◌, ◌<◌, ◌≤◌, Bool, true, false, List, [], ◌∷◌, length, Option, Some, None, option_map, sym, refl, ap, subst, ◌∙◌, ⊎_elim, arith, true≢false, eq-eqb, ◌==◌, nat_lt, if◌then◌else◌, slice_index}
+use Rattle.pool_index.proofs.Imports.{cases_eq, cases_lt, ne_eqb, nat_tests, option_or, option_map_or, SlotKind, UnitName, View, one_if, often, times, counted, number, rise, Meaning, put_view}
+use Rattle.pool_index.specs.Shard.{ShardState, IsShard, Choice, warm_at, next_cold, cold_choice, warm_choice, choice, after_choice, after_pick, affine_choice, after_affine_pick}
 use Rattle.pool_index.specs.Part.{shard_counts, is_topped, cold_picks}
 use Rattle.pool_index.specs.ShardPart.{MeansShard}
 use Rattle.pool_index.specs.Probe.{is_pick, probe_found, after_probe, miss_count}
-use Rattle.pool_index.specs.Round.{round_place, found_units, AreShards, ProbedAt, NoneFound, IsRound, KeepsRest, Gains, KeepsCounts, NoColdPick, OneColdPick, AllMissed, AllTopped}
+use Rattle.pool_index.specs.Round.{round_place, found_units, AreShards, ProbedAt, NoneFound, IsRound, KeepsRest, Gains, KeepsCounts, OnlyGrows, NoColdPick, OneColdPick, AllMissed, AllTopped}
 use Rattle.pool_index.specs.declared.probe.Probe.{Probe}
 use Rattle.pool_index.specs.declared.probe.Probe.TheVariants.{Pick, Affine}
 use Rattle.pool_index.specs.declared.round.ShardPlaces.{ShardPlaces}
+use Rattle.pool_index.proofs.Growing.{grows_after, grows_same, grows_both}
+use Rattle.pool_index.specs.Affinity.{is_affine}
+use Rattle.pool_index.specs.Positions.{last_position}
 use Rattle.pool_index.proofs.Picking.{Picks, probe_picks}
 use Rattle.pool_index.proofs.Puts.{small_counts, units_after}
 use Rattle.pool_index.specs.Moves.{Moves}
@@ -20,7 +23,7 @@ choice_of_rest s = if nat_lt (length s.warm) s.budget then option_or (cold_choic
 pub no_rise : (n : ℕ) → n < 2 ^ 64 → rise n n ≡ 0
 no_rise n h = omega arith
 
-rise_once : (n : ℕ) → n < 2 ^ 64 → rise n ((n + 1) % 2 ^ 64) ≡ 1
+pub rise_once : (n : ℕ) → n < 2 ^ 64 → rise n ((n + 1) % 2 ^ 64) ≡ 1
 rise_once n h = omega arith
 
 rise_most : (n k : ℕ) → n ≤ k → k ≤ n + 1 → k < 2 ^ 64 → rise n k ≤ 1
@@ -84,6 +87,15 @@ full_topped (Pick want) s sound pick none = go (choice want s) refl (affine_choi
         let t : (s.cold == s.capacity) ≡ true = grind (arith, nat_tests) in
         rw e t
 
+-- a pick by affinity alone takes a slot that was used before
+affine_cold : (c : Probe) (s : ShardState) → is_pick c ≡ false → (after_probe c s).cold ≡ s.cold
+affine_cold (Pick want) s pick = absurd (true≢false pick)
+affine_cold (Affine of) s pick = go (last_position (is_affine of) s.warm)
+  where
+    go : (o : Option ℕ) → (option_map_or (after_choice None s) (option_map warm_at o) (record s { affine_misses = (s.affine_misses + 1) % 2 ^ 64 })).cold ≡ s.cold
+    go None = refl
+    go (Some i) = refl
+
 module _ {T : Type 0} (m : Meaning T) (shard : T → Option ShardState) (means : MeansShard m shard) (made : List T) (limits : List ℕ) where
   -- one probe
   module _ (c : Probe) (p : ℕ) (r : Option ℕ) (v w : View T) (at' : ProbedAt m shard made limits c p r v w) where
@@ -120,6 +132,17 @@ module _ {T : Type 0} (m : Meaning T) (shard : T → Option ShardState) (means :
           elsewhere = λ q other. counted_elsewhere m p at'.held.before at'.held.after at'.state (after_probe c at'.state) before_counts after_counts v w at'.held.view q cold_picks other;
         }
 
+    pub still_cold : (after_probe c at'.state).cold ≡ at'.state.cold → NoColdPick v w
+    still_cold same q =
+        let z = cold_small in
+        let f : rise at'.state.cold (after_probe c at'.state).cold ≡ 0 = ap (rise at'.state.cold) same ∙ no_rise at'.state.cold (omega arith) in
+        ⊎_elim
+        (λ (is : q ≡ p). let e = counted_here m p at'.held.before at'.held.after at'.state (after_probe c at'.state) before_counts after_counts v w at'.held.view cold_picks in
+        let g : number (counted p cold_picks) w ≡ number (counted p cold_picks) v = omega arith in
+        subst (λ (j : ℕ). number (counted j cold_picks) w ≡ number (counted j cold_picks) v) (sym is) g)
+        (λ (other : q ≢ p). counted_elsewhere m p at'.held.before at'.held.after at'.state (after_probe c at'.state) before_counts after_counts v w at'.held.view q cold_picks other)
+        (cases_eq q p)
+
     pub probe_rest : KeepsRest v w
     probe_rest = let e = at'.held.view in record { parts = ap (λ z. z.parts) e; limits = ap (λ z. z.limits) e; added = ap (λ z. z.added) e; low = ap (λ z. z.low) e; subtracted = ap (λ z. z.subtracted) e; portions = ap (λ z. z.portions) e }
 
@@ -147,17 +170,9 @@ module _ {T : Type 0} (m : Meaning T) (shard : T → Option ShardState) (means :
         omega arith
 
     pub miss_no_cold : NoColdPick v w
-    miss_no_cold q =
+    miss_no_cold =
         let k : Picks at'.state (after_probe c at'.state) None = picks_here c p None v w at' in
-        let same = k.none refl in
-        let z = cold_small c p None v w at' in
-        let f : rise at'.state.cold (after_probe c at'.state).cold ≡ 0 = ap (rise at'.state.cold) same ∙ no_rise at'.state.cold (omega arith) in
-        ⊎_elim
-        (λ (is : q ≡ p). let e = counted_here m p at'.held.before at'.held.after at'.state (after_probe c at'.state) (before_counts c p None v w at') (after_counts c p None v w at') v w at'.held.view cold_picks in
-        let g : number (counted p cold_picks) w ≡ number (counted p cold_picks) v = omega arith in
-        subst (λ (j : ℕ). number (counted j cold_picks) w ≡ number (counted j cold_picks) v) (sym is) g)
-        (λ (other : q ≢ p). counted_elsewhere m p at'.held.before at'.held.after at'.state (after_probe c at'.state) (before_counts c p None v w at') (after_counts c p None v w at') v w at'.held.view q cold_picks other)
-        (cases_eq q p)
+        still_cold c p None v w at' (k.none refl)
 
     pub miss_counted : number (counted p (miss_count c)) v + 1 ≤ number (counted p (miss_count c)) w
     miss_counted =
@@ -181,6 +196,10 @@ module _ {T : Type 0} (m : Meaning T) (shard : T → Option ShardState) (means :
         let a = none_rest n v u before in
         let b = probe_rest c (place n) None u w last in
         record { parts = b.parts ∙ a.parts; limits = b.limits ∙ a.limits; added = b.added ∙ a.added; low = b.low ∙ a.low; subtracted = b.subtracted ∙ a.subtracted; portions = b.portions ∙ a.portions }
+
+    pub none_grows : (n : ℕ) (v w : View T) → NoneFound m shard made limits c place n v w → OnlyGrows v w
+    none_grows zero v w e = grows_same v w e
+    none_grows (suc n) v w (u, before, last) = grows_both v u w (none_grows n v u before) (grows_after m (place n) last.held.before last.held.after u w last.held.view)
 
     pub none_missed : (n : ℕ) (v w : View T) → NoneFound m shard made limits c place n v w → (j : ℕ) → j < n → number (counted (place j) (miss_count c)) v + 1 ≤ number (counted (place j) (miss_count c)) w
     none_missed zero v w e j h = absurd (omega arith)
@@ -246,6 +265,14 @@ module _ {T : Type 0} (m : Meaning T) (shard : T → Option ShardState) (means :
     pub round_none_cold : (r : Option ℕ) (v w : View T) → r ≡ None → IsRound m shard made limits c (round_place places home) places.count r v w → NoColdPick v w
     round_none_cold None v w e none = none_cold c (round_place places home) places.count v w none
     round_none_cold (Some n) v w e none = absurd (cc)
+
+    pub round_affine_cold : (r : Option ℕ) (v w : View T) → is_pick c ≡ false → IsRound m shard made limits c (round_place places home) places.count r v w → NoColdPick v w
+    round_affine_cold None v w affine none q = none_cold c (round_place places home) places.count v w none q
+    round_affine_cold (Some n) v w affine (i, h, u, none, last) q = still_cold c (round_place places home i) (Some n) u w last (affine_cold c last.state affine) q ∙ none_cold c (round_place places home) i v u none q
+
+    pub round_grows : (r : Option ℕ) (v w : View T) → IsRound m shard made limits c (round_place places home) places.count r v w → OnlyGrows v w
+    round_grows None v w none = none_grows c (round_place places home) places.count v w none
+    round_grows (Some n) v w (i, h, u, none, last) = grows_both v u w (none_grows c (round_place places home) i v u none) (grows_after m (round_place places home i) last.held.before last.held.after u w last.held.view)
 
     pub round_none_missed : (r : Option ℕ) (v w : View T) → r ≡ None → IsRound m shard made limits c (round_place places home) places.count r v w → AllMissed places (miss_count c) v w
     round_none_missed None v w e none = round_missed v w none

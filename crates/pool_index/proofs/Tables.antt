@@ -238,6 +238,39 @@ inserted_table es reach h d i m b o t its close far at' free absent some most =
       small = let s = t.small in omega arith;
     }
 
+has_some : (a : Affinity) (e : Option AffinityEntry) → has a e ≡ true → is_some e ≡ true
+has_some a None h = absurd (true≢false (sym h))
+has_some a (Some e) h = refl
+
+-- a table after the reach of a home fell to the last place that is taken
+pub shortened_table : (es : Entries) (reach : List ℕ) (h m : ℕ) → IsTable es reach → h < length es → m ≤ slice_index_or reach h 0 → ((d : ℕ) → m ≤ d → d < slice_index_or reach h 0 → is_some (slice_index_or es (place (length es) h d) None) ≡ false) → IsTable es (slice_set reach h m)
+shortened_table es reach h m t close less free =
+    let n : ℕ = length es in
+    let in' : h < length reach = let e = t.homes in omega arith in
+    let here' : slice_index_or (slice_set reach h m) h 0 ≡ m = get_or-set_same reach h m 0 in' in
+    let near' : (i : ℕ) (a : Affinity) → has a (slice_index_or es i None) ≡ true → home n a ≡ h → distance n h i < slice_index_or reach h 0 → distance n h i < m = λ i a found its was. elim (cases_lt (distance n h i) m) [
+      | inl below ↦ below
+      | inr beyond ↦ elim (cases_lt i n) [
+        | inl inside ↦ absurd (true≢false (sym (has_some a (slice_index_or es i None) found) ∙ ap (λ j. is_some (slice_index_or es j None)) (sym (place-distance n h i close inside)) ∙ free (distance n h i) beyond was))
+        | inr past ↦ absurd (true≢false (sym found ∙ ap (has a) (get_or_past es i None past)))
+      ]
+    ] in
+    record {
+      once = t.once;
+      near = λ i a found. elim (cases_eq (home n a) h) [
+        | inl same ↦ subst (λ q. distance n q i < slice_index_or (slice_set reach h m) q 0) (sym same) (let was : distance n h i < slice_index_or reach h 0 = subst (λ q. distance n q i < slice_index_or reach q 0) same (t.near i a found) in let is = near' i a found same was in omega arith)
+        | inr other ↦ let e : slice_index_or (slice_set reach h m) (home n a) 0 ≡ slice_index_or reach (home n a) 0 = get_or-set_other reach h (home n a) m 0 other in let was = t.near i a found in omega arith
+      ];
+      within = λ k. elim (cases_eq k h) [
+        | inl same ↦ subst (λ q. slice_index_or (slice_set reach h m) q 0 ≤ n) (sym same) (let w : slice_index_or reach h 0 ≤ n = t.within h in omega arith)
+        | inr other ↦ let e : slice_index_or (slice_set reach h m) k 0 ≡ slice_index_or reach k 0 = get_or-set_other reach h k m 0 other in let w : slice_index_or reach k 0 ≤ n = t.within k in omega arith
+      ];
+      lists = t.lists;
+      homes = length-set reach h m ∙ t.homes;
+      some = t.some;
+      small = t.small;
+    }
+
 pub get_or-replicate-any : {X : Type 0} (n i : ℕ) (x : X) → slice_index_or (replicate n x) i x ≡ x
 get_or-replicate-any n i x = elim (cases_lt i n) [
   | inl inside ↦ get_or-replicate n i x x inside

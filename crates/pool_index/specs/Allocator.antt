@@ -1,14 +1,15 @@
 -- Index allocators and their seats.
-use Rattle.std.specs.Prelude.{◌≡◌, ℕ, ◌+◌, ◌-◌, ◌*◌, ◌==◌, if◌then◌else◌, List, [], ◌∷◌, length, sum_by, Option, Some, option_map}
+use Rattle.std.specs.Prelude.{◌≡◌, ℕ, zero, suc, ◌+◌, ◌-◌, ◌*◌, ◌%◌, ◌^◌, ◌==◌, nat_lt, if◌then◌else◌, List, [], ◌∷◌, length, sum_by, Option, Some, option_map}
 use Rattle.pool_hall.specs.declared.view.View.{View}
 use Rattle.pool_hall.specs.declared.hall.HallSeat.{HallSeat}
 use Rattle.pool_hall.specs.declared.unit_name.SlotKind.TheVariants.{Memory}
 use Rattle.pool_hall.specs.Tally.{counted, number}
 use Rattle.pool_hall.specs.Seat.{made_with, limits_of, IsSeatOf, IsFree}
 use Rattle.pool_index.specs.MadeShards.{place_of_slot}
-use Rattle.pool_index.specs.Part.{shard_meaning, bytes_kept}
+use Rattle.pool_index.specs.Part.{shard_meaning, warm_takes, bytes_kept}
 use Rattle.pool_index.specs.Round.{HeldShard, HeldInTurn}
-use Rattle.pool_index.specs.Shard.{ShardState, after_free}
+use Rattle.pool_index.specs.Laws.{free_all}
+use Rattle.pool_index.specs.Shard.{ShardState}
 use Rattle.pool_index.specs.declared.allocator.ModuleAffinityIndexAllocator.{ModuleAffinityIndexAllocator}
 use Rattle.pool_index.specs.declared.ids.SlotId.{SlotId}
 use Rattle.pool_index.specs.declared.round.ShardPlaces.{ShardPlaces}
@@ -53,14 +54,20 @@ pub record FoundInTurn (a : ModuleAffinityIndexAllocator) (left : ShardState →
   pub held : HeldInTurn shard_meaning Some (made_of a) (limits_in a) left 0 states v w
   pub told : tells states
 
--- The slot's shard was held, and the slot freed there: it is the last of the shard's warm slots then, and keeps so many bytes resident
-abbrev pub FreedInShard : ModuleAffinityIndexAllocator → SlotId → ℕ → View ShardState → View ShardState → Type 0
-FreedInShard a slot bytes v w = (s : ShardState) × HeldShard shard_meaning Some (made_of a) (limits_in a) (place_in a slot.0) s (after_free (record { 0 = local_in a slot.0 }) bytes s) v w
+-- those of these slots whose shard is at a place, in their order, each by its number within the shard
+abbrev pub slots_at : ModuleAffinityIndexAllocator → ℕ → List (SlotId × ℕ) → List (SlotId × ℕ)
+slots_at a p [] = []
+slots_at a p (x ∷ xs) = if p == place_in a x.0.0 then (record { 0 = local_in a x.0.0 }, x.1) ∷ slots_at a p xs else slots_at a p xs
 
--- These slots were freed one after the other in the order of the list, each with its bytes in its shard as it was then
-abbrev pub FreedInTurn : ModuleAffinityIndexAllocator → List (SlotId × ℕ) → View ShardState → View ShardState → Type 0
-FreedInTurn a [] v w = w ≡ v
-FreedInTurn a (p ∷ ps) v w = (u : View ShardState) × FreedInShard a p.0 p.1 v u × FreedInTurn a ps u w
+-- The shard at a place was held once, and these of its slots were freed there in the order of the list: each is the last of the shard's warm slots then, and keeps so many bytes resident. Where there are none the shard was not held
+abbrev pub FreedInShard : ModuleAffinityIndexAllocator → ℕ → List (SlotId × ℕ) → View ShardState → View ShardState → Type 0
+FreedInShard a p [] v w = w ≡ v
+FreedInShard a p (x ∷ xs) v w = (s : ShardState) × HeldShard shard_meaning Some (made_of a) (limits_in a) p s (free_all (x ∷ xs) s) v w
+
+-- Of the first n shards, one after the other, those of these slots were freed that are theirs
+abbrev pub FreedInTurn : ModuleAffinityIndexAllocator → ℕ → List (SlotId × ℕ) → View ShardState → View ShardState → Type 0
+FreedInTurn a zero items v w = w ≡ v
+FreedInTurn a (suc n) items v w = (u : View ShardState) × FreedInTurn a n items v u × FreedInShard a n (slots_at a n items) u w
 
 -- the bytes that these slots keep, of those that belong to the shard at a place
 abbrev pub bytes_into : ModuleAffinityIndexAllocator → ℕ → List (SlotId × ℕ) → ℕ
@@ -69,3 +76,11 @@ bytes_into a p items = sum_by (λ x. if p == place_in a x.0.0 then x.1 else 0) i
 -- Each shard keeps so many bytes more as these slots of it, and no other count rose
 abbrev pub AddsBytes : ModuleAffinityIndexAllocator → List (SlotId × ℕ) → View ShardState → View ShardState → Type 0
 AddsBytes a items v w = (p i : ℕ) → number (counted p i) w ≡ number (counted p i) v + (if i == bytes_kept then bytes_into a p items else 0)
+
+-- what a taking of all warm slots of the first n shards adds to the count i at a place, where these slots were taken: one such taking to each of these shards, and modulo 2 ^ 64 the bytes that its slots kept are no longer kept
+abbrev pub taking_adds : ModuleAffinityIndexAllocator → ℕ → List (SlotId × ℕ) → ℕ → ℕ → ℕ
+taking_adds a n items p i = if i == warm_takes then (if nat_lt p n then 1 else 0) else (if i == bytes_kept then (2 ^ 64 - bytes_into a p items) % 2 ^ 64 else 0)
+
+-- All warm slots of the first n shards were taken, and these are they: each of the shards counts one such taking, and no longer the bytes that they kept. No other count rose
+abbrev pub CountsTaking : ModuleAffinityIndexAllocator → ℕ → List (SlotId × ℕ) → View ShardState → View ShardState → Type 0
+CountsTaking a n items v w = (p i : ℕ) → number (counted p i) w ≡ number (counted p i) v + taking_adds a n items p i

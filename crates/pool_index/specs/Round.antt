@@ -87,6 +87,11 @@ module _ {T : Type 0} where
   abbrev pub KeepsCounts : View T → View T → Type 0
   KeepsCounts v w = (p i : ℕ) → number (counted p i) w ≡ number (counted p i) v
 
+  -- What the view notes only grows: no count of any place fell, and each place is noted as topped as often as before at least
+  pub record OnlyGrows (v w : View T) : Type 0 where
+    pub counts : (p i : ℕ) → number (counted p i) v ≤ number (counted p i) w
+    pub topped : (p : ℕ) → often p v.topped ≤ often p w.topped
+
   -- no slot was picked for the first time
   abbrev pub NoColdPick : View T → View T → Type 0
   NoColdPick v w = (p : ℕ) → number (counted p cold_picks) w ≡ number (counted p cold_picks) v

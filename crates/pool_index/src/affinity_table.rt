@@ -1,4 +1,4 @@
-ghost use Rattle.std.specs.Prelude.{◌≡◌, ℕ, ◌+◌, ◌*◌, ◌<◌, ◌≤◌, ◌^◌, true, false, Some, None, Option, IfOk, IfSome, IfNone, length, replicate, max, slice_index_or, if◌then◌else◌};
+ghost use Rattle.std.specs.Prelude.{◌≡◌, ℕ, ◌+◌, ◌*◌, ◌<◌, ◌≤◌, ◌^◌, true, false, Some, None, Option, IfOk, IfSome, IfNone, is_some, length, replicate, max, slice_index_or, if◌then◌else◌};
 ghost use Rattle.pool_index.specs.Table.{same_affinity, mixed, home, place, has, ends_at, table_total, ends_len, entry_with};
 
 use crate::ids::MemoryInModule;
@@ -26,7 +26,7 @@ pub struct AffinityEntry {
 #[derive(Drop)]
 pub struct AffinityTable {
     entries: Vec<Option<AffinityEntry>>,
-    // Of each home how far behind it an entry may stand. It never falls.
+    // Of each home how far behind it an entry may stand. It falls where the places at its end are free again.
     reach: Vec<usize>,
 }
 
@@ -114,23 +114,47 @@ impl AffinityTable {
     pub fn get(&self, affinity: Option<MemoryInModule>) -> Option<Ends>
         ensures { result ≡ ends_at self.now affinity }
     {
-        let at = self.find(affinity)?;
-        match self.entries[at] {
-            Some(entry) => Some(entry.ends),
-            None => None,
+        let (ends, _) = self.look(affinity);
+        ends
+    }
+
+    /// The ends of the list of an affinity, where there is one, and the place of its entry.
+    pub fn look(&self, affinity: Option<MemoryInModule>) -> (Option<Ends>, Option<usize>)
+        ensures ends { result.0 ≡ ends_at self.now affinity }
+        ensures found { (i : ℕ) → result.1 ≡ Some i → (i < length self.now) × (has affinity (slice_index_or self.now i None) ≡ true) }
+        ensures absent { result.1 ≡ None → (i : ℕ) → has affinity (slice_index_or self.now i None) ≡ false }
+    {
+        match self.find(affinity) {
+            Some(at) => match self.entries[at] {
+                Some(entry) => (Some(entry.ends), Some(at)),
+                None => unreachable!(),
+            },
+            None => (None, None),
         }
     }
 
-    /// Notes the ends of the list of an affinity, or that there is none. Takes no memory.
-    pub fn put(&mut self, affinity: Option<MemoryInModule>, ends: Option<Ends>)
+    /// Notes the ends of the list of an affinity, whose entry has this place, or that there is none. Takes no memory.
+    pub fn put_at(
+        &mut self,
+        at: Option<usize>,
+        affinity: Option<MemoryInModule>,
+        ends: Option<Ends>,
+    )
+        requires found { (i : ℕ) → at ≡ Some i → (i < length self.old) × (has affinity (slice_index_or self.old i None) ≡ true) }
+        requires absent { at ≡ None → (i : ℕ) → has affinity (slice_index_or self.old i None) ≡ false }
         requires room { ends_at self.old affinity ≡ None → table_total self.old < length self.old }
         requires some { IfSome ends (λ e. 0 < e.len) }
         ensures ends { (a : Option MemoryInModule) → ends_at self.new a ≡ (if same_affinity a affinity then ends else ends_at self.old a) }
         ensures total { table_total self.new + ends_len (ends_at self.old affinity) ≡ table_total self.old + ends_len ends }
         ensures len { length self.new ≡ length self.old }
     {
-        match self.find(affinity) {
-            Some(at) => self.change(at, affinity, ends),
+        match at {
+            Some(at) => {
+                self.change(at, affinity, ends);
+                if ends.is_none() {
+                    self.shorten(affinity);
+                }
+            }
             None => self.insert(affinity, ends),
         }
     }
@@ -179,6 +203,32 @@ impl AffinityTable {
         ensures len { length self.new ≡ length self.old }
     {
         self.entries[at] = entry_of(affinity, ends);
+    }
+
+    /// How far behind a home a place is taken, of so many.
+    fn taken_within(&self, home: usize, reach: usize) -> usize
+        requires home { home < length self.now }
+        requires reach { reach ≤ length self.now }
+        ensures most { result ≤ reach }
+        ensures free { (d : ℕ) → result ≤ d → d < reach → is_some (slice_index_or self.now (place (length self.now) home d) None) ≡ false }
+    {
+        let len = self.entries.len();
+        for back in 0..reach {
+            let left = reach - back;
+            if self.entries[place_of(home, left - 1, len)].is_some() {
+                return left;
+            }
+        }
+        0
+    }
+
+    /// Forgets the free places at the end of the reach of an affinity's home.
+    fn shorten(&mut self, affinity: Option<MemoryInModule>)
+        ensures { self.new ≡ self.old }
+    {
+        let home = home_of(affinity, self.entries.len());
+        let left = self.taken_within(home, self.reach[home]);
+        self.reach[home] = left;
     }
 
     /// Puts the entry of an affinity, where there is to be one, into the first free place behind its home.

@@ -10,7 +10,7 @@ ghost use Rattle.pool_index.specs.Shard.{ShardState, IsShard};
 ghost use Rattle.pool_index.specs.Layout.{shard_count, slots_per_shard};
 ghost use Rattle.pool_index.specs.Part.{shard_meaning, full_answers, affine_misses};
 ghost use Rattle.pool_index.specs.declared.probe.Probe.TheVariants as probe;
-ghost use Rattle.pool_index.specs.Round.{round_place, found_units, AreShards, IsRound, KeepsRest, Gains, Gives, NoColdPick, OneColdPick, AllMissed, AllTopped};
+ghost use Rattle.pool_index.specs.Round.{round_place, found_units, AreShards, IsRound, KeepsRest, Gains, Gives, OnlyGrows, NoColdPick, OneColdPick, AllMissed, AllTopped};
 ghost use Rattle.pool_index.specs.MadeShards.{made_shard, made_shards};
 ghost use Rattle.pool_index.specs.Allocator.{slot_answered, made_of, limits_in, slot_count, places_of, place_in, local_in, FreedInShard, AddsBytes, IsIndexSeat};
 
@@ -188,6 +188,7 @@ impl ModuleAffinityIndexAllocator {
         ensures rest { KeepsRest (view seat.old) (view seat.new) }
         ensures cold { OneColdPick (view seat.old) (view seat.new) }
         ensures none_cold { OnErr result (NoColdPick (view seat.old) (view seat.new)) }
+        ensures grows { OnlyGrows (view seat.old) (view seat.new) }
         ensures full { OnErr result (AllMissed (places_of self.now) full_answers (view seat.old) (view seat.new)) }
         ensures topped { OnErr result (AllTopped (places_of self.now) (view seat.new)) }
     {
@@ -213,6 +214,8 @@ impl ModuleAffinityIndexAllocator {
         ensures round { IsRound shard_meaning Some (made_of self.now) (limits_in self.now) (probe.Affine (record { 0 = id; 1 = memory })) (round_place (places_of self.now) 0) (places_of self.now).count (slot_answered result) (view seat.old) (view seat.new) }
         ensures units { Gains (found_units Memory (slot_answered result)) (view seat.old) (view seat.new) }
         ensures rest { KeepsRest (view seat.old) (view seat.new) }
+        ensures cold { NoColdPick (view seat.old) (view seat.new) }
+        ensures grows { OnlyGrows (view seat.old) (view seat.new) }
         ensures missed { result ≡ None → AllMissed (places_of self.now) affine_misses (view seat.old) (view seat.new) }
     {
         let places = self.places();
@@ -231,8 +234,9 @@ impl ModuleAffinityIndexAllocator {
         requires bytes { bytes_resident ≤ 2 ^ 32 }
         ensures seat { IsIndexSeat self.now seat.new }
         ensures units { Gives (pick_unit Memory slot.0 ∷ []) (view seat.old) (view seat.new) }
-        ensures freed { FreedInShard self.now slot bytes_resident (view seat.old) (view seat.new) }
+        ensures freed { FreedInShard self.now (place_in self.now slot.0) ((record { 0 = local_in self.now slot.0 }, bytes_resident) ∷ []) (view seat.old) (view seat.new) }
         ensures counts { AddsBytes self.now ((slot, bytes_resident) ∷ []) (view seat.old) (view seat.new) }
+        ensures grows { OnlyGrows (view seat.old) (view seat.new) }
         ensures rest { KeepsRest (view seat.old) (view seat.new) }
     {
         let (place, local) = self.local(slot);

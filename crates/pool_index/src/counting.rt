@@ -9,7 +9,7 @@ use pool_hall::PartCall;
 
 /// What one shard tells.
 #[derive(Clone, Copy, Debug)]
-pub(crate) struct ShardCounts {
+pub struct ShardCounts {
     pub warm: u32,
     pub bytes: usize,
     pub is_empty: bool,
@@ -17,7 +17,7 @@ pub(crate) struct ShardCounts {
 
 /// Counts what is free in the shard.
 #[derive(Drop)]
-pub(crate) struct CountSlots {}
+pub struct CountSlots {}
 
 fn counts_of(shard: &Shard) -> ShardCounts
     ensures { IsCounted shard.now result }
@@ -47,7 +47,7 @@ impl PartCall<Shard> for CountSlots {
 
 /// Takes all warm slots of the shard, by the numbers by which they are known outside.
 #[derive(Drop)]
-pub(crate) struct TakeWarm {
+pub struct TakeWarm {
     pub taken: Taken,
     /// Empty between two calls.
     pub local: Taken,

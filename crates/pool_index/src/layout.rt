@@ -1,4 +1,6 @@
-ghost use Rattle.std.specs.Prelude.{◌≡◌, ◌<◌, IfOk, sum_by};
+ghost use Rattle.std.specs.Prelude.{◌≡◌, ◌==◌, ℕ, ◌*◌, ◌<◌, IfOk, sum_by};
+ghost use Rattle.pool_index.specs.Freed.{is_among};
+ghost use Rattle.pool_index.specs.MadeShards.{place_of_slot};
 ghost use Rattle.pool_index.specs.Layout.{layout, slots_per_shard, shard_at, shard_count};
 
 use pool_types::PlainList;
@@ -65,4 +67,26 @@ pub(crate) fn shard_of(
     let slots = slots_per_shard.min(capacity - k * slots_per_shard);
     let extra = if k < warm % count { 1 } else { 0 };
     (slots, warm / count + extra)
+}
+
+/// The number of the first slot that counts to the shard at a place, and the end of them. Those past the last slot count
+/// to the last shard, which has no end.
+pub(crate) fn numbers_at(
+    capacity: u32,
+    slots_per_shard: u32,
+    count: u32,
+    place: u32,
+) -> (u32, Option<u32>)
+    requires slots { 0 < slots_per_shard }
+    requires count { count ≡ shard_count capacity slots_per_shard }
+    requires inside { place < count }
+    ensures first { result.0 ≡ place * slots_per_shard }
+    ensures among { (n : ℕ) → is_among result.0 result.1 n ≡ (place == place_of_slot slots_per_shard count n) }
+{
+    let first = place * slots_per_shard;
+    if place + 1 < count {
+        (first, Some(first + slots_per_shard))
+    } else {
+        (first, None)
+    }
 }

@@ -45,6 +45,8 @@ mod probe;
 mod round;
 
 pub use allocator::{FullNotes, IndexSeat, ModuleAffinityIndexAllocator};
+pub use counting::{CountSlots, ShardCounts, TakeWarm};
+pub use free_call::{FreeSlot, FreeSlots};
 pub use ids::{MemoryInModule, ShardId, SlotId};
 pub use laws::{affine_slots_are_filtered, taken_slots_come_back};
 pub use layout::ShardLayout;

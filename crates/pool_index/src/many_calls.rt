@@ -1,14 +1,20 @@
 //! Calls of the index allocator on many slots, and on all shards.
-ghost use Rattle.std.specs.Prelude.{◌≡◌, ◌+◌, ◌^◌, ◌<◌, ◌≤◌, ◌&&◌, All, IfOk, OnErr, [], sum_by, flat_map, length};
+ghost use Rattle.std.specs.Prelude.{◌≡◌, ◌==◌, ℕ, if◌then◌else◌, ◌+◌, ◌^◌, ◌<◌, ◌≤◌, ◌&&◌, All, IfOk, OnOk, OnErr, [], sum_by, flat_map, length};
 ghost use Rattle.pool_hall.specs.Seat.{view};
+ghost use Rattle.pool_hall.specs.declared.unit_name.UnitName.{UnitName};
+ghost use Rattle.pool_hall.specs.Unit.{times};
+ghost use Rattle.pool_hall.specs.Tally.{counted, number};
+ghost use Rattle.pool_index.specs.Part.{warm_takes, bytes_kept};
 ghost use Rattle.pool_index.specs.Shard.{resident_bytes, after_take_warm};
 ghost use Rattle.pool_index.specs.Freed.{IsSum, HasAll, all_unused, taken_outside, units_of_slots};
-ghost use Rattle.pool_index.specs.Round.{KeepsRest, KeepsUnits, Gains, Gives, KeepsCounts};
-ghost use Rattle.pool_index.specs.Allocator.{slot_count, FoundInTurn, FreedInTurn, AddsBytes, IsIndexSeat};
+ghost use Rattle.pool_index.specs.Round.{KeepsRest, KeepsUnits, Gains, Gives, KeepsCounts, OnlyGrows, NoColdPick, AllMissed};
+ghost use Rattle.pool_index.specs.Allocator.{slot_count, places_of, place_in, slots_at, bytes_into, FoundInTurn, FreedInShard, FreedInTurn, AddsBytes, CountsTaking, IsIndexSeat};
 
 use crate::allocator::{IndexSeat, ModuleAffinityIndexAllocator};
 use crate::counting::{CountSlots, ShardCounts, TakeWarm};
+use crate::free_call::{FreeSlots, has_between};
 use crate::ids::SlotId;
+use crate::layout::numbers_at;
 use crate::taken::Taken;
 use std::alloc::{AllocError, Global};
 use std::sync::Wait;
@@ -29,7 +35,38 @@ fn added(sum: ShardCounts, found: ShardCounts) -> ShardCounts
 }
 
 impl ModuleAffinityIndexAllocator {
-    /// Gives slots back one after the other, each with the bytes that it keeps resident. Takes no memory.
+    // Gives those of the slots back that belong to the shard at a place, in one hold of it.
+    fn free_there<R: Wait>(
+        &self,
+        rt: &R,
+        seat: &mut IndexSeat,
+        place: u32,
+        items: &[(SlotId, usize)],
+    )
+        requires seat { IsIndexSeat self.now seat.old }
+        requires place { place < self.now.shards }
+        requires units { (u : UnitName) → place_in self.now u.slot ≡ place → times u (units_of_slots items.now) ≤ times u (view seat.old).units }
+        requires bytes { All (λ p. p.1 ≤ 2 ^ 32) items.now }
+        ensures seat { IsIndexSeat self.now seat.new }
+        ensures units { (u : UnitName) → times u (view seat.new).units + (if place == place_in self.now u.slot then times u (units_of_slots items.now) else 0) ≡ times u (view seat.old).units }
+        ensures freed { FreedInShard self.now place (slots_at self.now place items.now) (view seat.old) (view seat.new) }
+        ensures counts { (p i : ℕ) → number (counted p i) (view seat.new) ≡ number (counted p i) (view seat.old) + (if p == place then (if i == bytes_kept then bytes_into self.now place items.now else 0) else 0) }
+        ensures grows { OnlyGrows (view seat.old) (view seat.new) }
+        ensures rest { KeepsRest (view seat.old) (view seat.new) }
+    {
+        let (first, end) = numbers_at(self.capacity, self.slots_per_shard, self.shards, place);
+        if has_between(first, end, items) {
+            let mut call = FreeSlots {
+                slots: items,
+                first,
+                end,
+            };
+            self.hall.hold(rt, seat, place, &mut call);
+        }
+    }
+
+    /// Gives slots back, each with the bytes that it keeps resident. Each shard that has some of them is held once. Takes
+    /// no memory.
     pub fn free_many<R: Wait>(&self, rt: &R, seat: &mut IndexSeat, items: &[(SlotId, usize)])
         requires seat { IsIndexSeat self.now seat.old }
         // The slots differ, and the seat has the pick unit of each: it has each unit as often as the list.
@@ -37,13 +74,13 @@ impl ModuleAffinityIndexAllocator {
         requires bytes { All (λ p. p.1 ≤ 2 ^ 32) items.now }
         ensures seat { IsIndexSeat self.now seat.new }
         ensures units { Gives (units_of_slots items.now) (view seat.old) (view seat.new) }
-        ensures freed { FreedInTurn self.now items.now (view seat.old) (view seat.new) }
+        ensures freed { FreedInTurn self.now (places_of self.now).count items.now (view seat.old) (view seat.new) }
         ensures counts { AddsBytes self.now items.now (view seat.old) (view seat.new) }
+        ensures grows { OnlyGrows (view seat.old) (view seat.new) }
         ensures rest { KeepsRest (view seat.old) (view seat.new) }
     {
-        for at in 0..items.len() {
-            let (slot, bytes) = items[at];
-            self.free(rt, seat, slot, bytes);
+        for place in 0..self.shards {
+            self.free_there(rt, seat, place, items);
         }
     }
 
@@ -54,6 +91,7 @@ impl ModuleAffinityIndexAllocator {
         ensures counted { FoundInTurn self.now (λ s. s) (λ ss. IsSum ss result) (view seat.old) (view seat.new) }
         ensures units { KeepsUnits (view seat.old) (view seat.new) }
         ensures counts { KeepsCounts (view seat.old) (view seat.new) }
+        ensures grows { OnlyGrows (view seat.old) (view seat.new) }
         ensures rest { KeepsRest (view seat.old) (view seat.new) }
     {
         let mut sum = ShardCounts {
@@ -76,6 +114,7 @@ impl ModuleAffinityIndexAllocator {
         ensures counted { FoundInTurn self.now (λ s. s) (λ ss. result ≡ all_unused ss) (view seat.old) (view seat.new) }
         ensures units { KeepsUnits (view seat.old) (view seat.new) }
         ensures counts { KeepsCounts (view seat.old) (view seat.new) }
+        ensures grows { OnlyGrows (view seat.old) (view seat.new) }
         ensures rest { KeepsRest (view seat.old) (view seat.new) }
     {
         self.counts(rt, seat).is_empty
@@ -88,6 +127,7 @@ impl ModuleAffinityIndexAllocator {
         ensures counted { FoundInTurn self.now (λ s. s) (λ ss. result ≡ sum_by (λ s. length s.warm) ss) (view seat.old) (view seat.new) }
         ensures units { KeepsUnits (view seat.old) (view seat.new) }
         ensures counts { KeepsCounts (view seat.old) (view seat.new) }
+        ensures grows { OnlyGrows (view seat.old) (view seat.new) }
         ensures rest { KeepsRest (view seat.old) (view seat.new) }
     {
         self.counts(rt, seat).warm
@@ -100,6 +140,7 @@ impl ModuleAffinityIndexAllocator {
         ensures counted { FoundInTurn self.now (λ s. s) (λ ss. result ≡ sum_by resident_bytes ss) (view seat.old) (view seat.new) }
         ensures units { KeepsUnits (view seat.old) (view seat.new) }
         ensures counts { KeepsCounts (view seat.old) (view seat.new) }
+        ensures grows { OnlyGrows (view seat.old) (view seat.new) }
         ensures rest { KeepsRest (view seat.old) (view seat.new) }
     {
         self.counts(rt, seat).bytes
@@ -114,6 +155,10 @@ impl ModuleAffinityIndexAllocator {
         ensures taken { FoundInTurn self.now after_take_warm (λ ss. call.new.taken.items ≡ flat_map taken_outside ss) (view seat.old) (view seat.new) }
         ensures bytes { All (λ p. p.1 ≤ 2 ^ 32) call.new.taken.items }
         ensures units { Gains (units_of_slots call.new.taken.items) (view seat.old) (view seat.new) }
+        ensures counts { CountsTaking self.now self.now.shards call.new.taken.items (view seat.old) (view seat.new) }
+        ensures takes { AllMissed (places_of self.now) warm_takes (view seat.old) (view seat.new) }
+        ensures cold { NoColdPick (view seat.old) (view seat.new) }
+        ensures grows { OnlyGrows (view seat.old) (view seat.new) }
         ensures rest { KeepsRest (view seat.old) (view seat.new) }
     {
         for place in 0..self.shards {
@@ -136,6 +181,11 @@ impl ModuleAffinityIndexAllocator {
         ensures taken { IfOk result (λ t. FoundInTurn self.now after_take_warm (λ ss. t.items ≡ flat_map taken_outside ss) (view seat.old) (view seat.new)) }
         ensures bytes { IfOk result (λ t. All (λ p. p.1 ≤ 2 ^ 32) t.items) }
         ensures units { IfOk result (λ t. Gains (units_of_slots t.items) (view seat.old) (view seat.new)) }
+        ensures counts { IfOk result (λ t. CountsTaking self.now (places_of self.now).count t.items (view seat.old) (view seat.new)) }
+        // Each shard counts one taking of all its warm slots, and no slot was picked for the first time.
+        ensures takes { OnOk result (AllMissed (places_of self.now) warm_takes (view seat.old) (view seat.new)) }
+        ensures cold { NoColdPick (view seat.old) (view seat.new) }
+        ensures grows { OnlyGrows (view seat.old) (view seat.new) }
         ensures rest { KeepsRest (view seat.old) (view seat.new) }
     {
         let mut call = TakeWarm {

@@ -1,8 +1,8 @@
 //! One round over the shards of a kind that stand among the parts of a hall.
-ghost use Rattle.std.specs.Prelude.{◌≡◌, ◌+◌, ◌<◌, ◌≤◌, length, None, true};
+ghost use Rattle.std.specs.Prelude.{◌≡◌, ◌+◌, ◌<◌, ◌≤◌, length, None, true, false};
 ghost use Rattle.pool_hall.specs.Seat.{made_with, limits_of, view, IsSeatOf, IsFree};
 ghost use Rattle.pool_index.specs.Probe.{is_pick, miss_count};
-ghost use Rattle.pool_index.specs.Round.{round_place, found_units, AreShards, ProbedAt, NoneFound, IsRound, KeepsRest, Gains, NoColdPick, OneColdPick, AllMissed, AllTopped};
+ghost use Rattle.pool_index.specs.Round.{round_place, found_units, AreShards, ProbedAt, NoneFound, IsRound, KeepsRest, Gains, OnlyGrows, NoColdPick, OneColdPick, AllMissed, AllTopped};
 
 use crate::part::{MaybeShard, OnShard};
 use crate::probe::Probe;
@@ -104,6 +104,8 @@ pub fn probe_shards<T: MaybeShard, R: Wait>(
     ensures rest { KeepsRest (view seat.old) (view seat.new) }
     ensures cold { OneColdPick (view seat.old) (view seat.new) }
     ensures none_cold { result ≡ None → NoColdPick (view seat.old) (view seat.new) }
+    ensures affine_cold { is_pick probe ≡ false → NoColdPick (view seat.old) (view seat.new) }
+    ensures grows { OnlyGrows (view seat.old) (view seat.new) }
     ensures missed { result ≡ None → AllMissed places (miss_count probe) (view seat.old) (view seat.new) }
     ensures topped { result ≡ None → is_pick probe ≡ true → AllTopped places (view seat.new) }
 {

@@ -8,11 +8,11 @@ ghost use Rattle.pool_hall.specs.Seat.{view};
 ghost use Rattle.pool_index.specs.Layout.{slots_per_shard};
 ghost use Rattle.pool_index.specs.Part.{full_answers, shard_meaning};
 ghost use Rattle.pool_index.specs.declared.probe.Probe.TheVariants as probe;
-ghost use Rattle.pool_index.specs.Round.{round_place, found_units, IsRound, KeepsRest, KeepsUnits, Gains, Gives, KeepsCounts, NoColdPick, OneColdPick, AllMissed, AllTopped};
+ghost use Rattle.pool_index.specs.Round.{round_place, found_units, IsRound, KeepsRest, KeepsUnits, Gains, Gives, KeepsCounts, OnlyGrows, NoColdPick, OneColdPick, AllMissed, AllTopped};
 ghost use Rattle.pool_index.specs.MadeShards.{made_shards};
 ghost use Rattle.pool_index.specs.Shard.{resident_bytes};
 ghost use Rattle.pool_index.specs.Freed.{HasAll, all_unused, units_of_slots};
-ghost use Rattle.pool_index.specs.Allocator.{slot_answered, made_of, limits_in, slot_count, places_of, FoundInTurn, FreedInShard, FreedInTurn, AddsBytes, IsIndexSeat};
+ghost use Rattle.pool_index.specs.Allocator.{slot_answered, made_of, limits_in, slot_count, places_of, place_in, local_in, FoundInTurn, FreedInShard, FreedInTurn, AddsBytes, IsIndexSeat};
 
 use crate::allocator::{FullNotes, IndexSeat, ModuleAffinityIndexAllocator};
 use crate::ids::{ShardId, SlotId};
@@ -55,6 +55,7 @@ impl SimpleIndexAllocator {
         ensures rest { KeepsRest (view seat.old) (view seat.new) }
         ensures cold { OneColdPick (view seat.old) (view seat.new) }
         ensures none_cold { OnErr result (NoColdPick (view seat.old) (view seat.new)) }
+        ensures grows { OnlyGrows (view seat.old) (view seat.new) }
         ensures full { OnErr result (AllMissed (places_of self.now.0) full_answers (view seat.old) (view seat.new)) }
         ensures topped { OnErr result (AllTopped (places_of self.now.0) (view seat.new)) }
     {
@@ -69,14 +70,16 @@ impl SimpleIndexAllocator {
         requires bytes { bytes_resident ≤ 2 ^ 32 }
         ensures seat { IsIndexSeat self.now.0 seat.new }
         ensures units { Gives (pick_unit Memory slot.0 ∷ []) (view seat.old) (view seat.new) }
-        ensures freed { FreedInShard self.now.0 slot bytes_resident (view seat.old) (view seat.new) }
+        ensures freed { FreedInShard self.now.0 (place_in self.now.0 slot.0) ((record { 0 = local_in self.now.0 slot.0 }, bytes_resident) ∷ []) (view seat.old) (view seat.new) }
         ensures counts { AddsBytes self.now.0 ((slot, bytes_resident) ∷ []) (view seat.old) (view seat.new) }
+        ensures grows { OnlyGrows (view seat.old) (view seat.new) }
         ensures rest { KeepsRest (view seat.old) (view seat.new) }
     {
         self.0.free(rt, seat, slot, bytes_resident);
     }
 
-    /// Gives slots back one after the other, each with the bytes that it keeps resident. Takes no memory.
+    /// Gives slots back, each with the bytes that it keeps resident. Each shard that has some of them is held once. Takes
+    /// no memory.
     pub fn free_many<R: Wait>(&self, rt: &R, seat: &mut IndexSeat, items: &[(SlotId, usize)])
         requires seat { IsIndexSeat self.now.0 seat.old }
         // The slots differ, and the seat has the pick unit of each: it has each unit as often as the list.
@@ -84,8 +87,9 @@ impl SimpleIndexAllocator {
         requires bytes { All (λ p. p.1 ≤ 2 ^ 32) items.now }
         ensures seat { IsIndexSeat self.now.0 seat.new }
         ensures units { Gives (units_of_slots items.now) (view seat.old) (view seat.new) }
-        ensures freed { FreedInTurn self.now.0 items.now (view seat.old) (view seat.new) }
+        ensures freed { FreedInTurn self.now.0 (places_of self.now.0).count items.now (view seat.old) (view seat.new) }
         ensures counts { AddsBytes self.now.0 items.now (view seat.old) (view seat.new) }
+        ensures grows { OnlyGrows (view seat.old) (view seat.new) }
         ensures rest { KeepsRest (view seat.old) (view seat.new) }
     {
         self.0.free_many(rt, seat, items);
@@ -98,6 +102,7 @@ impl SimpleIndexAllocator {
         ensures counted { FoundInTurn self.now.0 (λ s. s) (λ ss. result ≡ all_unused ss) (view seat.old) (view seat.new) }
         ensures units { KeepsUnits (view seat.old) (view seat.new) }
         ensures counts { KeepsCounts (view seat.old) (view seat.new) }
+        ensures grows { OnlyGrows (view seat.old) (view seat.new) }
         ensures rest { KeepsRest (view seat.old) (view seat.new) }
     {
         self.0.is_empty(rt, seat)
@@ -110,6 +115,7 @@ impl SimpleIndexAllocator {
         ensures counted { FoundInTurn self.now.0 (λ s. s) (λ ss. result ≡ sum_by (λ s. length s.warm) ss) (view seat.old) (view seat.new) }
         ensures units { KeepsUnits (view seat.old) (view seat.new) }
         ensures counts { KeepsCounts (view seat.old) (view seat.new) }
+        ensures grows { OnlyGrows (view seat.old) (view seat.new) }
         ensures rest { KeepsRest (view seat.old) (view seat.new) }
     {
         self.0.unused_warm_slots(rt, seat)
@@ -122,6 +128,7 @@ impl SimpleIndexAllocator {
         ensures counted { FoundInTurn self.now.0 (λ s. s) (λ ss. result ≡ sum_by resident_bytes ss) (view seat.old) (view seat.new) }
         ensures units { KeepsUnits (view seat.old) (view seat.new) }
         ensures counts { KeepsCounts (view seat.old) (view seat.new) }
+        ensures grows { OnlyGrows (view seat.old) (view seat.new) }
         ensures rest { KeepsRest (view seat.old) (view seat.new) }
     {
         self.0.unused_bytes_resident(rt, seat)

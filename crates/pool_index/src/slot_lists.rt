@@ -205,7 +205,7 @@ impl SlotLists {
         let SlotRecord::Used(affinity) = self.rows.read(slot.0, steps) else {
             unreachable!()
         };
-        let affine = self.table.get(affinity);
+        let (affine, at) = self.table.look(affinity);
         let record = WarmRecord {
             affinity,
             bytes,
@@ -217,7 +217,7 @@ impl SlotLists {
             .append(Chain::Freed, last_of(self.freed), slot.0, steps);
         self.rows
             .append(Chain::Affine, last_of(affine), slot.0, steps);
-        self.table.put(affinity, Some(with(affine, slot.0)));
+        self.table.put_at(at, affinity, Some(with(affine, slot.0)));
         self.freed = Some(with(self.freed, slot.0));
         self.bytes += bytes;
     }
@@ -239,9 +239,9 @@ impl SlotLists {
         };
         self.rows.unlink(Chain::Freed, record.freed, steps);
         self.rows.unlink(Chain::Affine, record.affine, steps);
-        let affine = self.table.get(record.affinity);
+        let (affine, at) = self.table.look(record.affinity);
         self.table
-            .put(record.affinity, without(affine, record.affine));
+            .put_at(at, record.affinity, without(affine, record.affine));
         self.freed = without(self.freed, record.freed);
         self.bytes -= record.bytes;
         (SlotId(slot), record.bytes)

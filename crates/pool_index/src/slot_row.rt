@@ -1,5 +1,5 @@
 ghost use Rattle.std.specs.Prelude.{◌≡◌, ◌+◌, ◌<◌, IfOk, IfSome, length, slice_set};
-ghost use Rattle.pool_index.specs.Records.{record_of, cold_records, links_of, with_links, with_before, with_after, unlinked, appended, link_accesses};
+ghost use Rattle.pool_index.specs.Records.{record_of, cold_records, with_before, with_after, unlinked, appended, link_accesses};
 
 use crate::ids::MemoryInModule;
 use crate::steps::Steps;
@@ -40,39 +40,6 @@ pub enum SlotRecord {
     Cold,
     Used(Option<MemoryInModule>),
     Warm(WarmRecord),
-}
-
-impl SlotRecord {
-    /// The neighbours in a list. A slot that isn't warm has none.
-    fn links(self, chain: Chain) -> Links
-        ensures { result ≡ links_of chain self }
-    {
-        match (self, chain) {
-            (SlotRecord::Warm(warm), Chain::Freed) => warm.freed,
-            (SlotRecord::Warm(warm), Chain::Affine) => warm.affine,
-            _ => Links {
-                before: None,
-                after: None,
-            },
-        }
-    }
-
-    /// A warm slot with other neighbours in a list.
-    fn with_links(self, chain: Chain, links: Links) -> SlotRecord
-        ensures { result ≡ with_links chain links self }
-    {
-        match (self, chain) {
-            (SlotRecord::Warm(warm), Chain::Freed) => SlotRecord::Warm(WarmRecord {
-                freed: links,
-                ..warm
-            }),
-            (SlotRecord::Warm(warm), Chain::Affine) => SlotRecord::Warm(WarmRecord {
-                affine: links,
-                ..warm
-            }),
-            (other, _) => other,
-        }
-    }
 }
 
 /// The records of a shard's slots, and nothing beside them. Each access to a record is a step.
@@ -168,9 +135,12 @@ impl SlotRow {
             return;
         };
         steps.tick();
-        let record = self.records[slot as usize];
-        let before = record.links(chain).before;
-        self.records[slot as usize] = record.with_links(chain, Links { before, after });
+        if let SlotRecord::Warm(warm) = &mut self.records[slot as usize] {
+            match chain {
+                Chain::Freed => warm.freed.after = after,
+                Chain::Affine => warm.affine.after = after,
+            }
+        }
     }
 
     fn set_before<L: Ledger>(
@@ -188,8 +158,11 @@ impl SlotRow {
             return;
         };
         steps.tick();
-        let record = self.records[slot as usize];
-        let after = record.links(chain).after;
-        self.records[slot as usize] = record.with_links(chain, Links { before, after });
+        if let SlotRecord::Warm(warm) = &mut self.records[slot as usize] {
+            match chain {
+                Chain::Freed => warm.freed.before = before,
+                Chain::Affine => warm.affine.before = before,
+            }
+        }
     }
 }

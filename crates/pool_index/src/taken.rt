@@ -48,7 +48,7 @@ impl Taken {
     }
 
     /// One slot more. Takes no memory.
-    pub(crate) fn push(&mut self, slot: SlotId, bytes: usize)
+    pub fn push(&mut self, slot: SlotId, bytes: usize)
         requires { length self.old.items < self.old.room }
         ensures { self.new ≡ record self.old { items = self.old.items ++ (slot, bytes) ∷ [] } }
     {

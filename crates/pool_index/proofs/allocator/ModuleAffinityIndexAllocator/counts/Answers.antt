@@ -5,6 +5,7 @@ use Rattle.pool_index.specs.Part.{shard_meaning}
 use Rattle.pool_index.specs.Round.{HeldShard}
 use Rattle.pool_index.proofs.Allocating.{as_many}
 use Rattle.pool_index.proofs.Counted.{may_look, look_held, look_units, look_counts, look_rest, rest_both, in_turn_more, so_far_more, so_far_fits}
+use Rattle.pool_index.proofs.Growing.{grows_after, grows_both}
 use Rattle.pool_index.proofs.allocator.ModuleAffinityIndexAllocator.counts.Goals as goal
 
 pub hold-found-requires-clause-place : goal.hold-found-requires-clause-place
@@ -44,5 +45,6 @@ loop-place-preserved g c =
       );
       units = λ u. look_units made limits c.loop-place.place c.hold-found.result (view c.loop-place.seat) w h u ∙ c.loop-place.invariant.units u;
       counts = λ p i. look_counts made limits c.loop-place.place c.hold-found.result (view c.loop-place.seat) w h p i ∙ c.loop-place.invariant.counts p i;
+      grows = grows_both (view c.args.seat.now) (view c.loop-place.seat) w c.loop-place.invariant.grows (grows_after shard_meaning c.loop-place.place h.before h.after (view c.loop-place.seat) w h.view);
       rest = rest_both (view c.args.seat.now) (view c.loop-place.seat) w c.loop-place.invariant.rest (look_rest made limits c.loop-place.place c.hold-found.result (view c.loop-place.seat) w h);
     }

@@ -1,6 +1,8 @@
 use Rattle.pool_hall.specs.Seat.{view}
 use Rattle.pool_index.proofs.Allocating.{can_at, may_at, units_at}
+use Rattle.pool_index.specs.Part.{shard_meaning}
 use Rattle.pool_index.proofs.FreedSlots.{bytes_added}
+use Rattle.pool_index.proofs.Growing.{grows_after}
 use Rattle.pool_index.proofs.allocator.ModuleAffinityIndexAllocator.free.Goals as goal
 
 pub hold-requires-clause-can : goal.hold-requires-clause-can
@@ -20,3 +22,8 @@ pub returns-clause-counts : goal.returns-clause-counts
 returns-clause-counts g c =
     let h = c.hold.ensures.held in
     bytes_added c.args.self.now c.args.slot c.local-place.result.0 c.local-place.ensures.place c.local-place.result.1 c.args.bytes_resident h.before h.after h.told.stands.fits.sound h.did (view c.args.seat.now) _ h.view
+
+pub returns-clause-grows : goal.returns-clause-grows
+returns-clause-grows g c =
+    let h = c.hold.ensures.held in
+    grows_after shard_meaning c.local-place.result.0 h.before h.after (view c.args.seat.now) _ h.view

@@ -8,6 +8,8 @@ use Rattle.pool_index.specs.Taken.{TakenState}
 use Rattle.pool_index.proofs.Allocating.{as_many}
 use Rattle.pool_index.proofs.Counted.{in_turn_more}
 use Rattle.pool_index.proofs.WarmUnits.{can_take, may_take, took_units, more_taken, take_held, items_more, small_more, units_more, rest_more}
+use Rattle.pool_index.proofs.Growing.{grows_after, grows_both}
+use Rattle.pool_index.proofs.Takings.{beyond_more, counts_more, all_took, none_cold}
 use Rattle.pool_index.proofs.allocator.ModuleAffinityIndexAllocator.take_all.Goals as goal
 
 pub hold-requires-clause-place : goal.hold-requires-clause-place
@@ -50,5 +52,14 @@ loop-place-preserved g c =
       few = more_taken _ _ _ _ _ _ c.args.self.now.made p (omega arith) h.before v h.told h.after old.taken new.taken old.local new.local h.did had.few;
       bytes = small_more made limits p v w old.taken new.taken old.local new.local h had.bytes;
       units = units_more made limits p v w old.taken new.taken old.local new.local h (view c.args.seat.now) (took_units _ _ _ _ _ _ c.args.self.now.made p (omega arith) h.before v h.told h.after old.taken new.taken old.local new.local h.did w h.view) had.units;
+      beyond = beyond_more c.args.self.now p (omega arith) h.before v h.told h.after old.taken new.taken old.local new.local h.did had.beyond;
+      counts = counts_more c.args.self.now p (omega arith) h.before v h.told h.after old.taken new.taken old.local new.local h.did w h.view (view c.args.seat.now) had.beyond had.counts;
+      grows = grows_both (view c.args.seat.now) v w had.grows (grows_after shard_meaning p h.before h.after v w h.view);
       rest = rest_more made limits p v w old.taken new.taken old.local new.local h (view c.args.seat.now) had.rest;
     }
+
+pub returns-clause-takes : goal.returns-clause-takes
+returns-clause-takes g c p low high = all_took c.args.self.now c.loop-place.place c.loop-place.call.taken.items (view c.args.seat.now) (view c.loop-place.seat) c.loop-place.invariant.counts p (omega arith)
+
+pub returns-clause-cold : goal.returns-clause-cold
+returns-clause-cold g c = none_cold c.args.self.now c.loop-place.place c.loop-place.call.taken.items (view c.args.seat.now) (view c.loop-place.seat) c.loop-place.invariant.counts

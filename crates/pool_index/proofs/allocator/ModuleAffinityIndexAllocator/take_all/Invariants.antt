@@ -1,9 +1,9 @@
 use Rattle.std.proofs.Common.{◌≡◌, ℕ, ◌*◌, ◌^◌, ◌≤◌, List, [], length, min, All, Some, flat_map}
 use Rattle.pool_hall.specs.Seat.{view}
-use Rattle.pool_index.specs.Allocator.{made_of, limits_in, IsIndexSeat}
+use Rattle.pool_index.specs.Allocator.{made_of, limits_in, bytes_into, CountsTaking, IsIndexSeat}
 use Rattle.pool_index.specs.Freed.{taken_outside, units_of_slots}
 use Rattle.pool_index.specs.Part.{shard_meaning}
-use Rattle.pool_index.specs.Round.{HeldInTurn, Gains, KeepsRest}
+use Rattle.pool_index.specs.Round.{HeldInTurn, Gains, OnlyGrows, KeepsRest}
 use Rattle.pool_index.specs.Shard.{ShardState, after_take_warm}
 use Rattle.pool_index.proofs.allocator.ModuleAffinityIndexAllocator.take_all.Given as goal
 
@@ -18,5 +18,8 @@ invariant-loop-place g l = record {
   few : length l.call.taken.items ≤ min l.self.capacity (l.place * l.self.slots_per_shard);
   bytes : All (λ p. p.1 ≤ 2 ^ 32) l.call.taken.items;
   units : Gains (units_of_slots l.call.taken.items) (view l.initial.seat) (view l.seat);
+  beyond : (p : ℕ) → l.place ≤ p → bytes_into l.self p l.call.taken.items ≡ 0;
+  counts : CountsTaking l.self l.place l.call.taken.items (view l.initial.seat) (view l.seat);
+  grows : OnlyGrows (view l.initial.seat) (view l.seat);
   rest : KeepsRest (view l.initial.seat) (view l.seat);
 }

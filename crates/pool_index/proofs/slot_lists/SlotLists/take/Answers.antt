@@ -44,15 +44,15 @@ unlink-requires-2-clause-after g c =
     let found : IsFound c.self.inside.rows c.self.invariant.slots c.args.self.now c.requires.0 c.args.slot = slot_found c.self.inside.rows c.self.inside.table c.self.inside.freed c.self.inside.bytes c.self.invariant.slots c.self.invariant.woven c.args.self.now c.self.view_is c.requires.0 c.args.slot c.requires.1 c.requires.2 in
     subst (Within c.in-Warm.record.affine.after) (sym (c.unlink.ensures.after ∙ ap (unlinked Freed c.in-Warm.record.freed) c.replace.ensures.after)) (then_after_within c.self.inside.rows c.self.inside.table c.self.inside.freed c.self.inside.bytes (take c.requires.0 c.self.invariant.slots) c.args.slot (drop (suc c.requires.0) c.self.invariant.slots) (split_woven c.self.inside.rows c.self.inside.table c.self.inside.freed c.self.inside.bytes c.self.invariant.slots c.self.invariant.woven c.args.self.now c.self.view_is c.requires.0 c.args.slot found) c.in-Warm.record (sym c.replace.ensures.value ∙ c.in-Warm.is) c.args.want)
 
-pub put-requires-clause-room : goal.put-requires-clause-room
-put-requires-clause-room g c none' =
+pub put_at-requires-clause-room : goal.put_at-requires-clause-room
+put_at-requires-clause-room g c none' =
     let found : IsFound c.self.inside.rows c.self.invariant.slots c.args.self.now c.requires.0 c.args.slot = slot_found c.self.inside.rows c.self.inside.table c.self.inside.freed c.self.inside.bytes c.self.invariant.slots c.self.invariant.woven c.args.self.now c.self.view_is c.requires.0 c.args.slot c.requires.1 c.requires.2 in
     absurd (its_some c.self.inside.rows c.self.inside.table c.self.inside.freed c.self.inside.bytes (take c.requires.0 c.self.invariant.slots) c.args.slot (drop (suc c.requires.0) c.self.invariant.slots) (split_woven c.self.inside.rows c.self.inside.table c.self.inside.freed c.self.inside.bytes c.self.invariant.slots c.self.invariant.woven c.args.self.now c.self.view_is c.requires.0 c.args.slot found) c.in-Warm.record (sym c.replace.ensures.value ∙ c.in-Warm.is) c.args.want none')
 
-pub put-requires-clause-some : goal.put-requires-clause-some
-put-requires-clause-some g c =
+pub put_at-requires-clause-some : goal.put_at-requires-clause-some
+put_at-requires-clause-some g c =
     let found : IsFound c.self.inside.rows c.self.invariant.slots c.args.self.now c.requires.0 c.args.slot = slot_found c.self.inside.rows c.self.inside.table c.self.inside.freed c.self.inside.bytes c.self.invariant.slots c.self.invariant.woven c.args.self.now c.self.view_is c.requires.0 c.args.slot c.requires.1 c.requires.2 in
-    subst (λ (o : Option Ends). IfSome o (λ (e : Ends). 0 < e.len)) (sym (c.without.ensures ∙ ap (ends_without c.in-Warm.record.affine) c.get-affine.ensures)) (left_some c.self.inside.rows c.self.inside.table c.self.inside.freed c.self.inside.bytes (take c.requires.0 c.self.invariant.slots) c.args.slot (drop (suc c.requires.0) c.self.invariant.slots) (split_woven c.self.inside.rows c.self.inside.table c.self.inside.freed c.self.inside.bytes c.self.invariant.slots c.self.invariant.woven c.args.self.now c.self.view_is c.requires.0 c.args.slot found) c.in-Warm.record (sym c.replace.ensures.value ∙ c.in-Warm.is) c.args.want)
+    subst (λ (o : Option Ends). IfSome o (λ (e : Ends). 0 < e.len)) (sym (c.without.ensures ∙ ap (ends_without c.in-Warm.record.affine) c.look-affine.ensures.ends)) (left_some c.self.inside.rows c.self.inside.table c.self.inside.freed c.self.inside.bytes (take c.requires.0 c.self.invariant.slots) c.args.slot (drop (suc c.requires.0) c.self.invariant.slots) (split_woven c.self.inside.rows c.self.inside.table c.self.inside.freed c.self.inside.bytes c.self.invariant.slots c.self.invariant.woven c.args.self.now c.self.view_is c.requires.0 c.args.slot found) c.in-Warm.record (sym c.replace.ensures.value ∙ c.in-Warm.is) c.args.want)
 
 pub overflow_sub-self : goal.overflow_sub-self
 overflow_sub-self g c =
@@ -64,17 +64,17 @@ invariant_of-self g c =
     let found : IsFound c.self.inside.rows c.self.invariant.slots c.args.self.now c.requires.0 c.args.slot = slot_found c.self.inside.rows c.self.inside.table c.self.inside.freed c.self.inside.bytes c.self.invariant.slots c.self.invariant.woven c.args.self.now c.self.view_is c.requires.0 c.args.slot c.requires.1 c.requires.2 in
     let here : record_of c.self.inside.rows c.args.slot ≡ Warm c.in-Warm.record = sym c.replace.ensures.value ∙ c.in-Warm.is in
     let rows : c.unlink-2.new.self ≡ taken_rows c.args.want c.in-Warm.record c.args.slot c.self.inside.rows = c.unlink-2.ensures.after ∙ ap (unlinked Affine c.in-Warm.record.affine) (c.unlink.ensures.after ∙ ap (unlinked Freed c.in-Warm.record.freed) c.replace.ensures.after) in
-    let left : c.without.result ≡ ends_without c.in-Warm.record.affine (ends_at c.self.inside.table c.in-Warm.record.affinity) = c.without.ensures ∙ ap (ends_without c.in-Warm.record.affine) c.get-affine.ensures in
-    let total : table_total c.put.new.self + ends_len (ends_at c.self.inside.table c.in-Warm.record.affinity) ≡ table_total c.self.inside.table + ends_len (ends_without c.in-Warm.record.affine (ends_at c.self.inside.table c.in-Warm.record.affinity)) =
-    c.put.ensures.total ∙ (λ k. table_total c.self.inside.table + ends_len (left k)) in
-    let ends : (a : Option MemoryInModule) → ends_at c.put.new.self a ≡ (if same_affinity a c.in-Warm.record.affinity then ends_without c.in-Warm.record.affine (ends_at c.self.inside.table c.in-Warm.record.affinity) else ends_at c.self.inside.table a) =
-    λ a. c.put.ensures.ends a ∙ (λ k. if same_affinity a c.in-Warm.record.affinity then left k else ends_at c.self.inside.table a) in
+    let left : c.without.result ≡ ends_without c.in-Warm.record.affine (ends_at c.self.inside.table c.in-Warm.record.affinity) = c.without.ensures ∙ ap (ends_without c.in-Warm.record.affine) c.look-affine.ensures.ends in
+    let total : table_total c.put_at.new.self + ends_len (ends_at c.self.inside.table c.in-Warm.record.affinity) ≡ table_total c.self.inside.table + ends_len (ends_without c.in-Warm.record.affine (ends_at c.self.inside.table c.in-Warm.record.affinity)) =
+    c.put_at.ensures.total ∙ (λ k. table_total c.self.inside.table + ends_len (left k)) in
+    let ends : (a : Option MemoryInModule) → ends_at c.put_at.new.self a ≡ (if same_affinity a c.in-Warm.record.affinity then ends_without c.in-Warm.record.affine (ends_at c.self.inside.table c.in-Warm.record.affinity) else ends_at c.self.inside.table a) =
+    λ a. c.put_at.ensures.ends a ∙ (λ k. if same_affinity a c.in-Warm.record.affinity then left k else ends_at c.self.inside.table a) in
     record {
       slots = take c.requires.0 c.self.invariant.slots ++ drop (suc c.requires.0) c.self.invariant.slots;
-      woven = take_woven c.self.inside.rows c.self.inside.table c.self.inside.freed c.self.inside.bytes c.self.invariant.slots c.self.invariant.woven c.args.self.now c.self.view_is c.requires.0 c.args.slot found c.in-Warm.record here c.args.want c.unlink-2.new.self c.put.new.self c.without-self-inside.result rows c.without-self-inside.ensures ends total;
+      woven = take_woven c.self.inside.rows c.self.inside.table c.self.inside.freed c.self.inside.bytes c.self.invariant.slots c.self.invariant.woven c.args.self.now c.self.view_is c.requires.0 c.args.slot found c.in-Warm.record here c.args.want c.unlink-2.new.self c.put_at.new.self c.without-self-inside.result rows c.without-self-inside.ensures ends total;
       room =
           let r : length c.unlink-2.new.self ≡ length c.self.inside.rows = ap length rows ∙ taken_length c.self.inside.rows c.self.inside.table c.self.inside.freed c.self.inside.bytes (take c.requires.0 c.self.invariant.slots) c.args.slot (drop (suc c.requires.0) c.self.invariant.slots) (split_woven c.self.inside.rows c.self.inside.table c.self.inside.freed c.self.inside.bytes c.self.invariant.slots c.self.invariant.woven c.args.self.now c.self.view_is c.requires.0 c.args.slot found) c.in-Warm.record (sym c.replace.ensures.value ∙ c.in-Warm.is) c.args.want in
-          let t : length c.put.new.self ≡ length c.self.inside.table = c.put.ensures.len in
+          let t : length c.put_at.new.self ≡ length c.self.inside.table = c.put_at.ensures.len in
           let had = c.self.invariant.room in
           omega arith;
     }
@@ -89,12 +89,12 @@ returns-clause-after g c i inside slot =
     let found : IsFound c.self.inside.rows c.self.invariant.slots c.args.self.now i c.args.slot = slot_found c.self.inside.rows c.self.inside.table c.self.inside.freed c.self.inside.bytes c.self.invariant.slots c.self.invariant.woven c.args.self.now c.self.view_is i c.args.slot inside slot in
     let here : record_of c.self.inside.rows c.args.slot ≡ Warm c.in-Warm.record = sym c.replace.ensures.value ∙ c.in-Warm.is in
     let rows : c.unlink-2.new.self ≡ taken_rows c.args.want c.in-Warm.record c.args.slot c.self.inside.rows = c.unlink-2.ensures.after ∙ ap (unlinked Affine c.in-Warm.record.affine) (c.unlink.ensures.after ∙ ap (unlinked Freed c.in-Warm.record.freed) c.replace.ensures.after) in
-    let left : c.without.result ≡ ends_without c.in-Warm.record.affine (ends_at c.self.inside.table c.in-Warm.record.affinity) = c.without.ensures ∙ ap (ends_without c.in-Warm.record.affine) c.get-affine.ensures in
-    let total : table_total c.put.new.self + ends_len (ends_at c.self.inside.table c.in-Warm.record.affinity) ≡ table_total c.self.inside.table + ends_len (ends_without c.in-Warm.record.affine (ends_at c.self.inside.table c.in-Warm.record.affinity)) =
-    c.put.ensures.total ∙ (λ k. table_total c.self.inside.table + ends_len (left k)) in
-    let ends : (a : Option MemoryInModule) → ends_at c.put.new.self a ≡ (if same_affinity a c.in-Warm.record.affinity then ends_without c.in-Warm.record.affine (ends_at c.self.inside.table c.in-Warm.record.affinity) else ends_at c.self.inside.table a) =
-    λ a. c.put.ensures.ends a ∙ (λ k. if same_affinity a c.in-Warm.record.affinity then left k else ends_at c.self.inside.table a) in
-    take_shown c.self.inside.rows c.self.inside.table c.self.inside.freed c.self.inside.bytes c.self.invariant.slots c.self.invariant.woven c.args.self.now c.self.view_is i c.args.slot found c.in-Warm.record here c.args.want c.unlink-2.new.self c.put.new.self c.without-self-inside.result rows c.without-self-inside.ensures ends total
+    let left : c.without.result ≡ ends_without c.in-Warm.record.affine (ends_at c.self.inside.table c.in-Warm.record.affinity) = c.without.ensures ∙ ap (ends_without c.in-Warm.record.affine) c.look-affine.ensures.ends in
+    let total : table_total c.put_at.new.self + ends_len (ends_at c.self.inside.table c.in-Warm.record.affinity) ≡ table_total c.self.inside.table + ends_len (ends_without c.in-Warm.record.affine (ends_at c.self.inside.table c.in-Warm.record.affinity)) =
+    c.put_at.ensures.total ∙ (λ k. table_total c.self.inside.table + ends_len (left k)) in
+    let ends : (a : Option MemoryInModule) → ends_at c.put_at.new.self a ≡ (if same_affinity a c.in-Warm.record.affinity then ends_without c.in-Warm.record.affine (ends_at c.self.inside.table c.in-Warm.record.affinity) else ends_at c.self.inside.table a) =
+    λ a. c.put_at.ensures.ends a ∙ (λ k. if same_affinity a c.in-Warm.record.affinity then left k else ends_at c.self.inside.table a) in
+    take_shown c.self.inside.rows c.self.inside.table c.self.inside.freed c.self.inside.bytes c.self.invariant.slots c.self.invariant.woven c.args.self.now c.self.view_is i c.args.slot found c.in-Warm.record here c.args.want c.unlink-2.new.self c.put_at.new.self c.without-self-inside.result rows c.without-self-inside.ensures ends total
 
 pub returns-clause-steps : goal.returns-clause-steps
 returns-clause-steps g c i inside slot =
