@@ -5,3 +5,4 @@ pub mod Laws
 pub mod Shared
 pub mod Spot
 pub mod Spots
+pub mod Tickets

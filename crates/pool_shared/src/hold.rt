@@ -194,7 +194,7 @@ fn finish<H: Held, C: Clock, R: Wait + HostClock>(
     unreachable!()
 }
 
-// WaitRequest: takes the lock again and again until the wait is over. Its number is free for others then.
+// Waits: takes the lock again and again until the wait is over. Its number is free for others then.
 pub(crate) fn wait_on<H: Held, C: Clock, R: Wait + HostClock>(
     rt: &R,
     lock: &Mutex<H>,

@@ -1,4 +1,4 @@
-ghost use Rattle.std.specs.Prelude.{◌≡◌, ◌+◌, ◌≤◌, ℕ, length, IfErr, OnOk};
+ghost use Rattle.std.specs.Prelude.{◌≡◌, ◌+◌, ◌≤◌, ℕ, length, IfOk, IfErr, OnOk};
 ghost use Rattle.std.specs.Int.{w32};
 ghost use Rattle.pool_shared.specs.Bounds.{IsPast, IsTrapped, IsAligned};
 ghost use Rattle.pool_shared.specs.Shared.{Grows};
@@ -67,6 +67,7 @@ impl<M, L: RuntimeLinearMemory<M>, S: SizeAsMade> Kept<M, L, S> {
 
     pub(crate) fn notify(&mut self, addr: u64, n: u32) -> Result<u32, Trap>
         ensures ok { OnOk result (IsAligned w32 addr) }
+        ensures at_most { IfOk result (λ notified. notified ≤ n) }
         ensures err { IfErr result (IsTrapped w32 addr S.size) }
     {
         self.state.notify(addr, n)

@@ -15,8 +15,10 @@ use std::time::Clock as HostClock;
 
 /// The words that waits compare, by their addresses. They are read under the spot's lock.
 pub trait Words: Drop {
+    /// The word of four bytes at the address.
     fn word32(&self, addr: u64) -> u32;
 
+    /// The word of eight bytes at the address.
     fn word64(&self, addr: u64) -> u64;
 }
 
@@ -158,10 +160,15 @@ impl<W: Words> ParkingSpot<W> {
         }
     }
 
-    /// Notifies the first `n` waiters at the address, or all where they are fewer, and tells how many.
-    pub fn notify<R: Wait>(&self, rt: &R, addr: u64, n: u32) -> u32 {
+    /// Notifies the first `n` waiters at the address, or all where they are fewer, and tells how many. Where there are none
+    /// nobody wakes.
+    pub fn notify<R: Wait>(&self, rt: &R, addr: u64, n: u32) -> u32
+        ensures at_most { result ≤ n }
+    {
         let notified = self.parked.lock(rt).spot.notify(addr, n);
-        self.changed.notify_all();
+        if notified > 0 {
+            self.changed.notify_all();
+        }
         notified
     }
 }

@@ -1,4 +1,4 @@
-ghost use Rattle.std.specs.Prelude.{◌≡◌, ◌↔◌, ◌+◌, ◌<◌, ◌≤◌, length, true, Some, None, Ok, Err, IsOk, IfErr, OnOk, OnErr};
+ghost use Rattle.std.specs.Prelude.{◌≡◌, ◌↔◌, ◌+◌, ◌<◌, ◌≤◌, length, true, Some, None, Ok, Err, IsOk, IfOk, IfErr, OnOk, OnErr};
 ghost use Rattle.std.specs.Int.{w32, w64};
 ghost use Rattle.pool_limits.specs.declared.errors.WaitResult.TheVariants as ended;
 ghost use Rattle.pool_types.specs.MemoryTypes.{minimum_byte_size};
@@ -84,6 +84,7 @@ impl<M, L: RuntimeLinearMemory<M>, S: SizeAsMade> SharedMemory<M, L, S> {
         }
     }
 
+    /// The type that it was made with.
     pub fn ty(&self) -> &MemoryType
         ensures { result.now ≡ self.now.ty }
     {
@@ -132,14 +133,18 @@ impl<M, L: RuntimeLinearMemory<M>, S: SizeAsMade> SharedMemory<M, L, S> {
         self.state.lock(rt).grow(maker, delta)
     }
 
-    /// Notifies the first `n` waiters at the word's address, or all where they are fewer, and tells how many.
+    /// Notifies the first `n` waiters at the word's address, or all where they are fewer, and tells how many. Where there are
+    /// none nobody wakes.
     pub fn atomic_notify<R: Wait>(&self, rt: &R, addr: u64, n: u32) -> Result<u32, Trap>
         ensures ok { OnOk result (IsAligned w32 addr) }
+        ensures at_most { IfOk result (λ notified. notified ≤ n) }
         ensures err { IfErr result (IsTrapped w32 addr S.size) }
     {
-        let notified = self.state.lock(rt).notify(addr, n);
-        self.changed.notify_all();
-        notified
+        let notified = self.state.lock(rt).notify(addr, n)?;
+        if notified > 0 {
+            self.changed.notify_all();
+        }
+        Ok(notified)
     }
 
     /// Waits for a notify, if the word of four bytes at the address is the expected one. The timeout is in nanoseconds, from

@@ -1,4 +1,4 @@
-ghost use Rattle.std.specs.Prelude.{◌≡◌, ◌+◌, ◌≤◌, true, false, IfSome};
+ghost use Rattle.std.specs.Prelude.{◌≡◌, ◌+◌, ◌≤◌, true, false, IfSome, IfOk};
 ghost use Rattle.std.specs.Int.{w32, w64};
 ghost use Rattle.pool_shared.specs.Shared.{word_address, word_at, Waits, WaitsAt, notify_answer, after_notify_at};
 ghost use Rattle.pool_shared.specs.Spot.{is_waiting, recheck_answer, after_recheck};
@@ -66,6 +66,7 @@ impl<M, L: RuntimeLinearMemory<M>> SharedState<M, L> {
     pub fn notify(&mut self, addr: u64, n: u32) -> Result<u32, Trap>
         ensures answer { result ≡ notify_answer (word_address w32 addr self.old) n self.old.spot }
         ensures after { self.new ≡ record self.old { spot = after_notify_at (word_address w32 addr self.old) n self.old.spot } }
+        ensures at_most { IfOk result (λ notified. notified ≤ n) }
     {
         let addr = validate_atomic_addr(self.byte_size() as u64, addr, 4, 4)?;
         Ok(self.spot.notify(addr, n))

@@ -1,30 +1,48 @@
-ghost use Rattle.std.specs.Prelude.{◌≡◌, ◌<◌, true, false, [], length, min, IfOk, OnOk, OnErr, slice_index_or};
-ghost use Rattle.pool_shared.specs.Spot.{AreDistinct, is_of, is_waiting, parked_at, wait_answer, after_wait, recheck_answer, after_recheck, after_notify};
+ghost use Rattle.std.specs.Prelude.{◌≡◌, ◌+◌, ◌<◌, ◌≤◌, ℕ, true, false, [], ◌∷◌, ◌++◌, length, min, Some, IsSome, IfSome, IfNone, IfOk, OnOk, OnErr, if◌then◌else◌, IsTrue};
+ghost use Rattle.std.specs.Ordering.{nat_cmp};
+ghost use Rattle.std.specs.BTreeMap as tree;
+ghost use Rattle.std.specs.BTreeSet as sorted;
+ghost use Rattle.std.specs.Map.{set_value};
+ghost use Rattle.pool_shared.specs.Spot.{AreDistinct, is_waiting, parked_at, marked_wait, wait_answer, after_wait, recheck_answer, after_recheck, after_notify};
+ghost use Rattle.pool_shared.specs.Tickets.{held_at, place_cmp};
 ghost use Rattle.pool_shared.specs.declared.wait_step.WaitStep.TheVariants as answer;
+ghost use Rattle.pool_shared.specs.declared.waiting.Waiting.{Waiting};
 
 use crate::wait_step::WaitStep;
 use crate::waiting::{Waiting, has_passed};
 use std::alloc::{AllocError, Global};
+use std::collections::{BTreeMap, BTreeSet, HashMap};
 use std::marker::Model;
 
 /// Who waits at which address, and who was notified: what stands behind the lock of a parking spot or of a shared memory.
 /// Nobody sleeps here: a caller that is parked asks again. Times are in nanoseconds.
+///
+/// A call costs by the waits that it touches: a fixed number of searches, and for a notification as many for each waiter
+/// that it marks. A search costs by the logarithm of how many wait.
 #[derive(Drop)]
 pub struct SpotState {
-    // In order of arrival. A wait that is notified keeps its place until its waiter asks, so its mark needs no room.
-    waits: Vec<Waiting>,
+    // By ticket. A later wait has a higher one, so they are in order of arrival. A wait that is notified stays until its
+    // waiter asks, so its mark needs no room.
+    waits: BTreeMap<u64, Waiting>,
+    // The ticket of each waiter.
+    tickets: HashMap<u32, u64>,
+    // The address and the ticket of each wait that isn't marked.
+    parked: BTreeSet<(u64, u64)>,
 }
 
 impl Model for SpotState {
-    ghost use Rattle.std.specs.Prelude.{List};
+    ghost use Rattle.std.specs.Prelude.{List, nat_eq};
+    ghost use Rattle.std.specs.BTreeMap as tree;
+    ghost use Rattle.std.specs.BTreeSet as sorted;
+    ghost use Rattle.std.specs.HashMap as hash;
     ghost use Rattle.pool_shared.specs.declared.waiting.Waiting.{Waiting};
-    ghost use Rattle.pool_shared.specs.Spot.{AreDistinct};
+    ghost use Rattle.pool_shared.specs.Tickets.{AreIndexed, place_cmp};
 
     ghost Value = { List Waiting };
 
-    ghost view = { λ s. s.waits.items };
+    ghost view = { λ s. tree.values s.waits };
 
-    ghost invariant = { λ s. AreDistinct s.waits.items };
+    ghost invariant = { λ s. AreIndexed s.waits.entries (hash.get nat_eq s.tickets) (sorted.contains place_cmp s.parked) };
 }
 
 impl SpotState {
@@ -33,7 +51,9 @@ impl SpotState {
         ensures { result ≡ [] }
     {
         SpotState {
-            waits: Vec::new(alloc),
+            waits: BTreeMap::new(alloc),
+            tickets: HashMap::new(alloc),
+            parked: BTreeSet::new(alloc),
         }
     }
 
@@ -42,7 +62,7 @@ impl SpotState {
         ensures value { result ≡ is_waiting waiter self.now }
         ensures distinct { AreDistinct self.now }
     {
-        self.waits.iter().any(|wait| wait.waiter == waiter)
+        self.tickets.contains_key(&waiter)
     }
 
     /// Begins a wait. `same` is whether the word at the address is the expected one. A wait that parks is entered with
@@ -67,7 +87,7 @@ impl SpotState {
         if has_passed(deadline, now) {
             return Ok(WaitStep::TimedOut);
         }
-        self.waits.push(Waiting {
+        self.park(Waiting {
             addr,
             waiter,
             deadline,
@@ -82,11 +102,12 @@ impl SpotState {
         ensures answer { result ≡ recheck_answer waiter now self.old }
         ensures after { self.new ≡ after_recheck waiter now self.old }
     {
-        let at = place_of(self.waits.as_slice(), waiter);
-        let wait = self.waits[at];
-        let ended = wait.ends(now);
-        if ended {
-            self.waits.remove(at);
+        let ticket = self.tickets[&waiter];
+        let wait = self.waits[&ticket];
+        if wait.ends(now) {
+            self.tickets.remove(&waiter);
+            self.waits.remove(&ticket);
+            self.parked.remove(&(wait.addr, ticket));
         }
         wait.step(now)
     }
@@ -97,40 +118,82 @@ impl SpotState {
         ensures answer { result ≡ min n (length (parked_at addr self.old)) }
         ensures after { self.new ≡ after_notify addr n self.old }
     {
-        mark_first(self.waits.as_mut_slice(), addr, n)
+        for marked in 0..n {
+            if !self.mark_first(addr) {
+                return marked;
+            }
+        }
+        n
+    }
+
+    // Enters a wait as the last one.
+    fn park(&mut self, wait: Waiting) -> Result<(), AllocError>
+        requires apart { is_waiting wait.waiter self.old ≡ false }
+        requires parked { wait.marked ≡ false }
+        ensures ok { OnOk result (self.new ≡ self.old ++ wait ∷ []) }
+        ensures err { OnErr result (self.new ≡ self.old) }
+    {
+        let Some(ticket) = next_ticket(&self.waits) else {
+            return Err(AllocError);
+        };
+        self.tickets.reserve(1)?;
+        self.parked.insert((wait.addr, ticket))?;
+        if self.waits.insert(ticket, wait).is_err() {
+            self.parked.remove(&(wait.addr, ticket));
+            return Err(AllocError);
+        }
+        match self.tickets.insert(wait.waiter, ticket) {
+            Ok(_) => Ok(()),
+            Err(_) => unreachable!(),
+        }
+    }
+
+    // Marks the first wait that is parked at the address, and tells whether there is one.
+    fn mark_first(&mut self, addr: u64) -> bool
+        ensures answer { (if result then 1 else 0) ≡ min 1 (length (parked_at addr self.old)) }
+        ensures after { self.new ≡ after_notify addr 1 self.old }
+        ensures distinct { AreDistinct self.old }
+    {
+        let Some(ticket) = first_parked(&self.parked, addr) else {
+            return false;
+        };
+        self.parked.remove(&(addr, ticket));
+        mark(&mut self.waits, ticket);
+        true
     }
 }
 
-// Where the wait of a waiter stands.
-fn place_of(waits: &[Waiting], waiter: u32) -> usize
-    requires { is_waiting waiter waits.now ≡ true }
-    ensures inside { result < length waits.now }
-    ensures of { (wait : Waiting) → is_of waiter (slice_index_or waits.now result wait) ≡ true }
+// The ticket of a wait that is to be the last. None where a `u64` has no more.
+fn next_ticket(waits: &BTreeMap<u64, Waiting>) -> Option<u64>
+    ensures above { IfSome result (λ ticket. (other : ℕ) → IsSome (tree.get nat_cmp waits.now other) → other < ticket) }
 {
-    for at in 0..waits.len() {
-        if waits[at].waiter == waiter {
-            return at;
-        }
+    match waits.last_key_value() {
+        Some((last, _)) => last.checked_add(1),
+        None => Some(0),
     }
-    unreachable!()
 }
 
-// Marks the first `n` waits that are parked at the address, and tells how many.
-fn mark_first(waits: &mut [Waiting], addr: u64, n: u32) -> u32
-    requires { AreDistinct waits.old }
-    ensures answer { result ≡ min n (length (parked_at addr waits.old)) }
-    ensures after { waits.new ≡ after_notify addr n waits.old }
-    ensures distinct { AreDistinct waits.new }
+// Marks the wait of a ticket.
+fn mark(waits: &mut BTreeMap<u64, Waiting>, ticket: u64)
+    requires { IsSome (held_at ticket waits.old.entries) }
+    ensures entries { IfSome (held_at ticket waits.old.entries) (λ wait. waits.new.entries ≡ set_value (tree.is_at (nat_cmp ticket)) waits.old.entries (marked_wait wait)) }
+    ensures others { IfSome (held_at ticket waits.old.entries) (λ wait. (other : ℕ) → held_at other waits.new.entries ≡ (if tree.is_at (nat_cmp ticket) other then Some (marked_wait wait) else held_at other waits.old.entries)) }
+    ensures ordered { tree.IsOrdered nat_cmp waits.new }
 {
-    let mut marked = 0;
-    for at in 0..waits.len() {
-        if marked == n {
-            break;
-        }
-        if waits[at].is_parked_at(addr) {
-            waits[at].marked = true;
-            marked += 1;
-        }
+    match waits.get_mut(&ticket) {
+        Some(wait) => wait.marked = true,
+        None => unreachable!(),
     }
-    marked
+}
+
+// The lowest ticket of those that are parked at the address.
+fn first_parked(parked: &BTreeSet<(u64, u64)>, addr: u64) -> Option<u64>
+    ensures parked { IfSome result (λ ticket. sorted.contains place_cmp parked.now (addr, ticket) ≡ true) }
+    ensures first { IfSome result (λ ticket. (other : ℕ) → sorted.contains place_cmp parked.now (addr, other) ≡ true → ticket ≤ other) }
+    ensures none { IfNone result ((other : ℕ) → sorted.contains place_cmp parked.now (addr, other) ≡ false) }
+{
+    match parked.range((addr, 0)..).next() {
+        Some(&(at, ticket)) if at == addr => Some(ticket),
+        _ => None,
+    }
 }

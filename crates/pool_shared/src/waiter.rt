@@ -7,6 +7,7 @@ pub struct Waiter {
 }
 
 impl Waiter {
+    /// The waiter of this number.
     pub fn new(number: u32) -> Waiter
         ensures { result.number ≡ number }
     {
