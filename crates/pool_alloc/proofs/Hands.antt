@@ -16,7 +16,7 @@ use Rattle.pool_alloc.specs.declared.frame.Object.{Object}
 use Rattle.pool_alloc.specs.declared.frame.Object.TheVariants.{Memory, Table}
 use Rattle.pool_alloc.specs.declared.lease.InstanceLease.{InstanceLease}
 use Rattle.pool_alloc.specs.Searches.{AreFull, AreEmpty, IsSearchedBy, IsSearchedAt, IsSearched}
-use Rattle.pool_alloc.specs.Sound.{AreSupported, AreTablesSupported, IsLocal, IsLeaseOf, IsObjectOf, AreLeasesOf, AreOfOneKind, IsCore, IsFrame, IsToGrant, Aims, HasNoneWaiting, IsAtRest, IsAiming, IsAllocating, IsReturning, IsShapedAt, AreBegun, IsFreedOf}
+use Rattle.pool_alloc.specs.Sound.{queue_room, AreSupported, AreTablesSupported, IsLocal, IsLeaseOf, IsObjectOf, AreLeasesOf, AreOfOneKind, IsCore, IsFrame, IsToGrant, Aims, HasNoneWaiting, IsAtRest, IsAiming, IsAllocating, IsReturning, IsShapedAt, AreBegun, IsFreedOf}
 use Rattle.pool_alloc.specs.Stages.{Progress, untested, uncounted, admitted, seeks_stack, tests_heap, seeks_heap, counts_heap, Stage, no_call, keys, asks, returning, refusing, progress_by, stage_by, stage_at, stage_of, Follows, Goes, tests_component, counts_component, purging, reserving, releasing}
 use Rattle.pool_alloc.specs.Steps.{memories_wanted, images_wanted, tables_wanted, stacks_wanted, IsForInstance, kind_next, allocator_for, queues_searched, queues_next}
 use Rattle.pool_alloc.specs.Stepping.{count_granted, grant_count, grant_instances, grant_memories, grant_tables, grant_stacks, grant_heaps, is_idle}
@@ -51,7 +51,7 @@ some_length (x ∷ xs) e = omega arith
 pub record IsHeld {P : Type 0} (maker : MakerTold) (s : Settings) (plan : Plan) (in_stripe : ℕ) (local : Queue) (freed : Reserved FreedSlot) (lease : InstanceLease P) : Type 0 where
   pub stripe : in_stripe < length plan.memories
   pub queue : IsLocal maker s local
-  pub freed_room : (freed.room ≡ 2 * s.batch) × (length freed.items + length local.slots ≤ 2 * s.batch)
+  pub freed_room : (freed.room ≡ queue_room s.batch) × (length freed.items + length local.slots ≤ queue_room s.batch)
   pub freed_each : All (IsFreedOf plan) freed.items
   pub freed_order : AreOfOneKind freed.items
   pub objects : AreLeasesOf maker s plan lease

@@ -100,10 +100,10 @@ pub use Rattle.pool_slots.specs.PartsMade.{AreMadeTo, HaveGuards, IsCellMade, Is
 pub use Rattle.pool_slots.specs.PlainSlots.{IsPlain, IsUnusedFrom, StackState, above_bottom, bottom_reset, plain_written, stack_kept, stack_ranges, stack_zeroed, top_kept, top_reset}
 pub use Rattle.pool_slots.specs.Plans.{Block, IsAllocator, IsAtHome, IsPlacedAllocator, Role, allocators, allocators_of, blocks, cell_place, cell_role, cells_block, has_number, have_number, heaps_role, home_among, home_in, home_of, is_within, no_role, number_at, number_in, queue_role, queues_for, role_among, role_at, shard_role, shards_block, slots_at}
 pub use Rattle.pool_slots.specs.PlansMade.{places_planned}
-pub use Rattle.pool_slots.specs.RegionCells.{CellState, away_by, cell_away, cell_emptied, cell_filled, cell_numbers, region_of as unit_region, right_to as unit_right}
+pub use Rattle.pool_slots.specs.RegionCells.{CellState, IsAwaited, IsRegionOf, away_by, cell_away, cell_emptied, cell_filled, cell_numbers, region_of as unit_region, right_to as unit_right}
 pub use Rattle.pool_slots.specs.Slabs.{has_room, settings_slab, stripe_count}
 pub use Rattle.pool_slots.specs.SlotNames.{of_kind, slot_kind}
-pub use Rattle.pool_slots.specs.SlotQueues.{AreApart, AreDistinct, CanBeZeroed, HasOwners, IsFaulted, IsLeftBy, IsQueue, IsReset, IsSettled, IsSlotLeft, IsSpareOf, LeavesClean, Queue, Queued, after_append, after_run, after_run_of, after_take, behind, change_at, drained, empty_queue, first_of_kind, first_slot, first_zeroed, forgotten_slot, front, holds, is_of, is_to_zero, others_of_kind, owner, plain_slot, same_kind, same_slot, taken_into, with_ranges, with_slot, zeroed, zeroed_by, zeroed_slot}
+pub use Rattle.pool_slots.specs.SlotQueues.{AreApart, AreDistinct, CanBeZeroed, HasOwners, IsFaulted, IsGivenBack, IsLeftBy, IsQueue, IsReset, IsSettled, IsSlotLeft, IsSpareOf, LeavesClean, Queue, Queued, after_append, after_run, after_run_of, after_take, behind, change_at, drained, empty_queue, first_of_kind, first_slot, first_zeroed, forgotten_slot, front, holds, is_of, is_to_zero, others_of_kind, owner, plain_slot, same_kind, same_slot, taken_into, with_ranges, with_slot, zeroed, zeroed_by, zeroed_slot}
 pub use Rattle.pool_slots.specs.SlotSteps.{after_first_of}
 pub use Rattle.pool_slots.specs.StripedPlans.{IsStripedPlanOf, divided, stripe_allocator}
 pub use Rattle.pool_slots.specs.TableSizes.{data_size}

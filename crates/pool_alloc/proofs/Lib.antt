@@ -31,6 +31,7 @@ pub mod MadeNumbers
 pub mod MadePools
 pub mod Makings
 pub mod OneParts
+pub mod OwnRegions
 pub mod PhaseSlots
 pub mod Picks
 pub mod PartFlows

@@ -1,10 +1,10 @@
 -- Local and shared queues stay what they are as ranges and slots come and go.
 use Rattle.std.proofs.Common.{◌≡◌, ℕ, ◌+◌, ◌^◌, ◌*◌, ◌<◌, ◌≤◌, Bool, true, false, List, [], ◌∷◌, ◌++◌, length, refl, sym, ap, ◌∙◌, subst, arith, All, None, Option, Some, map, IfSome, inl, inr}
-use Rattle.pool_alloc.proofs.Imports.{AllByRecursion, length-append, length-map, or_left, cases_Bool, All-nil, All-cons, All-append, All-same, length_all_zip, All-head, All-tail, MakerTold, DecommitBehavior, Zero, RestoreOriginalMapping, ByteRange, Slot, IsSlot, IsClean, IsPart, size_of, kept_bytes, left_ranges, reset_slot, decommitted_all, identity, kept_at_most, SlotName, QueuedRange, Queue, Queued, behind, is_of, empty_queue, AreDistinct, AreApart, LeavesClean, IsReset, IsLeftBy, holds, owner, with_slot, after_take, taken_into, drained, after_append, first_slot, after_run, CanBeZeroed, first_zeroed, is_to_zero, others_of_kind, same_kind, zeroed, zeroed_by, zeroed_slot, leaves_clean, queue_joined, owned_joined, slot_self, faulted_owned, SlotKind, stack_kind, QueueKind, slot_kind, can_zero, queue_popped, queue_zeroed, told_same}
+use Rattle.pool_alloc.proofs.Imports.{IsGivenBack, AllByRecursion, length-append, length-map, or_left, cases_Bool, All-nil, All-cons, All-append, All-same, length_all_zip, All-head, All-tail, MakerTold, DecommitBehavior, Zero, RestoreOriginalMapping, ByteRange, Slot, IsSlot, IsClean, IsPart, size_of, kept_bytes, left_ranges, reset_slot, decommitted_all, identity, kept_at_most, SlotName, QueuedRange, Queue, Queued, behind, is_of, empty_queue, AreDistinct, AreApart, LeavesClean, IsReset, IsLeftBy, holds, owner, with_slot, after_take, taken_into, drained, after_append, first_slot, after_run, CanBeZeroed, first_zeroed, is_to_zero, others_of_kind, same_kind, zeroed, zeroed_by, zeroed_slot, leaves_clean, queue_joined, owned_joined, slot_self, faulted_owned, SlotKind, stack_kind, QueueKind, slot_kind, can_zero, queue_popped, queue_zeroed, told_same}
 use Rattle.pool_alloc.specs.Leases.{memory_slot}
 use Rattle.pool_slots.specs.declared.queued_range.QueueKind.TheVariants.{Memory}
 use Rattle.pool_alloc.specs.Answers.{Decommits, Resets}
-use Rattle.pool_alloc.specs.Sound.{IsSettings, IsShared, IsLocal, IsQueuedOf, MayBeRanged, MustBeByHand}
+use Rattle.pool_alloc.specs.Sound.{queue_room, IsSettings, IsShared, IsLocal, IsQueuedOf, MayBeRanged, MustBeByHand}
 use Rattle.pool_alloc.specs.RangeRuns.{runs}
 use Rattle.pool_alloc.proofs.Runs.{one_run, no_runs, grouped_joined, grouped_decommitted}
 use Rattle.pool_alloc.specs.declared.frame.TakenSlot.{TakenSlot}
@@ -13,7 +13,7 @@ use Rattle.pool_alloc.proofs.SlotIdentity.{IsOneSlot, first_ranged, queued_of_on
 use Rattle.pool_alloc.proofs.QueueRuns.{run_queue, run_owners}
 
 -- a queue once it gave its ranges and slots away, by a take or without
-pub drained_shared : (maker : MakerTold) (s : Settings) (q : Queue) → IsSettings s → q.range_room ≡ 2 * s.batch → q.slot_room ≡ 2 * s.batch → IsShared maker s (drained q)
+pub drained_shared : (maker : MakerTold) (s : Settings) (q : Queue) → IsSettings s → q.range_room ≡ queue_room s.batch → q.slot_room ≡ queue_room s.batch → IsShared maker s (drained q)
 drained_shared maker s q settings range_room slot_room =
     record {
       owners = tt;
@@ -22,12 +22,13 @@ drained_shared maker s q settings range_room slot_room =
       range_room = range_room;
       slot_room = slot_room;
       regions = All-nil (IsQueuedOf maker s);
+      known = All-nil IsGivenBack;
       ranged = All-nil (MayBeRanged s);
       queue = record { range_room = omega arith; slot_room = omega arith; distinct = tt; each = tt };
       grouped = omega arith;
     }
 
-pub taken_shared : (maker : MakerTold) (s : Settings) (q : Queue) → IsSettings s → q.range_room ≡ 2 * s.batch → q.slot_room ≡ 2 * s.batch → IsShared maker s (after_take q)
+pub taken_shared : (maker : MakerTold) (s : Settings) (q : Queue) → IsSettings s → q.range_room ≡ queue_room s.batch → q.slot_room ≡ queue_room s.batch → IsShared maker s (after_take q)
 taken_shared maker s q settings range_room slot_room = drained_shared maker s (record q { takes = (after_take q).takes }) settings range_room slot_room
 
 pub local_of_shared : (maker : MakerTold) (s : Settings) (q : Queue) → IsShared maker s q → IsLocal maker s q
@@ -51,7 +52,7 @@ taken_local maker s spare q had local =
       grouped = local.grouped;
     }
 
-pub drained_local : (maker : MakerTold) (s : Settings) (q : Queue) → q.range_room ≡ 2 * s.batch → q.slot_room ≡ 2 * s.batch → IsLocal maker s (drained q)
+pub drained_local : (maker : MakerTold) (s : Settings) (q : Queue) → q.range_room ≡ queue_room s.batch → q.slot_room ≡ queue_room s.batch → IsLocal maker s (drained q)
 drained_local maker s q range_room slot_room =
     record {
       owners = tt;
@@ -76,8 +77,8 @@ joined_local maker s q more shared local apart one short =
       grouped = grouped_joined q more shared.grouped local.grouped;
     }
 
-pub joined_shared : (maker : MakerTold) (s : Settings) (q more : Queue) → IsShared maker s q → IsLocal maker s (after_append q more) → length more.slots ≡ 1 → 0 < length more.ranges → length (q.ranges ++ more.ranges) < s.batch → IsShared maker s (after_append q more)
-joined_shared maker s q more shared local one some short =
+pub joined_shared : (maker : MakerTold) (s : Settings) (q more : Queue) → IsShared maker s q → IsLocal maker s (after_append q more) → All IsGivenBack more.slots → length more.slots ≡ 1 → 0 < length more.ranges → length (q.ranges ++ more.ranges) < s.batch → IsShared maker s (after_append q more)
+joined_shared maker s q more shared local known one some short =
     record {
       owners = local.owners;
       short = omega (arith, short);
@@ -85,6 +86,7 @@ joined_shared maker s q more shared local one some short =
       range_room = local.range_room;
       slot_room = local.slot_room;
       regions = local.regions;
+      known = All-append IsGivenBack q.slots more.slots shared.known known;
       ranged = local.ranged;
       queue = local.queue;
       grouped = local.grouped;
@@ -204,7 +206,7 @@ alone name m is =
     let H : SlotName → Type 0 = λ n. holds n (m ∷ []) ≡ true in
     subst H is (or_left _ _ (slot_self m.name))
 
-one_slot_local : (maker : MakerTold) (s : Settings) (kind : QueueKind) (ranges : List ByteRange) (i : ℕ) (m : Queued) (q : Queue) → m.name ≡ name_queued kind i → q.range_room ≡ 2 * s.batch → q.slot_room ≡ 2 * s.batch → 1 ≤ s.batch → length ranges ≤ 2 * s.batch → IsQueuedOf maker s m → All (MayBeRanged s) (ranges_listed kind i ranges) → q.ranges ≡ ranges_listed kind i ranges → q.slots ≡ m ∷ [] → LeavesClean q.ranges m → IsLocal maker s q
+one_slot_local : (maker : MakerTold) (s : Settings) (kind : QueueKind) (ranges : List ByteRange) (i : ℕ) (m : Queued) (q : Queue) → m.name ≡ name_queued kind i → q.range_room ≡ queue_room s.batch → q.slot_room ≡ queue_room s.batch → 1 ≤ s.batch → length ranges ≤ 2 * s.batch → IsQueuedOf maker s m → All (MayBeRanged s) (ranges_listed kind i ranges) → q.ranges ≡ ranges_listed kind i ranges → q.slots ≡ m ∷ [] → LeavesClean q.ranges m → IsLocal maker s q
 one_slot_local maker s kind ranges i m q named range_room slot_room some few of ranged is holds_it leaves =
     let H : QueuedRange → Type 0 = λ r. holds (owner r) q.slots ≡ true in
     let held : holds (name_queued kind i) q.slots ≡ true = rw holds_it (alone (name_queued kind i) m named) in
@@ -237,10 +239,11 @@ listed_may s kind slot (r ∷ rs) may = All-cons (MayBeRanged s) (record { kind 
 pub record IsResetLocal (maker : MakerTold) (s : Settings) (q : Queue) : Type 0 where
   pub queue : IsLocal maker s q
   pub one : length q.slots ≡ 1
+  pub known : All IsGivenBack q.slots
 
 -- The local queue after a reset of a slot that it is told of: the ranges are few, and all of that slot.
-pub reset_local : (maker : MakerTold) (s : Settings) (kind : QueueKind) (ranges : List ByteRange) (i : ℕ) (m : Queued) (q : Queue) → m.name ≡ name_queued kind i → IsSettings s → IsLocal maker s q → q.ranges ≡ [] → q.slots ≡ [] → length ranges ≤ 2 * s.batch → IsQueuedOf maker s m → All (MayBeRanged s) (ranges_listed kind i ranges) → LeavesClean (ranges_listed kind i ranges) m → IsResetLocal maker s (with_slot m (record q { ranges = q.ranges ++ ranges_listed kind i ranges }))
-reset_local maker s kind ranges i m q named settings local none no_slots few of ranged leaves =
+pub reset_local : (maker : MakerTold) (s : Settings) (kind : QueueKind) (ranges : List ByteRange) (i : ℕ) (m : Queued) (q : Queue) → m.name ≡ name_queued kind i → IsSettings s → IsLocal maker s q → q.ranges ≡ [] → q.slots ≡ [] → length ranges ≤ 2 * s.batch → IsQueuedOf maker s m → All (MayBeRanged s) (ranges_listed kind i ranges) → LeavesClean (ranges_listed kind i ranges) m → IsGivenBack m → IsResetLocal maker s (with_slot m (record q { ranges = q.ranges ++ ranges_listed kind i ranges }))
+reset_local maker s kind ranges i m q named settings local none no_slots few of ranged leaves known =
     let listed : List QueuedRange = ranges_listed kind i ranges in
     let q' : Queue = with_slot m (record q { ranges = q.ranges ++ listed }) in
     let first : q.ranges ++ listed ≡ listed = ap (λ (rs : List QueuedRange). rs ++ listed) none in
@@ -249,6 +252,7 @@ reset_local maker s kind ranges i m q named settings local none no_slots few of 
     record {
       queue = one_slot_local maker s kind ranges i m q' named local.range_room local.slot_room settings.batch.0 few of ranged first only (subst L (sym first) leaves);
       one = ap length only;
+      known = subst (λ (ms : List Queued). All IsGivenBack ms) (sym only) (All-cons IsGivenBack m [] known (All-nil IsGivenBack));
     }
 
 -- A memory's slot that was reset is as a reset leaves it,

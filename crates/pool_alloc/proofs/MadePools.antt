@@ -1,10 +1,10 @@
 -- A pool as it is made is sound, and nothing of it is used.
 use Rattle.std.proofs.Common.{◌≡◌, ℕ, zero, suc, ◌+◌, ◌*◌, ◌^◌, ◌<◌, ◌≤◌, List, [], ◌∷◌, ◌++◌, length, refl, sym, ap, subst, ◌∙◌, arith, replicate, Option, None, map, ◌-◌}
-use Rattle.pool_alloc.proofs.Imports.{length-replicate, none_at_first, div_ceil, AllByRecursion, range_with_len, div_ceil_times, All-nil, SlotKind, memory_kind, table_kind, stack_kind, heap_kind, UnitName, count, rounded_up, IsPageSize, IsWithinLimits, MakerTold, slab_stripes, IsWithinRules, PoolingAllocationConfig, Tunables, Offered, rounded_within, rounded_leaves, rounded_is_whole, rounded_same, used_units, ShardState, MemoryInModule, all_away, all_kept, coloured_region, part_away, part_kept, part_at, AreMadeTo, IsCellMade, IsMadeAs, queue_made, shard_made, Role, shard_role, cell_role, queue_role, heaps_role, no_role, role_at, IsPlacedAllocator, places_planned, of_kind, empty_queue, divided, stripe_allocator, IsStripedPlanOf, PoolPart, PartSettings, Allocator, Plan, OfKinds, SlotName, StripedPlanSettings, each_both, made_shard_of, allocators_placed, planned}
+use Rattle.pool_alloc.proofs.Imports.{IsGivenBack, length-replicate, none_at_first, div_ceil, AllByRecursion, range_with_len, div_ceil_times, All-nil, SlotKind, memory_kind, table_kind, stack_kind, heap_kind, UnitName, count, rounded_up, IsPageSize, IsWithinLimits, MakerTold, slab_stripes, IsWithinRules, PoolingAllocationConfig, Tunables, Offered, rounded_within, rounded_leaves, rounded_is_whole, rounded_same, used_units, ShardState, MemoryInModule, all_away, all_kept, coloured_region, part_away, part_kept, part_at, AreMadeTo, IsCellMade, IsMadeAs, queue_made, shard_made, Role, shard_role, cell_role, queue_role, heaps_role, no_role, role_at, IsPlacedAllocator, places_planned, of_kind, empty_queue, divided, stripe_allocator, IsStripedPlanOf, PoolPart, PartSettings, Allocator, Plan, OfKinds, SlotName, StripedPlanSettings, each_both, made_shard_of, allocators_placed, planned}
 use Rattle.pool_slots.specs.declared.heap_list.HeapEntry.TheVariants as entry
 use Rattle.pool_slots.specs.declared.part.PoolPart.TheVariants as part
 use Rattle.pool_alloc.specs.Made.{settings_of, plan_settings, part_settings, IsMadeCore}
-use Rattle.pool_alloc.specs.Sound.{IsSettings, IsShared, IsQueuedOf, MayBeRanged, IsCore, IsPartFor, IsStripe, IsPoolPlan}
+use Rattle.pool_alloc.specs.Sound.{queue_room, IsSettings, IsShared, IsQueuedOf, MayBeRanged, IsCore, IsPartFor, IsStripe, IsPoolPlan}
 use Rattle.pool_alloc.specs.Whole.{IsUntouched}
 use Rattle.pool_alloc.specs.declared.pool_core.PoolCore.{PoolCore}
 use Rattle.pool_alloc.specs.declared.pool_core.Settings.{Settings}
@@ -79,7 +79,7 @@ plan_made z plan stripes within asked is small =
       queues = omega (arith, asked, is.queues);
     }
 
-empty_shared : (maker : MakerTold) (s : Settings) → 1 ≤ s.batch → IsShared maker s (empty_queue (2 * s.batch) (2 * s.batch))
+empty_shared : (maker : MakerTold) (s : Settings) → 1 ≤ s.batch → IsShared maker s (empty_queue (queue_room s.batch) (queue_room s.batch))
 empty_shared maker s some = record {
   owners = tt;
   short = omega arith;
@@ -87,6 +87,7 @@ empty_shared maker s some = record {
   range_room = refl;
   slot_room = refl;
   regions = All-nil (IsQueuedOf maker s);
+  known = All-nil IsGivenBack;
   ranged = All-nil (MayBeRanged s);
   queue = record { range_room = omega arith; slot_room = omega arith; distinct = tt; each = tt };
   grouped = omega arith;
@@ -132,7 +133,7 @@ module _ {P H : Type 0} where
   made_part maker config tunables offered s (cell_role name) x page sound settings some is = made_cell maker config tunables offered s name.kind name.slot x page sound settings is
   made_part maker config tunables offered s queue_role x page sound settings some is =
       let batch : s.batch ≡ config.decommit_batch_size = ap (λ (t : Settings). t.batch) settings in
-      let same : x ≡ part.Queue (empty_queue (2 * s.batch) (2 * s.batch)) = is ∙ ap (λ (n : ℕ). queue_made {P = P} (2 * n) 0) (sym batch) in
+      let same : x ≡ part.Queue (empty_queue (queue_room s.batch) (queue_room s.batch)) = is ∙ ap (λ (n : ℕ). queue_made {P = P} (queue_room n) 0) (sym batch) in
       subst (IsPartFor maker s queue_role) (sym same) (empty_shared maker s some)
   made_part maker config tunables offered s (heaps_role n) x page sound settings some is =
       let F : PoolPart P H → Type 0 = IsPartFor maker s (heaps_role n) in

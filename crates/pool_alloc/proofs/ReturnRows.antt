@@ -49,7 +49,7 @@ use Rattle.pool_alloc.proofs.KindCounts.{counts_first, first_has, first_kind, ot
 use Rattle.pool_alloc.specs.StackLeases.{LeasedStack}
 use Rattle.pool_alloc.specs.PoolStacks.{IsStackLease, stack_reset}
 use Rattle.pool_alloc.specs.declared.pool_core.Settings.{Settings}
-use Rattle.pool_alloc.proofs.StackRegions.{few_ranges, stack_by_hand, stack_leaves, stack_name, stack_page, stack_queued_of, stack_small}
+use Rattle.pool_alloc.proofs.StackRegions.{few_ranges, stack_by_hand, stack_given_back, stack_leaves, stack_name, stack_page, stack_queued_of, stack_small}
 use Rattle.pool_alloc.proofs.TableReturns.{few_above, returned_has, returned_may, table_leaves, table_still}
 use Rattle.pool_alloc.proofs.Held.{right_is_out}
 
@@ -176,7 +176,7 @@ module _ {P H : Type 0} (maker : MakerTold) (old new : PartyTold) where
       let parts = or_parts (length q.ranges == 0) (nat_le c.settings.batch (length q.ranges)) some in
       record {
         kept = kept;
-        shape = (refl, (back, settled.none_freed, is.one, some_length q.ranges parts.0, omega (arith, leb-false c.settings.batch (length q.ranges) parts.1)));
+        shape = (refl, (back, settled.none_freed, is.one, some_length q.ranges parts.0, omega (arith, leb-false c.settings.batch (length q.ranges) parts.1), is.known));
         even = even;
         fewer = omega arith;
         way = stays;
@@ -204,7 +204,7 @@ module _ {P H : Type 0} (maker : MakerTold) (old new : PartyTold) where
       let m : Queued = slot_ended keep (slot_taken lease) slot in
       let still : IsPoolSlot maker c.settings lease.index (reset_slot slot.region.behaviour keep slot) = slot_of_one maker c.settings lease.index slot (reset_slot slot.region.behaviour keep slot) (one_reset slot.region.behaviour keep slot) of.slot in
       let ranges : List ByteRange = left_ranges slot.region.behaviour keep slot.accessible.bytes in
-      let is = reset_local maker c.settings queued.Memory ranges lease.index m f.local refl can.core.settings can.frame.queue settled.no_ranges settled.no_slots (omega (arith, one_range slot.region.behaviour keep slot.accessible.bytes, can.core.settings.batch.0)) (record { slot = still; by_hand = tt }) (listed_may c.settings queued.Memory lease.index ranges (λ e. absurd cc)) told.1 in
+      let is = reset_local maker c.settings queued.Memory ranges lease.index m f.local refl can.core.settings can.frame.queue settled.no_ranges settled.no_slots (omega (arith, one_range slot.region.behaviour keep slot.accessible.bytes, can.core.settings.batch.0)) (record { slot = still; by_hand = tt }) (listed_may c.settings queued.Memory lease.index ranges (λ e. absurd cc)) told.1 (inl refl) in
       reset_on_ready (Memory lease) (reset_into keep (slot_taken lease) slot f.local) c f can is (λ t. queued_last t f.local.slots m) (omega (arith, of.inside))
 
   -- The table is.
@@ -217,7 +217,7 @@ module _ {P H : Type 0} (maker : MakerTold) (old new : PartyTold) where
       let m : Queued = table_queued page keep lease region in
       let ranges : List ByteRange = above_bottom keep (bytes_used page lease) in
       let leaves = table_leaves page keep lease region lies can.core.settings.table_kept in
-      let is = reset_local maker c.settings queued.Table ranges lease.index m f.local refl can.core.settings can.frame.queue settled.no_ranges settled.no_slots (omega (arith, few_above keep (bytes_used page lease), can.core.settings.batch.0)) (record { slot = table_still maker c.settings page keep lease region of; by_hand = refl }) (listed_may c.settings queued.Table lease.index ranges (λ e. absurd cc)) leaves in
+      let is = reset_local maker c.settings queued.Table ranges lease.index m f.local refl can.core.settings can.frame.queue settled.no_ranges settled.no_slots (omega (arith, few_above keep (bytes_used page lease), can.core.settings.batch.0)) (record { slot = table_still maker c.settings page keep lease region of; by_hand = refl }) (listed_may c.settings queued.Table lease.index ranges (λ e. absurd cc)) leaves (inl refl) in
       reset_on_ready (Table lease) (table_reset page keep lease region f.local) c f can is (λ t. queued_last t f.local.slots m) (omega (arith, can.frame.shape.2.inside))
 
   -- The stack is.
@@ -236,7 +236,7 @@ module _ {P H : Type 0} (maker : MakerTold) (old new : PartyTold) where
       let leaves : L x.index = subst L (ap (λ (n : SlotName). n.slot) (stack_name z keep x lease.numbers)) (leaves_clean queued.Stack m ranges (empty_queue 0 0) (ap (λ (n : SlotName). n.kind) (stack_name z keep x lease.numbers)) tt refl (stack_leaves keep x lease.numbers of.plain whole (stack_small maker s x.index x.slot can.core.settings of.slot))) in
       let hand : IsByHand s.stack_zeroing m.by_hand = stack_by_hand z s.stack_zeroing keep x lease.numbers refl of.zeroing in
       let queues : IsQueuedOf maker s m = stack_queued_of z maker s keep lease c.plan of hand in
-      let is = reset_local maker s queued.Stack ranges x.index m f.local (stack_name z keep x lease.numbers) can.core.settings can.frame.queue settled.no_ranges settled.no_slots (omega (arith, few_ranges z keep x, can.core.settings.batch.0)) queues (stack_ranged z s keep x of.zeroing) leaves in
+      let is = reset_local maker s queued.Stack ranges x.index m f.local (stack_name z keep x lease.numbers) can.core.settings can.frame.queue settled.no_ranges settled.no_slots (omega (arith, few_ranges z keep x, can.core.settings.batch.0)) queues (stack_ranged z s keep x of.zeroing) leaves (stack_given_back (stack_zeroed z keep x) (stack_kept z keep x) lease.numbers) in
       reset_on_ready (Stack lease) (stack_reset keep lease f.local) c f can is (λ t. omega (arith, queued_last t f.local.slots m, ap (λ (n : SlotName). both_count t n lease.numbers) (stack_name z keep x lease.numbers))) (omega (arith, of.inside))
 
   pub reset_ready : (g : StepGiven H) (object : Object P) (c : PoolCore P H) (f : Frame P H) → Can maker (Reset object) c f → ResetTold c.settings g object → Shows (Reset object) c f (reset_row g object c (in_phase Idle f))
@@ -290,7 +290,7 @@ module _ {P H : Type 0} (maker : MakerTold) (old new : PartyTold) where
       let has : Frame P H = record f { phase = Idle; local = drained f.local } in
       record {
         kept = kept_part maker old new c e (with_queue i whole c) has
-            (core_with_queue maker i whole c can.core below (joined_shared maker c.settings q f.local shared both shape.2 shape.3 (leb-false c.settings.batch (length whole.ranges) is)))
+            (core_with_queue maker i whole c can.core below (joined_shared maker c.settings q f.local shared both shape.5 shape.2 shape.3 (leb-false c.settings.batch (length whole.ranges) is)))
             (record {
               stripe = can.frame.stripe;
               queue = drained_local maker c.settings f.local can.frame.queue.range_room can.frame.queue.slot_room;

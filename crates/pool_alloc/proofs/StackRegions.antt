@@ -1,6 +1,6 @@
 -- Regions of stacks: as they are made, with a stack in them, and back again.
-use Rattle.std.proofs.Common.{◌≡◌, ℕ, ◌+◌, ◌-◌, ◌/◌, ◌%◌, ◌^◌, ◌<◌, ◌≤◌, Bool, true, false, List, [], ◌∷◌, length, refl, sym, ap, ◌∙◌, subst, arith, All, Option, Some, None, replicate, IfSome, IsSome, if◌then◌else◌, option_map}
-use Rattle.pool_alloc.proofs.Imports.{All-nil, IsPageSize, count, rounded_up, Contents, IsShaped, hidden, MakerTold, fresh, Told, TellsShaped, hiding, succeeded, fresh_shaped, add_whole, access_shaped, Slot, SlotIdentity, IsClean, IsPart, Reads, Holds, identity, size_of, decommitted_all, ByteRange, told_same, fresh_clean, rounded_same, stack_item, stack_region, IsPlain, StackState, plain_written, stack_kept, stack_ranges, stack_zeroed, top_kept, top_reset, CanBeZeroed, IsReset, Queued, plain_slot, Plan, RegionNumbers, clean_slots_read_zeros, empty_held, top_done, top_plain}
+use Rattle.std.proofs.Common.{◌≡◌, ℕ, ◌+◌, ◌-◌, ◌/◌, ◌%◌, ◌^◌, ◌<◌, ◌≤◌, Bool, true, false, List, [], ◌∷◌, length, refl, sym, ap, ◌∙◌, subst, arith, All, Option, Some, None, replicate, IfSome, IsSome, if◌then◌else◌, option_map, cond, inl, inr}
+use Rattle.pool_alloc.proofs.Imports.{IsGivenBack, All-nil, IsPageSize, count, rounded_up, Contents, IsShaped, hidden, MakerTold, fresh, Told, TellsShaped, hiding, succeeded, fresh_shaped, add_whole, access_shaped, Slot, SlotIdentity, IsClean, IsPart, Reads, Holds, identity, size_of, decommitted_all, ByteRange, told_same, fresh_clean, rounded_same, stack_item, stack_region, IsPlain, StackState, plain_written, stack_kept, stack_ranges, stack_zeroed, top_kept, top_reset, CanBeZeroed, IsReset, Queued, plain_slot, Plan, RegionNumbers, clean_slots_read_zeros, empty_held, top_done, top_plain}
 use Rattle.pool_alloc.specs.Guards.{IsOpen}
 use Rattle.pool_alloc.specs.PoolStacks.{region_of_stack, IsPoolStack, IsQueuedStack, IsStackRegion, IsStackLease, IsNewStack, stack_made}
 use Rattle.pool_alloc.specs.Sound.{IsSettings, IsByHand, IsQueuedOf}
@@ -172,6 +172,14 @@ pub stack_leaves : (keep : ℕ) (x : StackState) (numbers : RegionNumbers) → I
 stack_leaves keep x numbers p whole few =
     stack_is_reset (stack_ranges x.zeroing keep x) (stack_zeroed x.zeroing keep x) (stack_kept x.zeroing keep x) numbers (zeroed_plain x.zeroing keep x p) (kept_few x.zeroing keep x few) (zeroed_parts x.zeroing keep x p whole)
     (λ zeroing. zeroed_clean x.zeroing keep x p whole (sym (zeroed_as x.zeroing keep x) ∙ zeroing))
+
+given_back_by : (zeroing : Bool) (x : StackState) (n bytes : ℕ) (numbers : RegionNumbers) → IsGivenBack (record { name = stack_slot x.index; slot = x.slot; known = zeroing; bytes = bytes; by_hand = cond zeroing (Some n) None; numbers = numbers })
+given_back_by true x n bytes numbers = inl refl
+given_back_by false x n bytes numbers = inr (refl, refl)
+
+-- a stack goes back known, unless it isn't zeroed
+pub stack_given_back : (x : StackState) (bytes : ℕ) (numbers : RegionNumbers) → IsGivenBack (stack_item x bytes numbers)
+stack_given_back x bytes numbers = given_back_by x.zeroing x x.slot.static_size bytes numbers
 
 pub stack_name : (b : Bool) (keep : ℕ) (x : StackState) (numbers : RegionNumbers) → (stack_item (stack_zeroed b keep x) (stack_kept b keep x) numbers).name ≡ stack_slot x.index
 stack_name true keep x numbers = refl

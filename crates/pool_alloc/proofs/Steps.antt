@@ -50,6 +50,9 @@ use Rattle.pool_alloc.proofs.SlotIdentity.{region_page}
 use Rattle.pool_alloc.proofs.RegionRows.{region_is_fresh, take_region_ready, empty_ready, instantiate_ready, make_memory_ready, count_object_ready, put_back_ready, free_one_ready, make_table_ready}
 use Rattle.pool_alloc.proofs.FlushFinds.{Finds, finds, put_some}
 use Rattle.pool_alloc.proofs.ReturnRows.{first_freed, uncount_object_ready, reset_ready, merge_ready, uncount_instance_ready, flush_ready, first_of_all}
+use Rattle.pool_alloc.proofs.Held.{unit_once}
+use Rattle.pool_alloc.proofs.OwnRegions.{queued_awaited, region_awaited}
+use Rattle.pool_alloc.proofs.PhaseSlots.{phase_gone}
 use Rattle.pool_alloc.proofs.Stages.{local_is_spare, picked_is_home, back_is_used, local_is_apart, home_has_room, first_can_be_put, first_can_be_freed}
 use Rattle.pool_alloc.proofs.PoolParts.{shard_part, cell_part, queue_part, sound_queue, heaps_part, heaps_long}
 use Rattle.pool_alloc.proofs.PurgeRows.{purge_ready}
@@ -172,8 +175,8 @@ module _ {P H : Type 0} where
   can_flush maker (put kind) c f can found = (
     λ m is.
         let queued = first_of_all (IsQueuedOf maker c.settings) kind m f.local.slots is can.frame.queue.regions in
-        let named = (first_can_be_put maker c f kind m can.core can.fits (queued_cells maker c.settings m queued) is).named in
-        (can_place maker m.name c can.core named, cell_part maker m.name c can.core named),
+        let gone = first_can_be_put maker c f kind m can.core can.fits (queued_cells maker c.settings m queued) is in
+        (can_place maker m.name c can.core gone.named, cell_part maker m.name c can.core gone.named, queued_awaited maker m m.numbers c can.core gone queued),
     record { no_ranges = found.0; room = omega (arith, can.frame.freed_room.0, can.frame.freed_room.1, put_some kind f.local.slots f.freed.items found.1) },
   )
   can_flush maker free c f can found =
@@ -237,7 +240,8 @@ module _ {P H : Type 0} where
   can_at maker (CountObject (Stack lease)) c f can counts = counts.stacks
   can_at maker (PutBack at held) c f can counts =
       let region = can.frame.shape.2 in
-      (can_place maker at.name c can.core region.named, cell_part maker at.name c can.core region.named, clean_held maker c.settings at.name.kind at.name.slot (cell_of held) region.named.cells region.holds)
+      let gone = phase_gone maker (PutBack at held) at.name c f can.core can.fits at.numbers region.named.cells (omega (arith, unit_once at.name at.numbers)) in
+      (can_place maker at.name c can.core region.named, cell_part maker at.name c can.core region.named, clean_held maker c.settings at.name.kind at.name.slot (cell_of held) region.named.cells region.holds, region_awaited maker at.name at.numbers (cell_of held) c can.core gone region)
   can_at maker (FreeOne name) c f can counts = (
     shard_part maker (home_of c.plan name).place c can.core (home_place c.plan (length c.parts) name can.core.plan can.frame.shape.2),
     record {
@@ -301,6 +305,7 @@ module _ {P H : Type 0} where
           apart = local_is_apart maker i c (in_phase Merge f) can.core can.fits below;
           range_room = can.frame.queue.range_room ∙ sym shared.range_room;
           slot_room = can.frame.queue.slot_room ∙ sym shared.slot_room;
+          known = can.frame.shape.5;
         },
       )
   can_at maker Flush c f can counts = can_flush maker (flush_step f.local f.freed.items) c f can (finds f.local f.freed.items)

@@ -1,6 +1,6 @@
 -- What the code of a step of a purge needs, and of a release.
 use Rattle.std.proofs.Common.{◌≡◌, ℕ, ◌+◌, ◌*◌, ◌^◌, ◌<◌, ◌≤◌, Bool, true, false, length, refl, sym, subst, ap, ◌∙◌, arith, nat_lt}
-use Rattle.pool_alloc.proofs.Imports.{rounded_same, of_kind, AllByRecursion, ltb-true, and_parts, All-get_or, count, rounded_up, MakerTold, Slot, SlotIdentity, IsClean, IsRangeOf, SlotKind, memory_kind, table_kind, stack_kind, heap_kind, ShardState, Cell, IsCleanOnceUsed, is_taken, unmapped, unknown, previously_used, taken, cell_of, home_of, allocators_of, IsPlacedAllocator, each_weaker, ImageSlot, Unmapped, Unknown, PreviouslyUsed, Taken, Allocator, Plan, SlotName}
+use Rattle.pool_alloc.proofs.Imports.{RegionNumbers, rounded_same, of_kind, AllByRecursion, ltb-true, and_parts, All-get_or, count, rounded_up, MakerTold, Slot, SlotIdentity, IsClean, IsRangeOf, SlotKind, memory_kind, table_kind, stack_kind, heap_kind, ShardState, Cell, IsCleanOnceUsed, is_taken, unmapped, unknown, previously_used, taken, cell_of, home_of, allocators_of, IsPlacedAllocator, each_weaker, ImageSlot, Unmapped, Unknown, PreviouslyUsed, Taken, Allocator, Plan, SlotName}
 use Rattle.pool_alloc.specs.CanStep.{CanPlace, CanTakeOf, CanPutOf, CanFreeOf, CanForget, CanDecommit, CanDrain, CanPurge, CanRelease}
 use Rattle.pool_alloc.specs.Freeing.{HasHome}
 use Rattle.pool_alloc.specs.Places.{right_to, region_of, phase_count}
@@ -21,7 +21,9 @@ use Rattle.pool_alloc.specs.declared.purge.PurgeStep.TheVariants as purging_step
 use Rattle.pool_alloc.specs.declared.release.ReleaseCursor.{ReleaseCursor}
 use Rattle.pool_alloc.specs.declared.release.ReleaseStep.{ReleaseStep}
 use Rattle.pool_alloc.specs.declared.release.ReleaseStep.TheVariants as releasing_step
-use Rattle.pool_alloc.proofs.PhaseSlots.{phase_out, phase_home}
+use Rattle.pool_alloc.proofs.OwnRegions.{region_awaited}
+use Rattle.pool_alloc.proofs.Held.{HasGone, unit_once}
+use Rattle.pool_alloc.proofs.PhaseSlots.{phase_out, phase_home, phase_gone}
 use Rattle.pool_alloc.proofs.PlanPlaces.{IsShardPlace, cell_inside, home_place, has_home, stripe_is, stripe_role}
 use Rattle.pool_alloc.proofs.PoolParts.{cell_part, planned_shard, sound_shard, shard_part}
 use Rattle.pool_alloc.proofs.PurgeBounds.{picking_of}
@@ -88,8 +90,8 @@ module _ {P H : Type 0} (maker : MakerTold) where
   can_take_of : (name : SlotName) (c : PoolCore P H) → IsCore maker c → IsSlotName c.plan name → is_taken (cell_named name c).holds ≡ false → CanTakeOf name c
   can_take_of name c core named there = (can_place_of name c core named, cell_part maker name c core named, there)
 
-  can_put_of : (name : SlotName) (held : ImageSlot P) (c : PoolCore P H) → IsCore maker c → HasRegion maker c.settings c.plan name (cell_of held) → name.kind ≡ memory_kind → CanPutOf name held c
-  can_put_of name held c core has kind = (can_place_of name c core has.named, cell_part maker name c core has.named, clean_by maker c.settings name.kind name.slot held kind has.holds)
+  can_put_of : (name : SlotName) (n : RegionNumbers) (held : ImageSlot P) (c : PoolCore P H) → IsCore maker c → HasRegion maker c.settings c.plan name (cell_of held) → HasGone c name n → name.kind ≡ memory_kind → CanPutOf name held c
+  can_put_of name n held c core has gone kind = (can_place_of name c core has.named, cell_part maker name c core has.named, clean_by maker c.settings name.kind name.slot held kind has.holds, region_awaited maker name n (cell_of held) c core gone has)
 
   pub can_free_of : (name : SlotName) (phase : Phase P H) (c : PoolCore P H) (f : Frame P H) → Can maker phase c f → name.slot < of_kind name.kind c.plan.totals → 1 ≤ phase_count (right_to name) phase → CanFreeOf name c
   can_free_of name phase c f can inside some = (
@@ -116,7 +118,7 @@ module _ {P H : Type 0} (maker : MakerTold) where
   can_purge p (purging_step.TakeRegion name) c f can =
       can_take_of name c can.core can.frame.shape.1.1 (phase_home maker (Purge p (purging_step.TakeRegion name)) name c f can.core can.fits can.frame.shape.1.1.cells (omega (arith, slot_once name)) (slot_regions name name))
   can_purge p (purging_step.Forget at held) c f can = let has = can.frame.shape.1.1 in (can_forget maker c.settings at.name held can.frame.shape.1.2 has.holds, has.there)
-  can_purge p (purging_step.PutRegion at held) c f can = can_put_of at.name held c can.core can.frame.shape.1.1 can.frame.shape.1.2
+  can_purge p (purging_step.PutRegion at held) c f can = can_put_of at.name at.numbers held c can.core can.frame.shape.1.1 (phase_gone maker (Purge p (purging_step.PutRegion at held)) at.name c f can.core can.fits at.numbers can.frame.shape.1.1.named.cells (omega (arith, unit_once at.name at.numbers))) can.frame.shape.1.2
   can_purge p (purging_step.Free name) c f can =
       let at : IsPurging c.settings c.plan p = can.frame.shape.1.0 in (
         record { stripe = at.stripe; few = can.core.plan.few; memory = at.memory; turn = at.turn },
@@ -151,7 +153,7 @@ module _ {P H : Type 0} (maker : MakerTold) where
       (can_drain maker c.settings at.name held can.core.page can.core.settings (drain_kind r k at has.releasing has.place has.named) has.region.holds, has.region.there)
   can_release (releasing_step.PutRegion r k at held) c f can =
       let has = can.frame.shape.1 in
-      (record { stripe = has.releasing.stripe; few = can.core.plan.few }, has.place, can_put_of at.name held c can.core has.region (drain_kind r k at has.releasing has.place has.named))
+      (record { stripe = has.releasing.stripe; few = can.core.plan.few }, has.place, can_put_of at.name at.numbers held c can.core has.region (phase_gone maker (Release (releasing_step.PutRegion r k at held)) at.name c f can.core can.fits at.numbers has.region.named.cells (omega (arith, unit_once at.name at.numbers))) (drain_kind r k at has.releasing has.place has.named))
   can_release (releasing_step.Free r x) c f can =
       let at : IsReleasing c.plan r 0 = can.frame.shape.1.0 in
       let of : IsFreedOf c.plan x = can.frame.shape.1.1 in

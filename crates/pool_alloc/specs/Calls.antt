@@ -6,7 +6,7 @@ use Rattle.pool_alloc.specs.HeapLeases.{LeasedHeap, heap_numbers, IsHeapLease}
 use Rattle.pool_alloc.specs.Leases.{Lease}
 use Rattle.pool_alloc.specs.Steps.{IsForInstance, memories_wanted, images_wanted, tables_wanted, plain_decl}
 use Rattle.pool_alloc.specs.Turns.{returned_next}
-use Rattle.pool_alloc.specs.Sound.{IsLeaseOf, AreLeasesOf, AreImagesOf, AreBegun, IsNew}
+use Rattle.pool_alloc.specs.Sound.{queue_room, IsLeaseOf, AreLeasesOf, AreImagesOf, AreBegun, IsNew}
 use Rattle.pool_alloc.specs.Modules.{HasImages}
 use Rattle.pool_alloc.specs.declared.pool_core.Settings.{Settings}
 use Rattle.pool_alloc.specs.declared.frame.Frame.{Frame}
@@ -37,9 +37,9 @@ pub record IsHeapOf {H : Type 0} (maker : MakerTold) (s : Settings) (plan : Plan
   pub asked_for : asked ≡ heap_asked ty
   pub begins : IsNew s.max_memory_size None memory.memory (plain_decl ty)
 
--- the lists of a frame as they are made, with room for twice a batch
+-- the lists of a frame as they are made
 abbrev pub lists_made : {P : Type 0} → Settings → FrameLists P
-lists_made s = record { local = empty_queue (2 * s.batch) (2 * s.batch); freed = record { items = []; room = 2 * s.batch } }
+lists_made s = record { local = empty_queue (queue_room s.batch) (queue_room s.batch); freed = record { items = []; room = queue_room s.batch } }
 
 module _ {P H : Type 0} where
   -- a frame with these lists, for a home, without a call

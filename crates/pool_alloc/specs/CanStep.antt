@@ -1,13 +1,13 @@
 -- Just what the code of each step needs of the pool's parts and of the frame.
 use Rattle.std.specs.Prelude.{◌≡◌, ℕ, ◌+◌, ◌^◌, ◌<◌, ◌≤◌, ◌%◌, List, [], length, slice_get, All, false, Option, None, IsSome, IfSome, true, Some}
-use Rattle.pool_alloc.specs.Imports.{count, rounded_up, Told, minimum_byte_size, refused_limits, MemoryDecl, Image, Slot, IsClean, IsFresh, FitsInto, IsRangeOf, ShardState, use_of, memory_kind, stack_kind, slot_of, CanHold, is_taken, unmapped, IsCleanOnceUsed, stripe_colour, CellState, plain_slot, Queue, Queued, first_of_kind, HasOwners, IsSpareOf, Plan, cell_of, cell_place, home_of, IsPlacedAllocator, SlotName, TableType, room_of, IsRoom, type_maximum, Allocator, SlotKind, CanMerge, IsAt, IsShardPart, IsCellPart, IsHere, IsOut, IsPlain, ImageSlot, Unmapped, Unknown, PreviouslyUsed, Taken}
+use Rattle.pool_alloc.specs.Imports.{count, rounded_up, Told, minimum_byte_size, refused_limits, MemoryDecl, Image, Slot, IsClean, IsFresh, FitsInto, IsRangeOf, ShardState, use_of, memory_kind, stack_kind, slot_of, CanHold, is_taken, unmapped, IsCleanOnceUsed, stripe_colour, CellState, IsAwaited, plain_slot, Queue, Queued, first_of_kind, HasOwners, IsSpareOf, Plan, cell_of, cell_place, home_of, IsPlacedAllocator, SlotName, TableType, room_of, IsRoom, type_maximum, Allocator, SlotKind, CanMerge, IsAt, IsShardPart, IsCellPart, IsHere, IsOut, IsPlain, ImageSlot, Unmapped, Unknown, PreviouslyUsed, Taken}
 use Rattle.pool_alloc.specs.Freeing.{AreUsedInTurn, HasHome, CanBeFreed}
 use Rattle.pool_alloc.specs.TableLeases.{LeasedTable, table_slot}
 use Rattle.pool_alloc.specs.TableSteps.{IsInRegion, CanQueue, table_bytes}
 use Rattle.pool_alloc.specs.Modules.{HasImages, IfAllocated, IfTable}
 use Rattle.pool_alloc.specs.Reserved.{Reserved}
 use Rattle.pool_alloc.specs.Rows.{FlushStep, run, zero, put, free, flush_step}
-use Rattle.pool_alloc.specs.Steps.{IsModule, HasMemories, IsHeapAsked, IsHeapsPart, heaps_at, memories_wanted, tables_wanted, image_wanted, IsQueuePart, allocator_for, queues_searched, shard_at, cell_named, queue_at, freed_of, first_shard, shard_tried, queue_tried}
+use Rattle.pool_alloc.specs.Steps.{cell_returned, IsModule, HasMemories, IsHeapAsked, IsHeapsPart, heaps_at, memories_wanted, tables_wanted, image_wanted, IsQueuePart, allocator_for, queues_searched, shard_at, cell_named, queue_at, freed_of, first_shard, shard_tried, queue_tried}
 use Rattle.pool_alloc.specs.declared.pool_core.PoolCore.{PoolCore}
 use Rattle.pool_alloc.specs.declared.pool_core.Settings.{Settings}
 use Rattle.pool_alloc.specs.declared.frame.Frame.{Frame}
@@ -161,16 +161,16 @@ module _ {P H : Type 0} where
   abbrev pub CanFlush : FlushStep → PoolCore P H → Frame P H → Type 0
   CanFlush run c f = (0 < length f.local.ranges) × HasOwners f.local
   CanFlush (zero kind) c f = f.local.ranges ≡ []
-  CanFlush (put kind) c f = ((m : Queued) → first_of_kind kind f.local.slots ≡ Some m → CanPlace c.plan m.name × IsAt IsCellPart (cell_place c.plan m.name) c.parts) × CanPutNext f.local f.freed
+  CanFlush (put kind) c f = ((m : Queued) → first_of_kind kind f.local.slots ≡ Some m → CanPlace c.plan m.name × IsAt IsCellPart (cell_place c.plan m.name) c.parts × IsAwaited (cell_returned m) (cell_named m.name c)) × CanPutNext f.local f.freed
   CanFlush free c f = IsAt IsShardPart (first_shard c.plan f.freed.items) c.parts × CanFree c.plan f.freed.items (shard_at (first_shard c.plan f.freed.items) c)
 
   -- A slot's cell is there, and a region lies in it.
   abbrev pub CanTakeOf : SlotName → PoolCore P H → Type 0
   CanTakeOf name c = CanPlace c.plan name × IsAt IsCellPart (cell_place c.plan name) c.parts × (is_taken (cell_named name c).holds ≡ false)
 
-  -- This can be put into the cell of a slot.
+  -- This can be put into the cell of a slot: it is the slot's region, and the cell is empty.
   abbrev pub CanPutOf : SlotName → ImageSlot P → PoolCore P H → Type 0
-  CanPutOf name held c = CanPlace c.plan name × IsAt IsCellPart (cell_place c.plan name) c.parts × IsCleanOnceUsed (cell_of held)
+  CanPutOf name held c = CanPlace c.plan name × IsAt IsCellPart (cell_place c.plan name) c.parts × IsCleanOnceUsed (cell_of held) × IsAwaited (cell_of held) (cell_named name c)
 
   -- The slot can be freed in the shard where it is at home.
   abbrev pub CanFreeOf : SlotName → PoolCore P H → Type 0
@@ -253,7 +253,7 @@ module _ {P H : Type 0} where
   CanStepAt (CountObject (Memory lease)) c f = (c.counters.memories + 1 < 2 ^ 64) × (length f.objects.memories.items < f.objects.memories.room)
   CanStepAt (CountObject (Table lease)) c f = (c.counters.tables + 1 < 2 ^ 64) × (length f.objects.tables.items < f.objects.tables.room)
   CanStepAt (CountObject (Stack lease)) c f = c.counters.stacks + 1 < 2 ^ 64
-  CanStepAt (PutBack at held) c f = CanPlace c.plan at.name × IsAt IsCellPart (cell_place c.plan at.name) c.parts × IsCleanOnceUsed (cell_of held)
+  CanStepAt (PutBack at held) c f = CanPutOf at.name held c
   CanStepAt (TakeHeap name) c f = CanTakeHeapOf name.slot c
   CanStepAt (MakeHeap at) c f = Unit {0}
   CanStepAt (CountHeap lease) c f = (c.counters.gc_heaps + 1 < 2 ^ 64) × (0 < length f.objects.memories.items)

@@ -46,10 +46,10 @@ pub use Rattle.pool_slots.specs.PlainSlots.{IsPlain, IsUnusedFrom, StackState, a
 pub use Rattle.pool_slots.specs.Plans.{IsPlacedAllocator, IsPlanned, Role, allocators_of, cell_place, cell_role, has_number, have_number, heaps_role, home_of, queue_role, queue_tried as nth_queue_tried, queue_tried, queues_for, role_at, shard_role, shard_tried as nth_shard_tried}
 pub use Rattle.pool_slots.specs.PlansMade.{places_planned}
 pub use Rattle.pool_slots.specs.QueueMerges.{CanMerge}
-pub use Rattle.pool_slots.specs.RegionCells.{CellState, cell_emptied, cell_filled, cell_numbers, region_of as unit_region, right_to as unit_right}
+pub use Rattle.pool_slots.specs.RegionCells.{CellState, IsAwaited, cell_emptied, cell_filled, cell_numbers, region_of as unit_region, right_to as unit_right}
 pub use Rattle.pool_slots.specs.SlotNames.{of_kind}
 pub use Rattle.pool_slots.specs.SlotOrders.{AreInOrder, run_of}
-pub use Rattle.pool_slots.specs.SlotQueues.{HasOwners, IsFaulted, IsQueue, IsSpareOf, LeavesClean, Queue, Queued, after_append, after_run, after_take, calls_held, drained, empty_queue, first_of_kind, first_slot, first_zeroed, holds, is_of, is_to_zero, others_of_kind, owner, plain_slot, same_kind, taken_into, with_ranges, with_slot}
+pub use Rattle.pool_slots.specs.SlotQueues.{HasOwners, IsFaulted, IsGivenBack, IsQueue, IsSpareOf, LeavesClean, Queue, Queued, after_append, after_run, after_take, calls_held, drained, empty_queue, first_of_kind, first_slot, first_zeroed, holds, is_of, is_to_zero, others_of_kind, owner, plain_slot, same_kind, taken_into, with_ranges, with_slot}
 pub use Rattle.pool_slots.specs.StripedPlans.{IsStripedPlanOf, divided}
 pub use Rattle.pool_slots.specs.TableSizes.{data_size}
 pub use Rattle.pool_slots.specs.declared.cells.ImageSlot.{ImageSlot}

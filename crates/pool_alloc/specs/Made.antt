@@ -3,6 +3,7 @@ use Rattle.std.specs.Prelude.{◌≡◌, ◌⊎◌, ℕ, ◌+◌, ◌*◌, ◌<�
 use Rattle.pool_alloc.specs.Imports.{count, rounded_up, MakerTold, Planned, slab_stripes, Told, Rose, BadConfig, PoolingAllocationConfig, Tunables, LinearMemory, Offered, AreMadeTo, lists_some_making, fails_some_slot, SomeGivenUp, places_planned, divided, IsStripedPlanOf, PartSettings, OfKinds, StripedPlanSettings, PoolNewError}
 use Rattle.pool_slots.specs.declared.errors.PoolNewError.TheVariants as refused
 use Rattle.pool_alloc.specs.Calls.{lists_made}
+use Rattle.pool_alloc.specs.Sound.{queue_room}
 use Rattle.pool_alloc.specs.declared.pool_core.PoolCore.{PoolCore}
 use Rattle.pool_alloc.specs.declared.pool_core.Settings.{Settings}
 
@@ -48,7 +49,7 @@ plan_settings page config tunables offered shards = record {
 }
 
 -- With what the parts are made: the region of a memory has room for the largest, that of a table is its slot, that of a stack is its
--- guard page and its bytes, and a queue has room for twice a batch.
+-- guard page and its bytes, and a queue has room by the batch.
 abbrev pub part_settings : ℕ → PoolingAllocationConfig → Offered → PartSettings
 part_settings page config offered = record {
   behaviour = offered.behaviour;
@@ -56,7 +57,7 @@ part_settings page config offered = record {
   table_len = count page (rounded_up page (8 * config.limits.table_elements));
   stack_len = count page (page + rounded_up page config.stack_size);
   max_unused_warm_slots = config.max_unused_warm_slots;
-  queue_room = 2 * config.decommit_batch_size;
+  queue_room = queue_room config.decommit_batch_size;
 }
 
 -- Each place has the part that the plan has there, as it is made: slots are cold and have their regions in their cells,

@@ -1,6 +1,6 @@
 -- What holds of the pool's parts, and of a party's frame, between steps.
 use Rattle.std.specs.Prelude.{◌≡◌, ℕ, ◌+◌, ◌*◌, ◌%◌, ◌^◌, ◌<◌, ◌≤◌, List, [], length, slice_get, slice_index_or, All, Bool, false, true, Option, None, IsSome, IfSome, ◌⊎◌, ◌-◌, drop}
-use Rattle.pool_alloc.specs.Imports.{AllByRecursion, IsPageSize, count, rounded_up, MakerTold, minimum_byte_size, refused_limits, MemoryDecl, Image, Slot, IsClean, IsBegun, FitsInto, memory_kind, table_kind, stack_kind, heap_kind, MemoryState, image_slot_of, maximum_asked, CanHold, static_capacity, Cell, IsCell, IsSlotOf, is_taken, coloured_region, stripe_colour, cell_of, of_kind, RegionNumbers, SlotName, SlotKind, CellState, IsShardOf, part_at, Role, shard_role, cell_role, queue_role, heaps_role, role_at, IsPlacedAllocator, IsPlanned, Allocator, Plan, PoolPart, Queue, Queued, HasOwners, IsQueue, owner, Told, TableType, QueuedRange}
+use Rattle.pool_alloc.specs.Imports.{AllByRecursion, IsPageSize, count, rounded_up, MakerTold, minimum_byte_size, refused_limits, MemoryDecl, Image, Slot, IsClean, IsBegun, FitsInto, memory_kind, table_kind, stack_kind, heap_kind, MemoryState, image_slot_of, maximum_asked, CanHold, static_capacity, Cell, IsCell, IsSlotOf, is_taken, coloured_region, stripe_colour, cell_of, of_kind, RegionNumbers, SlotName, SlotKind, CellState, IsShardOf, part_at, Role, shard_role, cell_role, queue_role, heaps_role, role_at, IsPlacedAllocator, IsPlanned, Allocator, Plan, PoolPart, Queue, Queued, HasOwners, IsGivenBack, IsQueue, owner, Told, TableType, QueuedRange}
 use Rattle.pool_alloc.specs.Objects.{objects_in, objects_wanted}
 use Rattle.pool_alloc.specs.declared.frame.Object.{Object}
 use Rattle.pool_alloc.specs.declared.frame.Object.TheVariants.{Memory, Table, Stack}
@@ -142,15 +142,21 @@ pub record IsQueuedOf (maker : MakerTold) (s : Settings) (m : Queued) : Type 0 w
 abbrev pub MayBeRanged : Settings → QueuedRange → Type 0
 MayBeRanged s r = (owner r).kind ≡ stack_kind → s.stack_zeroing ≡ true
 
--- A shared queue has fewer ranges than a batch, no more slots than ranges, and room for twice the batch. The ranges of each
--- slot lie together.
+-- How many ranges a queue has room for, and how many slots: those of a shared queue and of the slot that is merged into
+-- it, each fewer than a batch, and whatever the batch the eight ranges that one reset may leave.
+abbrev pub queue_room : ℕ → ℕ
+queue_room batch = 2 * batch + 6
+
+-- A shared queue has fewer ranges than a batch, and no more slots than ranges. The ranges of each slot lie together, and
+-- each slot is known but a stack that isn't zeroed.
 pub record IsShared (maker : MakerTold) (s : Settings) (q : Queue) : Type 0 where
   pub owners : HasOwners q
   pub short : length q.ranges + 1 ≤ s.batch
   pub slots : length q.slots ≤ length q.ranges
-  pub range_room : q.range_room ≡ 2 * s.batch
-  pub slot_room : q.slot_room ≡ 2 * s.batch
+  pub range_room : q.range_room ≡ queue_room s.batch
+  pub slot_room : q.slot_room ≡ queue_room s.batch
   pub regions : All (IsQueuedOf maker s) q.slots
+  pub known : All IsGivenBack q.slots
   pub ranged : All (MayBeRanged s) q.ranges
   pub queue : IsQueue q
   pub grouped : IsGrouped q
@@ -206,8 +212,8 @@ AreOfOneKind freed = (kind : SlotKind) × All (λ x. x.name.kind ≡ kind) freed
 -- the slots that a party has on their way back
 pub record IsLocal (maker : MakerTold) (s : Settings) (q : Queue) : Type 0 where
   pub owners : HasOwners q
-  pub range_room : q.range_room ≡ 2 * s.batch
-  pub slot_room : q.slot_room ≡ 2 * s.batch
+  pub range_room : q.range_room ≡ queue_room s.batch
+  pub slot_room : q.slot_room ≡ queue_room s.batch
   pub regions : All (IsQueuedOf maker s) q.slots
   pub ranged : All (MayBeRanged s) q.ranges
   pub queue : IsQueue q
@@ -429,7 +435,7 @@ module _ {P H : Type 0} where
 
   -- the freed slots and those still queued have room
   abbrev pub HasFreedRoom : Settings → Frame P H → Type 0
-  HasFreedRoom s f = (f.freed.room ≡ 2 * s.batch) × (length f.freed.items + length f.local.slots ≤ 2 * s.batch)
+  HasFreedRoom s f = (f.freed.room ≡ queue_room s.batch) × (length f.freed.items + length f.local.slots ≤ queue_room s.batch)
 
   -- The frame's call is a request at its beginning.
   abbrev pub IsRequested : Frame P H → Type 0
@@ -476,7 +482,7 @@ module _ {P H : Type 0} where
   IsShapedAt maker s plan (PutHeap lease memory) f = HasNoneWaiting f × IsReturning f × IsHeapLease plan lease × IsLeaseOf maker s plan memory
   IsShapedAt maker s plan (FreeHeap name memory) f = HasNoneWaiting f × IsReturning f × IsHeapName plan name × IsLeaseOf maker s plan memory
   IsShapedAt maker s plan (Reset object) f = HasNoneWaiting f × IsReturning f × IsObjectOf maker s plan object
-  IsShapedAt maker s plan Merge f = IsReturning f × (f.freed.items ≡ []) × (length f.local.slots ≡ 1) × (0 < length f.local.ranges) × (length f.local.ranges + 1 ≤ s.batch)
+  IsShapedAt maker s plan Merge f = IsReturning f × (f.freed.items ≡ []) × (length f.local.slots ≡ 1) × (0 < length f.local.ranges) × (length f.local.ranges + 1 ≤ s.batch) × All IsGivenBack f.local.slots
   IsShapedAt maker s plan Flush f = IsAiming s plan f × (is_flushed f ≡ false)
   IsShapedAt maker s plan UncountInstance f = IsAtRest f × IsReturning f × IsForInstance f.asked
   IsShapedAt maker s plan (ValidateComponent info) f = IsAtRest f

@@ -3,6 +3,7 @@ ghost use Rattle.pool_index.specs.Shard.{use_of};
 ghost use Rattle.pool_slots.specs.Cells.{is_taken, unmapped, IsCleanOnceUsed};
 ghost use Rattle.pool_slots.specs.CellOf.{cell_of};
 ghost use Rattle.pool_slots.specs.Plans.{cell_place, home_of};
+ghost use Rattle.pool_slots.specs.RegionCells.{IsAwaited};
 ghost use Rattle.pool_slots.specs.SlotQueues.{IsSpareOf};
 ghost use Rattle.pool_slots.specs.Parts.{IsAt, IsShardPart, IsCellPart};
 ghost use Rattle.pool_alloc.specs.CanStep.{CanPlace, CanTryShard, CanTryQueue, CanTakeRegion, CanFreeOne, CanStepAt, HasAllocators};
@@ -170,6 +171,7 @@ impl<P: Pages, H: GcHeap> PoolCore<P, H> {
         requires place { CanPlace self.old.plan at.name }
         requires cell { IsAt IsCellPart (cell_place self.old.plan at.name) self.old.parts }
         requires clean { IsCleanOnceUsed (cell_of held) }
+        requires own { IsAwaited (cell_of held) (cell_named at.name self.old) }
         ensures { ◌≡◌ {A = After P H} (record { core = self.new; frame = frame.new; outcome = result }) (stepped (in_cell at.name self.old (put_back_on at.name (cell_of held) (cell_named at.name self.old) frame.old))) }
     {
         let place = self.plan.cell_place(at.name);

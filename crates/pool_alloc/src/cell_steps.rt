@@ -1,7 +1,7 @@
 ghost use Rattle.std.specs.Prelude.{◌≡◌, ◌<◌, length, true, false, List, if◌then◌else◌};
 ghost use Rattle.pool_images.specs.Slots.{IsClean};
 ghost use Rattle.pool_slots.specs.Cells.{is_taken, unmapped, unknown, previously_used, IsCleanOnceUsed};
-ghost use Rattle.pool_slots.specs.RegionCells.{CellState};
+ghost use Rattle.pool_slots.specs.RegionCells.{CellState, IsAwaited};
 ghost use Rattle.pool_slots.specs.CellOf.{cell_of};
 ghost use Rattle.pool_slots.specs.SlotQueues.{Queued, IsSettled};
 ghost use Rattle.pool_alloc.specs.CanStep.{CanBeImage, CanUnmap};
@@ -85,7 +85,8 @@ pub(crate) fn put_back<P: Pages, H: GcHeap>(
     name: SlotName,
     held: ImageSlot<P>,
 ) -> Option<Outcome<P, H>>
-    requires { IsCleanOnceUsed (cell_of held) }
+    requires clean { IsCleanOnceUsed (cell_of held) }
+    requires own { IsAwaited (cell_of held) cell.old }
     ensures { ◌≡◌ {A = PartAfter CellState P H} (record { part = cell.new; frame = frame.new; outcome = result }) (part_after (put_back_on name (cell_of held) cell.old frame.old)) }
 {
     cell.put(held);
@@ -100,6 +101,7 @@ pub(crate) fn put_region<P: Pages, H: GcHeap>(
     item: QueuedSlot<P>,
 ) -> Option<Outcome<P, H>>
     requires settled { IsSettled item }
+    requires own { IsAwaited (cell_returned item) cell.old }
     requires room { length frame.old.freed.items < frame.old.freed.room }
     ensures { ◌≡◌ {A = PartAfter CellState P H} (record { part = cell.new; frame = frame.new; outcome = result }) (part_after (region_put item cell.old frame.old)) }
 {

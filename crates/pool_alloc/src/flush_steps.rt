@@ -1,4 +1,5 @@
 ghost use Rattle.std.specs.Prelude.{◌≡◌, ◌<◌, ◌≤◌, ◌^◌, [], ◌∷◌, length, List, Bool};
+ghost use Rattle.pool_slots.specs.RegionCells.{IsAwaited};
 ghost use Rattle.pool_slots.specs.SlotQueues.{Queue, HasOwners, IsSettled};
 ghost use Rattle.pool_alloc.specs.Answers.{FlushTold, FlushPlanned, Decommits, FollowsRun};
 ghost use Rattle.pool_alloc.specs.CanStep.{CanPlace, CanTryQueue, CanFree, CanFlush};
@@ -6,7 +7,7 @@ ghost use Rattle.pool_alloc.specs.Rows.{SettlesTo, flush_kinds, kind_queued, kin
 ghost use Rattle.pool_slots.specs.Plans.{cell_place};
 ghost use Rattle.pool_slots.specs.QueueMerges.{CanMerge};
 ghost use Rattle.pool_slots.specs.Parts.{IsAt, IsShardPart, IsCellPart};
-ghost use Rattle.pool_alloc.specs.Steps.{StepGiven, IsQueuePart, shard_at, cell_named, queue_at, first_shard, queue_tried};
+ghost use Rattle.pool_alloc.specs.Steps.{StepGiven, cell_returned, IsQueuePart, shard_at, cell_named, queue_at, first_shard, queue_tried};
 ghost use Rattle.pool_alloc.specs.Turns.{After, stepped};
 
 use crate::frame::{Frame, FreedSlot, Outcome};
@@ -100,6 +101,7 @@ impl<P: Pages, H: GcHeap> PoolCore<P, H> {
         requires place { CanPlace self.old.plan item.name }
         requires cell { IsAt IsCellPart (cell_place self.old.plan item.name) self.old.parts }
         requires settled { IsSettled item }
+        requires own { IsAwaited (cell_returned item) (cell_named item.name self.old) }
         requires room { length frame.old.freed.items < frame.old.freed.room }
         ensures { ◌≡◌ {A = After P H} (record { core = self.new; frame = frame.new; outcome = result }) (stepped (in_cell item.name self.old (region_put item (cell_named item.name self.old) frame.old))) }
     {

@@ -6,7 +6,7 @@ ghost use Rattle.pool_slots.specs.Colourings.{RaisesUnlessGivenUp, RaisesBehindU
 ghost use Rattle.pool_slots.specs.Makings.{IsListedPoolFault};
 ghost use Rattle.pool_alloc.specs.Calls.{frame_made, frame_over, lists_made};
 ghost use Rattle.pool_alloc.specs.Made.{settings_of, slots_of, part_settings, lists_making, fails_slots, GivesUpRegion, IsMadeCore, IsRefusedFor, CountsFault, NeedsFault, NeedsListed};
-ghost use Rattle.pool_alloc.specs.Sound.{IsCore, IsFrame};
+ghost use Rattle.pool_alloc.specs.Sound.{queue_room, IsCore, IsFrame};
 ghost use Rattle.pool_alloc.specs.Whole.{IsUntouched};
 
 use crate::frame::{Asked, Ending, Frame, FrameLists, Phase};
@@ -127,12 +127,12 @@ impl<P: Pages, H: GcHeap> PoolCore<P, H> {
     }
 }
 
-// The lists of a frame, with room for twice a batch.
+// The lists of a frame.
 fn frame_lists<P: Pages>(alloc: Global, settings: &Settings) -> Result<FrameLists<P>, AllocError>
     requires { settings.now.batch ≤ 4096 }
     ensures { IfOk result (λ l. l ≡ lists_made settings.now) }
 {
-    let room = 2 * settings.batch;
+    let room = queue_room(settings.batch);
     let local = DecommitQueue::new(alloc, room, room)?;
     let freed = ReservedList::with_room(alloc, room)?;
     Ok(FrameLists { local, freed })
@@ -270,8 +270,17 @@ fn part_settings(
         table_len: HostAlignedByteCount::rounded_up_unchecked(page, 8 * elements),
         stack_len: stack_len(page, config.stack_size),
         max_unused_warm_slots: config.max_unused_warm_slots,
-        queue_room: 2 * config.decommit_batch_size,
+        queue_room: queue_room(config.decommit_batch_size),
     }
+}
+
+// How many ranges a queue has room for, and how many slots: those of a shared queue and of the slot that is merged into
+// it, each fewer than a batch, and whatever the batch the eight ranges that one reset may leave.
+fn queue_room(batch: usize) -> usize
+    requires { batch ≤ 4096 }
+    ensures { result ≡ queue_room batch }
+{
+    2 * batch + 6
 }
 
 // The length of a stack's region: its guard page and its usable bytes.

@@ -5,7 +5,7 @@ ghost use Rattle.pool_slots.specs.Cells.{IsCleanOnceUsed};
 ghost use Rattle.pool_slots.specs.CellOf.{cell_of};
 ghost use Rattle.pool_slots.specs.HeapLists.{IsHere, IsOut, heap_in, heap_taken, heap_returned};
 ghost use Rattle.pool_slots.specs.Parts.{IsShardPart, IsCellPart, cell_of_part};
-ghost use Rattle.pool_slots.specs.RegionCells.{cell_numbers, cell_emptied, cell_filled};
+ghost use Rattle.pool_slots.specs.RegionCells.{IsAwaited, cell_numbers, cell_emptied, cell_filled};
 ghost use Rattle.pool_alloc.specs.Purges.{image_in};
 ghost use Rattle.pool_alloc.specs.Releases.{taking};
 ghost use Rattle.pool_alloc.specs.Steps.{IsHeapsPart, shard_in, heaps_in, part_holding};
@@ -93,6 +93,7 @@ fn take_image<P: Pages>(cell: &mut RegionCell<P>) -> (ImageSlot<P>, RegionNumber
 pub(crate) fn put_image_in<P: Pages, H: GcHeap>(part: &mut PoolPart<P, H>, held: ImageSlot<P>)
     requires cell { IsCellPart part.old }
     requires clean { IsCleanOnceUsed (cell_of held) }
+    requires own { IsAwaited (cell_of held) (cell_of_part part.old) }
     ensures { part.new ≡ part_holding (cell_filled (cell_of held) (cell_of_part part.old)) part.old }
 {
     match part {

@@ -5,6 +5,7 @@ ghost use Rattle.pool_slots.specs.CellOf.{cell_of};
 ghost use Rattle.pool_slots.specs.Plans.{home_of};
 ghost use Rattle.pool_slots.specs.QueueMerges.{CanMerge};
 ghost use Rattle.pool_slots.specs.Parts.{IsShardPart, IsCellPart, cell_of_part};
+ghost use Rattle.pool_slots.specs.RegionCells.{IsAwaited};
 ghost use Rattle.pool_slots.specs.SlotQueues.{IsSpareOf, IsSettled, same_kind};
 ghost use Rattle.pool_slots.specs.declared.part.PoolPart.{PoolPart};
 ghost use Rattle.pool_alloc.specs.CanStep.{CanTryShard, CanUnmap, HasAllocators};
@@ -12,7 +13,7 @@ ghost use Rattle.pool_alloc.specs.Closing.{has_free};
 ghost use Rattle.pool_alloc.specs.Freeing.{AreUsedInTurn, HasHome, CanBeFreed};
 ghost use Rattle.pool_alloc.specs.Rows.{pick_on, free_one_on, free_on, take_region_on, put_back_on, region_put, take_queue_on, merge_on};
 ghost use Rattle.pool_alloc.specs.Sums.{warm_in, resident_in, part_calls};
-ghost use Rattle.pool_alloc.specs.Steps.{IsQueuePart, shard_in, queue_in, part_holding, freed_of, allocator_for};
+ghost use Rattle.pool_alloc.specs.Steps.{cell_returned, IsQueuePart, shard_in, queue_in, part_holding, freed_of, allocator_for};
 ghost use Rattle.pool_alloc.specs.Turns.{PartAfter, part_after, lifted};
 
 use crate::frame::{Frame, Outcome};
@@ -106,6 +107,7 @@ pub(crate) fn put_back<P: Pages, H: GcHeap>(
 ) -> Option<Outcome<P, H>>
     requires cell { IsCellPart part.old }
     requires clean { IsCleanOnceUsed (cell_of held) }
+    requires own { IsAwaited (cell_of held) (cell_of_part part.old) }
     ensures { ◌≡◌ {A = PartAfter (PoolPart P H) P H} (record { part = part.new; frame = frame.new; outcome = result }) (part_after (lifted (λ x. part_holding x part.old) (put_back_on name (cell_of held) (cell_of_part part.old) frame.old))) }
 {
     match part {
@@ -124,6 +126,7 @@ pub(crate) fn put_region<P: Pages, H: GcHeap>(
 ) -> Option<Outcome<P, H>>
     requires cell { IsCellPart part.old }
     requires settled { IsSettled item }
+    requires own { IsAwaited (cell_returned item) (cell_of_part part.old) }
     requires room { length frame.old.freed.items < frame.old.freed.room }
     ensures { ◌≡◌ {A = PartAfter (PoolPart P H) P H} (record { part = part.new; frame = frame.new; outcome = result }) (part_after (lifted (λ x. part_holding x part.old) (region_put item (cell_of_part part.old) frame.old))) }
 {

@@ -180,6 +180,7 @@ fn offset_of(page: PageSize, offset: u64) -> Option<Unsupported>
     }
 }
 
+/// The refusal of the first memory of which the minimum exceeds the maximum.
 #[tactic(auto, using(crate::proofs::Refusing::refused_here, crate::proofs::Refusing::refused_later, crate::proofs::Refusing::refused_nowhere))]
 pub fn limits_refused(decls: &[MemoryDecl]) -> Option<Unsupported>
     ensures { result ≡ first_refused (λ d. refused_limits d.ty.limits) decls.now }

@@ -25,9 +25,9 @@ pub mod SlotReturns
 pub mod SlotSteps
 pub mod SlotCoverings
 pub mod SlotPops
+pub mod Unzeroed
 pub mod PartUnits
 pub mod ListUnits
-pub mod ListCalls
 pub mod AwayOnce
 pub mod PlainSlots
 pub mod TableSizes

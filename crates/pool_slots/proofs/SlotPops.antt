@@ -25,7 +25,7 @@ distinct_others kind (m ∷ ms) d =
       | inr not ↦ rw not (unheld_others kind m.name ms d.0, distinct_others kind ms d.1)
     ]
 
-each_others : (P : Queued → Type 0) (kind : SlotKind) (ms : List Queued) → AllByRecursion P ms → AllByRecursion P (others_of_kind kind ms)
+pub each_others : (P : Queued → Type 0) (kind : SlotKind) (ms : List Queued) → AllByRecursion P ms → AllByRecursion P (others_of_kind kind ms)
 each_others P kind [] a = tt
 each_others P kind (m ∷ ms) a =
     elim (cases_Bool (same_kind kind m.name.kind)) [
@@ -33,7 +33,7 @@ each_others P kind (m ∷ ms) a =
       | inr not ↦ rw not (a.0, each_others P kind ms a.1)
     ]
 
-fewer_others : (kind : SlotKind) (ms : List Queued) → length (others_of_kind kind ms) ≤ length ms
+pub fewer_others : (kind : SlotKind) (ms : List Queued) → length (others_of_kind kind ms) ≤ length ms
 fewer_others kind [] = omega arith
 fewer_others kind (m ∷ ms) =
     let r = fewer_others kind ms in

@@ -1,15 +1,11 @@
 -- The units that the parts of a pool have given out and those that they keep, all together.
-use Rattle.std.specs.Prelude.{◌≡◌, ℕ, ◌+◌, ◌<◌, ◌≤◌, List, [], ◌∷◌, ◌++◌, length, Option, IsSome}
-use Rattle.pool_slots.specs.Imports.{one_if, total, same, times, UnitName, slot_unit, found_units, ShardState, IsShard, use_of, MemoryInModule, SlotId}
+use Rattle.std.specs.Prelude.{◌≡◌, ℕ, ◌+◌, ◌<◌, ◌≤◌, List, [], ◌∷◌, ◌++◌, length}
+use Rattle.pool_slots.specs.Imports.{one_if, total, same, UnitName, ShardState, IsShard}
 use Rattle.pool_hall.specs.declared.unit_name.SlotKind.TheVariants as of_slot
-use Rattle.pool_slots.specs.Cells.{Cell, taken}
-use Rattle.pool_slots.specs.HeapLists.{heap_unit}
-use Rattle.pool_slots.specs.SlotQueues.{Queue}
-use Rattle.pool_slots.specs.PartUnits.{part_away, part_kept, queue_kept}
-use Rattle.pool_slots.specs.Parts.{IsCellPart, CanMergeInto, CanTakeInto, IsAt, part_at, with_part, CanTakeHeap, CanPutHeap, memory_noted, heap_out, heap_back, picked_number, picked_from, freed_in, cell_of_part, held_in, numbers_in, region_taken, region_put, merged_into, local_after_merge, queue_taken, local_after_take}
+use Rattle.pool_slots.specs.PartUnits.{part_away, part_kept}
+use Rattle.pool_slots.specs.Parts.{part_at, with_part}
 use Rattle.pool_slots.specs.Plans.{Role, shard_role, cell_role, queue_role, heaps_role, role_at, number_at, slots_at, IsPlanned}
 use Rattle.pool_slots.specs.RegionCells.{region_of, right_to}
-use Rattle.pool_slots.specs.declared.allocation_index.MemoryAllocationIndex.{MemoryAllocationIndex}
 use Rattle.pool_slots.specs.declared.slot_name.SlotName.{SlotName}
 use Rattle.pool_slots.specs.declared.plan.Allocator.{Allocator}
 use Rattle.pool_slots.specs.declared.plan.Plan.{Plan}
@@ -78,51 +74,3 @@ KeptFollows P H = (w : UnitName → ℕ) (place : ℕ) (change : PoolPart P H �
 -- No slot is given out twice, and no region of a slot, whatever numbers they tell.
 abbrev pub AwayOnce : Type 0 → Type 0 → Type 0
 AwayOnce P H = (plan : Plan) (parts : List (PoolPart P H)) (name : SlotName) → StandAsPlanned plan parts → (total (is_right name) (all_away parts) ≤ 1) × (total (is_region name) (all_away parts) ≤ 1)
-
--- A pick gives out the right to the slot that it answers; all else that parts have given out or keep stays.
-abbrev pub PickCounts : Type 0 → Type 0 → Type 0
-PickCounts P H = (u : UnitName) (want : Option MemoryInModule) (place : ℕ) (parts : List (PoolPart P H)) (s : ShardState) → place < length parts → part_at place parts ≡ part.Shard s → IsShard s
-    → (times u (all_away (with_part place (picked_from want) parts)) ≡ times u (all_away parts) + times u (found_units s.kind (picked_number want (part_at place parts))))
-    × (times u (all_kept (with_part place (picked_from want) parts)) ≡ times u (all_kept parts))
-
--- A free takes back the right to the slot that is freed; all else that parts have given out or keep stays.
-abbrev pub FreeCounts : Type 0 → Type 0 → Type 0
-FreeCounts P H = (u : UnitName) (slot : SlotId) (bytes place : ℕ) (parts : List (PoolPart P H)) (s : ShardState) → place < length parts → part_at place parts ≡ part.Shard s → IsSome (use_of s slot.0)
-    → (times u (all_away (with_part place (freed_in slot bytes) parts)) + one_if (same u (slot_unit s slot.0)) ≡ times u (all_away parts))
-    × (times u (all_kept (with_part place (freed_in slot bytes) parts)) ≡ times u (all_kept parts))
-
--- A region that leaves its cell is given out, by the numbers that it goes out with; all else stays.
-abbrev pub TakeCounts : Type 0 → Type 0 → Type 0
-TakeCounts P H = (w : UnitName → ℕ) (place : ℕ) (parts : List (PoolPart P H)) → IsAt IsCellPart place parts → (held_in (part_at place parts) ≡ taken → ⊥)
-    → (total w (all_away (with_part place region_taken parts)) ≡ total w (all_away parts) + w (region_of (cell_of_part (part_at place parts)).name (numbers_in (part_at place parts))))
-    × (total w (all_kept (with_part place region_taken parts)) ≡ total w (all_kept parts))
-
--- A region that comes back to its cell is taken back, by the numbers that it went out with.
-abbrev pub PutCounts : Type 0 → Type 0 → Type 0
-PutCounts P H = (w : UnitName → ℕ) (held : Cell) (place : ℕ) (parts : List (PoolPart P H)) → IsAt IsCellPart place parts → held_in (part_at place parts) ≡ taken → (held ≡ taken → ⊥)
-    → (total w (all_away (with_part place (region_put held) parts)) + w (region_of (cell_of_part (part_at place parts)).name (numbers_in (part_at place parts))) ≡ total w (all_away parts))
-    × (total w (all_kept (with_part place (region_put held) parts)) ≡ total w (all_kept parts))
-
--- What a queue and the local one keep they keep together after a merge; what is out stays.
-abbrev pub MergeCounts : Type 0 → Type 0 → Type 0
-MergeCounts P H = (w : UnitName → ℕ) (batch : ℕ) (local : Queue) (place : ℕ) (parts : List (PoolPart P H)) → IsAt (CanMergeInto local) place parts
-    → (total w (all_kept (with_part place (merged_into batch local) parts)) + total w (queue_kept (local_after_merge batch local (part_at place parts))) ≡ total w (all_kept parts) + total w (queue_kept local))
-    × (total w (all_away (with_part place (merged_into batch local) parts)) ≡ total w (all_away parts))
-
--- What a queue kept, the local one keeps after it was taken into that; nothing is lost on the way.
-abbrev pub QueueTakeCounts : Type 0 → Type 0 → Type 0
-QueueTakeCounts P H = (w : UnitName → ℕ) (local : Queue) (place : ℕ) (parts : List (PoolPart P H)) → IsAt (CanTakeInto local) place parts
-    → (total w (all_kept (with_part place queue_taken parts)) + total w (queue_kept (local_after_take local (part_at place parts))) ≡ total w (all_kept parts) + total w (queue_kept local))
-    × (total w (all_away (with_part place queue_taken parts)) ≡ total w (all_away parts))
-
--- A heap's slot that goes out is given out, with the memory that it notes; all else stays.
-abbrev pub HeapTakeCounts : Type 0 → Type 0 → Type 0
-HeapTakeCounts P H = (w : UnitName → ℕ) (slot : ℕ) (memory : MemoryAllocationIndex) (place : ℕ) (parts : List (PoolPart P H)) → IsAt (CanTakeHeap slot) place parts
-    → (total w (all_away (with_part place (heap_out slot memory) parts)) ≡ total w (all_away parts) + w (heap_unit slot memory))
-    × (total w (all_kept (with_part place (heap_out slot memory) parts)) ≡ total w (all_kept parts))
-
--- A heap's slot that comes back is taken back, with the memory that it notes.
-abbrev pub HeapPutCounts : Type 0 → Type 0 → Type 0
-HeapPutCounts P H = (w : UnitName → ℕ) (slot : ℕ) (heap : Option H) (place : ℕ) (parts : List (PoolPart P H)) → IsAt (CanPutHeap slot) place parts
-    → (total w (all_away (with_part place (heap_back slot heap) parts)) + w (heap_unit slot (memory_noted slot (part_at place parts))) ≡ total w (all_away parts))
-    × (total w (all_kept (with_part place (heap_back slot heap) parts)) ≡ total w (all_kept parts))

@@ -1,14 +1,16 @@
 -- A queue into which a local one is merged.
-use Rattle.std.specs.Prelude.{◌≡◌, ℕ, ◌+◌, ◌≤◌, Bool, nat_le, if◌then◌else◌, length}
-use Rattle.pool_slots.specs.SlotQueues.{Queue, HasOwners, AreApart, after_append, taken_into, drained}
+use Rattle.std.specs.Prelude.{◌≡◌, ℕ, ◌+◌, ◌≤◌, All, Bool, nat_le, if◌then◌else◌, length}
+use Rattle.pool_slots.specs.SlotQueues.{Queue, HasOwners, AreApart, IsGivenBack, after_append, taken_into, drained}
 
--- the local queue can be appended to the other, and take the whole of it then
+-- The local queue can be appended to the other, and take the whole of it then. What it brings is known: a queue that
+-- parties share forgets nothing, since the decommits are made in local ones.
 pub record CanMerge (queue local : Queue) : Type 0 where
   pub ranges : length queue.ranges + length local.ranges ≤ queue.range_room
   pub slots : length queue.slots + length local.slots ≤ queue.slot_room
   pub owners : HasOwners queue
   pub local_owners : HasOwners local
   pub apart : AreApart queue.slots local.slots
+  pub known : All IsGivenBack local.slots
   pub range_room : local.range_room ≡ queue.range_room
   pub slot_room : local.slot_room ≡ queue.slot_room
 

@@ -1,8 +1,9 @@
 -- The cell of a slot's region: what it holds, and what it counts.
-use Rattle.std.specs.Prelude.{ℕ, ◌^◌, ◌<◌, List, [], ◌∷◌}
-use Rattle.pool_slots.specs.Imports.{SlotKind, UnitName, pick_unit, region_unit, risen}
+use Rattle.std.specs.Prelude.{◌≡◌, ℕ, ◌^◌, ◌<◌, List, [], ◌∷◌, true}
+use Rattle.pool_slots.specs.Imports.{RegionName, SlotKind, UnitName, pick_unit, region_unit, risen}
 use Rattle.pool_hall.specs.declared.unit_name.SlotKind.TheVariants as of_slot
-use Rattle.pool_slots.specs.Cells.{Cell, unmapped, unknown, previously_used, taken, IsCleanOnceUsed}
+use Rattle.pool_pages.specs.declared.pages.RegionName.TheVariants as of_region
+use Rattle.pool_slots.specs.Cells.{Cell, unmapped, unknown, previously_used, taken, is_taken, IsCleanOnceUsed}
 use Rattle.pool_slots.specs.declared.slot_name.SlotName.{SlotName}
 use Rattle.pool_slots.specs.declared.slot_name.RegionNumbers.{RegionNumbers}
 
@@ -66,9 +67,28 @@ abbrev pub puts_with : Cell → ℕ → ℕ
 puts_with (unknown slot) n = risen n
 puts_with _ n = n
 
--- this is put in, in place of what the cell holds
+-- this is put in, where the cell is empty
 abbrev pub cell_filled : Cell → CellState → CellState
 cell_filled held c = record c { holds = held; unknown_puts = puts_with held c.unknown_puts }
+
+-- The region was made for the slot of this kind with this number. None is made for a heap's.
+abbrev pub IsMadeFor : SlotKind → ℕ → RegionName → Type 0
+IsMadeFor of_slot.Memory i region = region ≡ of_region.Memory i
+IsMadeFor of_slot.Table i region = region ≡ of_region.Table i
+IsMadeFor of_slot.Stack i region = region ≡ of_region.Stack i
+IsMadeFor of_slot.Heap i region = ⊥
+
+-- This is the region of the slot with this name, in whatever state; not nothing.
+abbrev pub IsRegionOf : SlotName → Cell → Type 0
+IsRegionOf name (unmapped region) = IsMadeFor name.kind name.slot region.name
+IsRegionOf name (unknown slot) = IsMadeFor name.kind name.slot slot.region.name
+IsRegionOf name (previously_used slot) = IsMadeFor name.kind name.slot slot.region.name
+IsRegionOf name taken = ⊥
+
+-- The cell is empty, and this is the region of its slot, which it waits for.
+pub record IsAwaited (held : Cell) (c : CellState) : Type 0 where
+  pub empty : is_taken c.holds ≡ true
+  pub own : IsRegionOf c.name held
 
 -- What holds of every cell: a slot in it that was used before is clean, and its counts fit 64 bits.
 pub record IsSoundCell (c : CellState) : Type 0 where

@@ -140,6 +140,10 @@ pub record IsReset (ranges : List ByteRange) (m : Queued) : Type 0 where
   pub zeroed : IfSome m.by_hand (λ n. CanBeZeroed n m.slot)
   pub bytes : m.bytes ≤ 2 ^ 32
 
+-- How a slot goes back: known, and so clean once its ranges are decommitted, unless it is a stack that isn't zeroed.
+abbrev pub IsGivenBack : Queued → Type 0
+IsGivenBack m = (m.known ≡ true) ⊎ ((m.name.kind ≡ of_slot.Stack) × (m.by_hand ≡ None))
+
 -- what holds of every queue
 pub record IsQueue (q : Queue) : Type 0 where
   pub range_room : length q.ranges ≤ q.range_room
@@ -298,8 +302,16 @@ others_of_kind kind [] = []
 others_of_kind kind (m ∷ ms) = if same_kind kind m.name.kind then ms else m ∷ others_of_kind kind ms
 
 -- the slot is still to be zeroed by hand: a decommit failed, and nothing is known of it
+abbrev pub is_unzeroed : Queued → Bool
+is_unzeroed m = is_some m.by_hand && not m.known
+
+-- Unless it is noted that one of the slots may be still to be zeroed by hand, none is.
+abbrev pub AreNoted : Bool → List Queued → Type 0
+AreNoted noted ms = noted ≡ false → AllByRecursion (λ m. is_unzeroed m ≡ false) ms
+
+-- it is one of a kind that is still to be zeroed by hand
 abbrev pub is_to_zero : SlotKind → Queued → Bool
-is_to_zero kind m = same_kind kind m.name.kind && (is_some m.by_hand && not m.known)
+is_to_zero kind m = same_kind kind m.name.kind && is_unzeroed m
 
 -- A queued slot once so many of its bytes are zeroed by hand: it is known and clean then.
 abbrev pub zeroed_by : Option ℕ → Queued → Queued

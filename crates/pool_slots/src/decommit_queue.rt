@@ -3,7 +3,7 @@ ghost use Rattle.std.specs.List.{HoldsAt, list_any};
 ghost use Rattle.pool_images.specs.declared.ranges.ByteRange.{ByteRange};
 ghost use Rattle.pool_slots.specs.SlotNames.{slot_kind};
 ghost use Rattle.pool_slots.specs.QueueMerges.{CanMerge, fills, merged, merged_local};
-ghost use Rattle.pool_slots.specs.SlotQueues.{Queued, Queue, empty_queue, drained, same_slot, owner, holds, HasOwners, AreDistinct, AreApart, LeavesClean, IsReset, ForgetsNothing, with_range, with_ranges, with_slot, after_append, after_take, taken_into, IsSpareOf, after_run, after_run_of, IsFaulted, IsSettled, calls_held, first_slot, first_of_kind, others_of_kind, is_to_zero, first_zeroed};
+ghost use Rattle.pool_slots.specs.SlotQueues.{Queued, Queue, empty_queue, drained, same_slot, owner, holds, HasOwners, AreDistinct, AreApart, LeavesClean, IsGivenBack, IsReset, ForgetsNothing, with_range, with_ranges, with_slot, after_append, after_take, taken_into, IsSpareOf, after_run, after_run_of, IsFaulted, IsSettled, calls_held, first_slot, first_of_kind, others_of_kind, is_to_zero, first_zeroed};
 ghost use Rattle.pool_slots.specs.SlotOrders.{run_of, first_of, AreInOrder};
 ghost use Rattle.pool_slots.specs.SlotSteps.{begins_with, after_first};
 
@@ -104,11 +104,13 @@ impl<P: Pages> DecommitQueue<P> {
         self.ranges.push(range);
     }
 
-    /// Takes a slot that is clean, where that is known, once the ranges that were pushed for it are decommitted.
+    /// Takes a slot that is clean once the ranges that were pushed for it are decommitted. Of a stack that isn't zeroed
+    /// nothing needs to be known. Only a decommit that fails makes a queue forget what it knows of a slot.
     pub fn push(&mut self, item: QueuedSlot<P>)
         requires room { length self.old.slots < self.old.slot_room }
         requires not_held { holds item.name self.old.slots ≡ false }
         requires clean { LeavesClean self.old.ranges item }
+        requires known { IsGivenBack item }
         ensures { self.new ≡ with_slot item self.old }
     {
         self.slots.push(item);
@@ -123,6 +125,7 @@ impl<P: Pages> DecommitQueue<P> {
         requires owners { HasOwners self.old }
         requires not_held { holds item.name self.old.slots ≡ false }
         requires reset { IsReset ranges.now item }
+        requires known { IsGivenBack item }
         ensures pushed { self.new ≡ with_slot item (with_ranges kind item.name.slot ranges.now self.old) }
         ensures owners { HasOwners self.new }
     {
@@ -140,6 +143,21 @@ impl<P: Pages> DecommitQueue<P> {
     {
         // A read, at which the proof learns what the queue keeps.
         let _ranges = self.ranges.len();
+    }
+
+    /// How often the whole queue was taken, modulo 2^64. `take` alone raises it, by one.
+    pub fn takes(&self) -> u64
+        ensures { result ≡ self.now.takes }
+    {
+        self.takes
+    }
+
+    /// How many slots were ever pushed or appended, modulo 2^64. `push` raises it by one, and `append` by the number of the
+    /// slots that come in. What leaves the queue doesn't lower it.
+    pub fn appended(&self) -> u64
+        ensures { result ≡ self.now.appended }
+    {
+        self.appended
     }
 
     /// The number of ranges.

@@ -84,6 +84,4 @@ pub use stack::Stack;
 pub use striped_plan::{StripedPlanSettings, make_striped_plan};
 pub use striping::{StripedAllocationIndex, numberings_agree};
 pub use table_sizes::data_size;
-pub use unit_laws::{
-    units_are_out_once, units_follow_calls, units_follow_lists, units_follow_parts,
-};
+pub use unit_laws::{units_are_out_once, units_follow_lists, units_follow_parts};

@@ -1,8 +1,8 @@
-ghost use Rattle.std.specs.Prelude.{◌≡◌, ◌==◌, false};
-ghost use Rattle.std.specs.List.{list_any};
+ghost use Rattle.std.specs.Prelude.{◌≡◌, false};
 ghost use Rattle.pool_slots.specs.HeapsTold.{listed_heaps};
 
 use crate::heap_maker::{GcHeap, HeapMakeFault, HeapMaker};
+use pool_table::FailingNumbers;
 use pool_types::PlainList;
 use std::alloc::Global;
 
@@ -21,28 +21,22 @@ impl GcHeap for PlainHeap {
 /// A maker of heaps in name alone, with a list of the numbers of its makings that fail. They are numbered from 1.
 #[derive(Debug, Drop)]
 pub struct ListedHeaps {
-    failing: PlainList<u64>,
+    failing: FailingNumbers,
     made: u64,
     faults: u64,
 }
 
 impl ListedHeaps {
-    /// No heap was asked for yet. Takes no memory.
+    /// No heap was asked for yet. Sorts the list, and takes no memory.
     pub fn new(failing: PlainList<u64>) -> Self
         ensures { ⟦<ListedHeaps as HeapMaker>⟧.told result ≡ listed_heaps failing 0 0 }
     {
         ListedHeaps {
-            failing,
+            failing: FailingNumbers::new(failing),
             made: 0,
             faults: 0,
         }
     }
-}
-
-fn lists(listed: &[u64], number: u64) -> bool
-    ensures { result ≡ list_any (λ n. n == number) listed.now }
-{
-    listed.iter().any(|&making| making == number)
 }
 
 impl HeapMaker for ListedHeaps {
@@ -56,7 +50,7 @@ impl HeapMaker for ListedHeaps {
 
     fn new_gc_heap(&mut self, _alloc: Global) -> Result<PlainHeap, HeapMakeFault> {
         self.made = self.made.saturating_add(1);
-        if lists(self.failing.as_slice(), self.made) {
+        if self.failing.lists(self.made) {
             self.faults = self.faults.saturating_add(1);
             return Err(HeapMakeFault::HeapFault);
         }

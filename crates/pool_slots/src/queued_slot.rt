@@ -3,7 +3,7 @@ ghost use Rattle.std.specs.Option.{option_map_or};
 ghost use Rattle.pool_pages.specs.Told.{Faulted, TellsShaped, succeeded, decommitting};
 ghost use Rattle.pool_images.specs.Orders.{Follows};
 ghost use Rattle.pool_images.specs.Slots.{IsPart, IsSlot, CallFaulted, size_of};
-ghost use Rattle.pool_slots.specs.SlotQueues.{decommitted_at, plain_slot, CanBeZeroed, IsLeftSlot, IsLeftItem, zeroed_slot, is_to_zero, zeroed, forgotten, forgotten_slot};
+ghost use Rattle.pool_slots.specs.SlotQueues.{decommitted_at, plain_slot, CanBeZeroed, IsLeftSlot, IsLeftItem, zeroed_slot, is_to_zero, is_unzeroed, zeroed, forgotten, forgotten_slot};
 ghost use Rattle.pool_slots.specs.SlotOrders.{decommits};
 ghost use Rattle.pool_slots.specs.HeldSlots.{held_slot, held_kind, by_hand_of};
 
@@ -93,7 +93,14 @@ impl<P: Pages> QueuedSlot<P> {
     pub(crate) fn is_to_zero(&self, kind: SlotKind) -> bool
         ensures { result ≡ is_to_zero kind self.now }
     {
-        same_kind(kind, self.held.kind()) && self.is_zeroed_by_hand() && !self.known
+        same_kind(kind, self.held.kind()) && self.is_unzeroed()
+    }
+
+    // Whether the slot is still to be zeroed by hand.
+    pub(crate) fn is_unzeroed(&self) -> bool
+        ensures { result ≡ is_unzeroed self.now }
+    {
+        self.is_zeroed_by_hand() && !self.known
     }
 
     fn is_zeroed_by_hand(&self) -> bool

@@ -1,7 +1,7 @@
 ghost use Rattle.std.specs.Prelude.{◌≡◌, ◌^◌, ◌<◌};
 ghost use Rattle.pool_slots.specs.Cells.{unmapped, taken, calls_in, IsCleanOnceUsed};
 ghost use Rattle.pool_slots.specs.CellOf.{cell_of};
-ghost use Rattle.pool_slots.specs.RegionCells.{faults_in, erases_in, numbers_of, cell_numbers, cell_made, cell_emptied, cell_filled, IsSoundCell};
+ghost use Rattle.pool_slots.specs.RegionCells.{faults_in, erases_in, numbers_of, cell_numbers, cell_made, cell_emptied, cell_filled, IsAwaited, IsSoundCell};
 
 use crate::cells::ImageSlot;
 use crate::slot_name::{RegionNumbers, SlotName};
@@ -21,9 +21,10 @@ pub struct RegionCell<P: Pages> {
     out: RegionNumbers,
 }
 
-/// The cell of a table's slot, and that of a stack's.
+/// The cell of a table's slot.
 pub type TableCell<P> = RegionCell<P>;
 
+/// The cell of a stack's slot.
 pub type StackCell<P> = RegionCell<P>;
 
 impl<P: Pages> Model for RegionCell<P> {
@@ -87,9 +88,10 @@ impl<P: Pages> RegionCell<P> {
         (held, numbers)
     }
 
-    /// Puts the slot's region into the cell, in place of what it holds.
+    /// Puts the slot's own region back into the cell, which it was taken out of.
     pub fn put(&mut self, held: ImageSlot<P>)
-        requires { IsCleanOnceUsed (cell_of held) }
+        requires own { IsAwaited (cell_of held) self.old }
+        requires clean { IsCleanOnceUsed (cell_of held) }
         ensures { self.new ≡ cell_filled (cell_of held) self.old }
     {
         let _faults = held.faults();

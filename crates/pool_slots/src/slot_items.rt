@@ -1,8 +1,8 @@
-ghost use Rattle.std.specs.Prelude.{◌≡◌, ◌+◌, ◌<◌, ◌≤◌, ◌==◌, [], ◌∷◌, ◌++◌, length, map, slice_index_or, slice_set, false, true, ℕ, is_ok, is_some, IfOk, IfSome, OnOk, OnErr, MatchOption};
+ghost use Rattle.std.specs.Prelude.{◌≡◌, ◌+◌, ◌<◌, ◌≤◌, ◌==◌, [], ◌∷◌, ◌++◌, length, map, slice_index_or, slice_set, false, true, ℕ, ◌||◌, is_ok, is_some, IfOk, IfSome, OnOk, OnErr, MatchOption};
 ghost use Rattle.std.specs.List.{AllByRecursion, HoldsAt, list_any};
 ghost use Rattle.pool_images.specs.Orders.{Follows};
 ghost use Rattle.pool_images.specs.Slots.{IsPart, IsSlot, size_of};
-ghost use Rattle.pool_slots.specs.SlotQueues.{decommitted_at, Queued, CanBeZeroed, same_kind, first_of_kind, others_of_kind, forgotten, IsLeftItem, is_to_zero, first_zeroed, zeroed};
+ghost use Rattle.pool_slots.specs.SlotQueues.{decommitted_at, Queued, CanBeZeroed, same_kind, first_of_kind, others_of_kind, forgotten, IsLeftItem, is_to_zero, AreNoted, first_zeroed, zeroed};
 ghost use Rattle.pool_slots.specs.SlotOrders.{decommits};
 
 use crate::queued_slot::QueuedSlot;
@@ -14,23 +14,26 @@ use std::alloc::{AllocError, Global};
 use std::collections::VecDeque;
 use std::marker::Model;
 
-/// Slots in order, with room for so many. What is pushed within the room takes no memory.
+/// Slots in order, with room for so many. What is pushed within the room takes no memory. Where no decommit failed, the slots
+/// aren't looked through for one that is to be zeroed by hand.
 #[derive(Drop)]
 pub struct SlotItems<P: Pages> {
     list: VecDeque<QueuedSlot<P>>,
     room: usize,
+    // Whether a slot may be held that is to be zeroed by hand. Unless it is noted so, none is.
+    noted: bool,
 }
 
 impl<P: Pages> Model for SlotItems<P> {
     ghost use Rattle.std.specs.Prelude.{◌≤◌, length};
     ghost use Rattle.std.specs.VecDeque.{deque_capacity};
-    ghost use Rattle.pool_slots.specs.SlotQueues.{QueuedList};
+    ghost use Rattle.pool_slots.specs.SlotQueues.{QueuedList, AreNoted};
 
     ghost Value = { QueuedList };
 
     ghost view = { λ l. record { items = l.list.items; room = l.room } };
 
-    ghost invariant = { λ l. (length l.list.items ≤ l.room) × (l.room ≤ deque_capacity l.list) };
+    ghost invariant = { λ l. (length l.list.items ≤ l.room) × (l.room ≤ deque_capacity l.list) × AreNoted l.noted l.list.items };
 }
 
 impl<P: Pages> SlotItems<P> {
@@ -38,7 +41,11 @@ impl<P: Pages> SlotItems<P> {
         ensures { IfOk result (λ l. l ≡ record { items = []; room = room }) }
     {
         let list = VecDeque::with_capacity(alloc, room)?;
-        Ok(SlotItems { list, room })
+        Ok(SlotItems {
+            list,
+            room,
+            noted: false,
+        })
     }
 
     pub fn len(&self) -> usize
@@ -65,7 +72,15 @@ impl<P: Pages> SlotItems<P> {
         requires { length self.old.items < self.old.room }
         ensures { self.new ≡ record self.old { items = self.old.items ++ item ∷ [] } }
     {
+        self.noted = either(self.may_be_unzeroed(), item.is_unzeroed());
         self.list.push_back_reserved(item);
+    }
+
+    // Whether a slot may be held that is to be zeroed by hand: none is in an empty list.
+    fn may_be_unzeroed(&self) -> bool
+        ensures { AreNoted result self.now.items }
+    {
+        self.noted && !self.list.is_empty()
     }
 
     /// Takes out the first slot of a kind. The others keep their order.
@@ -118,6 +133,8 @@ impl<P: Pages> SlotItems<P> {
         ensures value { self.new ≡ record self.old { items = self.old.items ++ other.old.items } }
         ensures other { other.new ≡ record other.old { items = [] } }
     {
+        self.noted = either(self.may_be_unzeroed(), other.may_be_unzeroed());
+        other.noted = false;
         let Ok(()) = self.list.append(&mut other.list) else {
             unreachable!()
         };
@@ -151,10 +168,24 @@ impl<P: Pages> SlotItems<P> {
     {
         let item = &mut self.list[at];
         item.forget();
+        self.noted = either(self.noted, item.is_unzeroed());
     }
 
     /// Zeroes by hand the first slot of a kind that is still to be zeroed. Answers whether there was one.
     pub(crate) fn zero_first(&mut self, kind: SlotKind) -> bool
+        requires { AllByRecursion (λ m. IfSome m.by_hand (λ n. CanBeZeroed n m.slot)) self.old.items }
+        ensures value { result ≡ list_any (is_to_zero kind) self.old.items }
+        ensures zeroed { self.new ≡ record self.old { items = first_zeroed kind self.old.items } }
+    {
+        if self.may_be_unzeroed() {
+            self.look_and_zero(kind)
+        } else {
+            false
+        }
+    }
+
+    // Looks for the first slot of a kind that is still to be zeroed by hand, and zeroes it.
+    fn look_and_zero(&mut self, kind: SlotKind) -> bool
         requires { AllByRecursion (λ m. IfSome m.by_hand (λ n. CanBeZeroed n m.slot)) self.old.items }
         ensures value { result ≡ list_any (is_to_zero kind) self.old.items }
         ensures zeroed { self.new ≡ record self.old { items = first_zeroed kind self.old.items } }
@@ -199,4 +230,10 @@ impl<P: Pages> SlotItems<P> {
         let item = &mut self.list[at];
         item.zero();
     }
+}
+
+fn either(one: bool, other: bool) -> bool
+    ensures { result ≡ (one || other) }
+{
+    one || other
 }

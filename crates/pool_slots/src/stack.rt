@@ -1,7 +1,7 @@
 ghost use Rattle.std.specs.Prelude.{◌≡◌, ◌+◌, ◌≤◌, [], length, replicate, slice_range, true, All, IfSome};
 ghost use Rattle.pool_images.specs.Slots.{IsPart, IsClean, size_of, decommitted_all};
 ghost use Rattle.pool_slots.specs.PlainSlots.{IsPlain, plain_written, stack_kept, stack_ranges, stack_zeroed};
-ghost use Rattle.pool_slots.specs.SlotQueues.{plain_slot};
+ghost use Rattle.pool_slots.specs.SlotQueues.{IsGivenBack, plain_slot};
 ghost use Rattle.pool_slots.specs.HeldSlots.{stack_item};
 
 use crate::plain_slot::PlainSlot;
@@ -109,7 +109,8 @@ impl<P: Pages> Stack<P> {
     /// The stack on its way back: it is clean once its ranges are decommitted, and all of it is zeroed by hand where a decommit
     /// fails. Nothing is known of one that isn't given back zeroed.
     pub fn into_queued(self, bytes: usize, numbers: RegionNumbers) -> QueuedSlot<P>
-        ensures { result ≡ stack_item self bytes numbers }
+        ensures item { result ≡ stack_item self bytes numbers }
+        ensures known { IsGivenBack result }
     {
         let len = self.slot.len();
         let by_hand = if self.zeroing { Some(len) } else { None };

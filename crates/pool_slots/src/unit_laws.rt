@@ -1,4 +1,4 @@
-ghost use Rattle.pool_slots.specs.ListUnits.{AwayFollows, KeptFollows, AwayOnce, PickCounts, FreeCounts, TakeCounts, PutCounts, MergeCounts, QueueTakeCounts, HeapTakeCounts, HeapPutCounts};
+ghost use Rattle.pool_slots.specs.ListUnits.{AwayFollows, KeptFollows, AwayOnce};
 ghost use Rattle.pool_slots.specs.PartUnits.{PicksCount, FreesCount, TakesCount, PutsCount, AppendsCount, QueueTakesCount};
 
 use crate::heap_maker::GcHeap;
@@ -21,18 +21,6 @@ pub fn units_follow_parts()
 pub fn units_follow_lists<P: Pages, H: GcHeap>()
     ensures away { AwayFollows P H }
     ensures kept { KeptFollows P H }
-{}
-
-/// What each call on the part at a place makes of the units that all parts have given out and keep. It does nothing.
-pub fn units_follow_calls<P: Pages, H: GcHeap>()
-    ensures pick { PickCounts P H }
-    ensures free { FreeCounts P H }
-    ensures take { TakeCounts P H }
-    ensures put { PutCounts P H }
-    ensures merge { MergeCounts P H }
-    ensures queue_take { QueueTakeCounts P H }
-    ensures heap_take { HeapTakeCounts P H }
-    ensures heap_put { HeapPutCounts P H }
 {}
 
 /// Over a pool whose parts stand where a right plan has them, no slot is given out twice, and no region of a slot, whatever
