@@ -1,9 +1,11 @@
 -- A run that is finished: party by party, turns until it has nothing left.
-use Rattle.std.proofs.Common.{◌≡◌, ◌≢◌, ℕ, zero, suc, ◌+◌, ◌<◌, ◌≤◌, Bool, true, false, List, [], ◌∷◌, ◌++◌, length, replicate, Option, Some, None, refl, sym, ap, ◌∙◌, subst, inl, inr, arith, append_assoc, add-zero, ◌&&◌, not, nat_lt, IfSome, IsSome, slice_get}
-use Rattle.pool_run.proofs.Imports.{lt-ltb, not-true, not-false, cases_lt, append-nil, length_push, replicate-append-replicate, slice_get_past, one_at_most, is_there, one_if, is_idle, ModuleAsked}
-use Rattle.pool_run.specs.Folds.{RunState, commands_of, party_by_party, TurnsIf, TurnsOf, Folds, HasNothingLeft, FinishesRun}
+use Rattle.std.proofs.Common.{◌≡◌, ◌≢◌, ℕ, zero, suc, ◌+◌, ◌<◌, ◌≤◌, Bool, true, false, List, [], ◌∷◌, ◌++◌, length, replicate, Option, Some, None, refl, sym, ap, ◌∙◌, subst, inl, inr, arith, append_assoc, add-zero, ◌&&◌, not, nat_lt, IfSome, IsSome, slice_get, slice_set, ◌-◌}
+use Rattle.pool_run.proofs.Imports.{lt-ltb, not-true, not-false, cases_lt, append-nil, length_push, replicate-append-replicate, set-get_or, slice_get_past, get_or_from_slice_get, one_at_most, is_there, one_if, is_idle, ModuleAsked}
+use Rattle.pool_run.specs.Folds.{RunState, commands_of, replies_to, party_by_party, TurnsIf, TurnsOf, Folds, HasNothingLeft, FinishesRun}
 use Rattle.pool_run.specs.Progress.{is_busy, commands_done, calls_begun, begins_call, TurnsSome}
+use Rattle.pool_run.specs.Turns.{OpensAt, OpensNext, rests}
 use Rattle.pool_run.specs.declared.command.Command.{Command}
+use Rattle.pool_run.specs.declared.reply.Reply.{Reply}
 use Rattle.pool_run.specs.declared.running_party.RunningParty.{RunningParty}
 use Rattle.pool_run.proofs.Between.{set_other}
 use Rattle.pool_run.proofs.Folding.{folds_on}
@@ -17,6 +19,10 @@ party_by_party-push i n (m ∷ counts) =
     ap (λ (turns : List ℕ). replicate m i ++ turns) (party_by_party-push (i + 1) n counts)
     ∙ sym (append_assoc (replicate m i) (party_by_party (i + 1) counts) (replicate n (i + 1 + length counts)))
     ∙ ap (λ (k : ℕ). replicate m i ++ party_by_party (i + 1) counts ++ replicate n k) next
+
+-- what is there is put in its place
+pub set_same : {X : Type 0} (xs : List X) (i : ℕ) (x : X) → slice_get xs i ≡ Some x → slice_set xs i x ≡ xs
+set_same xs i x there = ap (slice_set xs i) (sym (get_or_from_slice_get xs i x x there)) ∙ set-get_or xs i x
 
 module _ {P : Type 0} where
   -- no turns, one more, and more after others
@@ -47,6 +53,30 @@ module _ {P : Type 0} where
   pub nothing_is_left : (commands : List Command) (o : Option (RunningParty P)) → is_busy o ≡ false → length commands ≤ commands_done o → IfSome o (HasNothingLeft commands)
   nothing_is_left commands None idle all = tt
   nothing_is_left commands (Some p) idle all = record { idle = not-false (is_idle p.frame.phase) idle; all = all }
+
+  -- A turn of such a party may change nothing, and so may many.
+  rests_if : (modules : List ModuleAsked) (commands : List Command) (i : ℕ) (o : Option (RunningParty P)) (s : RunState P) → slice_get s.parties i ≡ o → IfSome o (HasNothingLeft commands) → TurnsIf modules commands i o s s
+  rests_if modules commands i None s there left = refl
+  rests_if modules commands i (Some p) s there left =
+      let next : OpensNext modules (slice_get commands p.done) p.keyed p rests = subst (λ (o : Option Command). OpensNext modules o p.keyed p rests) (sym (slice_get_past commands p.done left.all)) refl in
+      let opens : OpensAt (is_idle p.frame.phase) modules commands p rests = subst (λ (b : Bool). OpensAt b modules commands p rests) (sym left.idle) next in
+      let With : List (RunningParty P) → List (List Reply) → RunState P = λ ps rs. record { core = s.core; modules = s.modules; parties = ps; replies = rs } in
+      let same : With (slice_set s.parties i p) (slice_set s.replies i (replies_to i s.replies)) ≡ s =
+      ap (λ (ps : List (RunningParty P)). With ps (slice_set s.replies i (replies_to i s.replies))) (set_same s.parties i p there)
+      ∙ ap (With s.parties) (set-get_or s.replies i []) in
+      (record { core = s.core; party = p; reply = None }, (rests, opens, refl), sym same)
+
+  rest_on : (modules : List ModuleAsked) (inputs : List (List Command)) (i n : ℕ) (s : RunState P) → TurnsOf modules inputs i s s → Folds modules inputs (replicate n i) s s
+  rest_on modules inputs i zero s turn = refl
+  rest_on modules inputs i (suc n) s turn = (s, turn, rest_on modules inputs i n s turn)
+
+  -- Once it has nothing left, all its turns are made.
+  pub rested : (modules : List ModuleAsked) (inputs : List (List Command)) (i n times : ℕ) (s end : RunState P) → n ≤ times → Folds modules inputs (replicate n i) s end → IfSome (slice_get end.parties i) (HasNothingLeft (commands_of inputs i)) → Folds modules inputs (replicate times i) s end
+  rested modules inputs i n times s end few folds left =
+      let F : List ℕ → Type 0 = λ turns. Folds modules inputs turns s end in
+      let turn : TurnsOf modules inputs i end end = rests_if modules (commands_of inputs i) i (slice_get end.parties i) end refl left in
+      let all : n + (times - n) ≡ times = omega (arith, few) in
+      subst F (replicate-append-replicate n (times - n) i ∙ ap (λ (k : ℕ). replicate k i) all) (folds_on modules inputs (replicate n i) (replicate (times - n) i) s end end folds (rest_on modules inputs i (times - n) end turn))
 
   -- While its call is under way none begins.
   pub none_begins : (count : ℕ) (o : Option (RunningParty P)) → is_busy o ≡ true → one_if (begins_call count o) ≡ 0

@@ -1,6 +1,6 @@
 -- Two runs over the same turns, in which the same commands find no memory, are the same.
 use Rattle.std.proofs.Common.{◌≡◌, ◌≢◌, ℕ, zero, suc, ◌+◌, ◌<◌, Bool, true, false, List, [], ◌∷◌, ◌++◌, length, replicate, Option, Some, None, IsSome, ◌⊎◌, refl, sym, ap, ◌∙◌, subst, inl, inr, arith, IfSome, slice_get, slice_set}
-use Rattle.pool_run.proofs.Imports.{cases_eq, cases_lt, append-nil, set_past, get_or-set_same, get_or-set_other, set-get_or, slice_get_past, slice_get_within, get_or_from_slice_get, objects_in, ModuleAsked, stage_at, stage_of, is_idle, Phase, ModuleCall, PoolCore, PlainHeap}
+use Rattle.pool_run.proofs.Imports.{cases_eq, cases_lt, append-nil, set_past, get_or-set_same, get_or-set_other, set-get_or, slice_get_past, slice_get_within, objects_in, ModuleAsked, stage_at, stage_of, is_idle, Phase, ModuleCall, PoolCore, PlainHeap}
 use Rattle.pool_run.specs.Ties.{CanTurn}
 use Rattle.pool_run.specs.Agreeing.{want_of_memory, WantAlike}
 use Rattle.pool_run.specs.Folds.{RunState, commands_of, replies_to, replies_after, party_by_party, with_turn, TurnsIf, TurnsOf, Folds, HasNothingLeft, IsFinished, FinishesRun, Runs, IsUnderWay}
@@ -9,7 +9,7 @@ use Rattle.pool_run.specs.Turns.{Turned, Turns, OpensAt, OpensNext, Opening, res
 use Rattle.pool_run.specs.declared.command.Command.{Command}
 use Rattle.pool_run.specs.declared.reply.Reply.{Reply}
 use Rattle.pool_run.specs.declared.running_party.RunningParty.{RunningParty}
-use Rattle.pool_run.proofs.Finishing.{turned_others}
+use Rattle.pool_run.proofs.Finishing.{set_same, turned_others}
 use Rattle.pool_run.proofs.Ended.{folds_count}
 use Rattle.pool_run.proofs.Folding.{run_turned, folds_on}
 use Rattle.pool_run.proofs.Between.{set_other}
@@ -47,9 +47,6 @@ replies_stay i j n o told r there =
 -- and the one that a turn ends with is told.
 pub told_now : (i : ℕ) (r : Reply) (told : List (List Reply)) → i < length told → slice_get (replies_to i (replies_after i (Some r) told)) (length (replies_to i told)) ≡ Some r
 told_now i r told below = ap (λ (rs : List Reply). slice_get rs (length (replies_to i told))) (get_or-set_same told i (replies_to i told ++ r ∷ []) [] below) ∙ last_get (replies_to i told) r
-
-set_same : {X : Type 0} (xs : List X) (i : ℕ) (x : X) → slice_get xs i ≡ Some x → slice_set xs i x ≡ xs
-set_same xs i x there = ap (slice_set xs i) (sym (get_or_from_slice_get xs i x x there)) ∙ set-get_or xs i x
 
 module _ {P : Type 0} where
   -- What was told stays told.

@@ -77,7 +77,7 @@ fn act_on_grant<P: Pages>(
     }
 }
 
-// Does something with the bytes of a stack, which is memory 0 of its grant.
+/// Does something with the bytes of a stack, which is memory 0 of its grant.
 pub fn act_on_stack<P: Pages>(
     alloc: Global,
     stack: &mut Stack<P>,

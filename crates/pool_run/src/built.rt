@@ -5,8 +5,8 @@ ghost use Rattle.pool_run.specs.Built.{is_built, is_built_offer, is_built_module
 use crate::input::Input;
 use pool_types::{MemoryDecl, ModuleInfo, Offered};
 
-/// Whether the input is of those that can be run so far: no marks of dirty pages offered, and modules of memories
-/// whose own pages have at most 64 KiB.
+/// Whether the input is of those that can be run so far: the system that it offers doesn't tell which pages are dirty, as no
+/// reset reads such marks yet, and the memories of its modules have pages of at most 64 KiB.
 pub fn is_built(input: &Input) -> bool
     ensures { result ≡ is_built input.now }
 {

@@ -7,6 +7,7 @@ use pool_limits::{GrowFault, Trap};
 use pool_slots::AllocError as Cause;
 use pool_table::GcTableError;
 
+/// The reply to a write or a fill of bytes with this answer.
 pub fn write_reply(answer: Result<(), Trap>) -> Reply
     ensures { result ≡ write_reply answer }
 {
@@ -16,6 +17,8 @@ pub fn write_reply(answer: Result<(), Trap>) -> Reply
     }
 }
 
+/// The reply to a growth with this answer: the size before it, of a memory in bytes, of a table in elements, or None where
+/// it may not grow. Want of memory and a fault of the limiter are refusals.
 pub fn growth_reply(answer: Result<Option<usize>, GrowFault>) -> Reply
     ensures { result ≡ growth_reply answer }
 {
@@ -27,6 +30,7 @@ pub fn growth_reply(answer: Result<Option<usize>, GrowFault>) -> Reply
     }
 }
 
+/// The reply to a look at an element with this answer.
 pub fn element_reply(answer: Result<Element, Trap>) -> Reply
     ensures { result ≡ element_reply answer }
 {
@@ -36,6 +40,7 @@ pub fn element_reply(answer: Result<Element, Trap>) -> Reply
     }
 }
 
+/// The reply to a fill of elements with this answer. A call on the store that failed is a refusal.
 pub fn fill_reply(answer: Result<(), GcTableError>) -> Reply
     ensures { result ≡ fill_reply answer }
 {

@@ -1,16 +1,26 @@
-ghost use Rattle.std.specs.Prelude.{◌≡◌, ℕ, ◌+◌, ◌<◌, length, replicate, slice_get, slice_index_or, false, IfSome};
+ghost use Rattle.std.specs.Prelude.{◌≡◌, ℕ, ◌+◌, ◌<◌, length, replicate, slice_get, slice_index_or, true, false, IfSome};
 ghost use Rattle.pool_index.specs.Shard.{one_if};
 ghost use Rattle.pool_run.specs.Folds.{Folds, HasNothingLeft, FinishesRun, commands_of};
 ghost use Rattle.pool_run.specs.Progress.{is_busy, calls_begun, begins_call, TurnsSome, IsRunOf};
 ghost use Rattle.pool_run.specs.RunsMade.{Background};
 ghost use Rattle.pool_run.specs.Schedules.{turns_of};
 
+use crate::command::Command;
 use crate::input::{Input, ScheduleEntry};
 use crate::told_run::ToldRun;
 use pool_pages::Pages;
 use std::alloc::Global;
 
-// Makes so many turns of party `i`.
+// Whether party `i`, which has these commands, has nothing left.
+#[tactic(auto, using(crate::proofs::Finishing::nothing_is_left))]
+fn has_nothing_left<P: Pages>(run: &ToldRun<P>, i: usize, commands: &[Command]) -> bool
+    requires { i < length run.now.parties }
+    ensures { result ≡ true → IfSome (slice_get run.now.parties i) (HasNothingLeft commands.now) }
+{
+    !run.is_busy(i) && run.done(i) >= commands.len()
+}
+
+// Makes so many turns of party `i`. Once it has nothing left, those that are left would change nothing: they aren't made.
 fn repeat<P: Pages>(run: &mut ToldRun<P>, alloc: Global, input: &Input, i: usize, times: u64)
     ghost of: { Background }
     requires run { IsRunOf of input.now.parties run.old }
@@ -18,7 +28,12 @@ fn repeat<P: Pages>(run: &mut ToldRun<P>, alloc: Global, input: &Input, i: usize
     ensures folds { Folds of.modules of.inputs (replicate times i) run.old run.new }
     ensures run { IsRunOf of input.now.parties run.new }
 {
+    let parties = input.parties.as_slice();
+    let commands = parties[i].commands.as_slice();
     for turn in 0..times {
+        if has_nothing_left(run, i, commands) {
+            return;
+        }
         run.turn(alloc, input, i);
     }
 }

@@ -23,6 +23,16 @@ min_twice a s r n =
           ap (λ (k : ℕ). min (k + r) n) first ∙ ap (λ (k : ℕ). min k n) {x = a + s + r} {y = a + (s + r)} (omega arith)
     ]
 
+-- what goes past the bound doesn't count
+min_full : (a k times n : ℕ) → k ≡ min times (n - a) → min (a + k) n ≡ min (a + times) n
+min_full a k times n is =
+    elim (cases_lt times (n - a)) [
+      | inl under ↦ ap (λ (m : ℕ). min (a + m) n) (is ∙ min-eq_left {n = times} {m = n - a} (omega (arith, under)))
+      | inr over ↦
+          let most : k ≡ n - a = is ∙ min-eq_right {n = n - a} {m = times} over in
+          min-eq_right {n = n} {m = a + k} (omega (arith, most)) ∙ sym (min-eq_right {n = n} {m = a + times} (omega (arith, over)))
+    ]
+
 -- the steps of one party, one more and none
 steps_more : (i k j : ℕ) → steps_of i k j + steps_of i 1 j ≡ steps_of i (k + 1) j
 steps_more i k j = by_test (i == j)
@@ -209,6 +219,21 @@ module _ {M P : Type 0} (input : Input) where
   -- one more step of a party, of which so many were made
   pub repeated : (i k : ℕ) (old mid new : Parties M P) → HaveStepped input (steps_of i k) old mid → HaveStepped input (steps_of i 1) mid new → HaveStepped input (steps_of i (k + 1)) old new
   repeated i k old mid new first second = stepped_same (λ j. steps_of i k j + steps_of i 1 j) (steps_of i (k + 1)) old new (steps_more i k) (stepped_then (steps_of i k) (steps_of i 1) old mid new first second)
+
+  -- as many as it has commands left are as good as all of its steps
+  pub stepped_all : (i k times : ℕ) (p : PartyOnDemand M P) (old new : Parties M P) → i < length old → p ≡ slice_index_or old i p → k ≡ min times (length (commands_at input i) - length p.told.items) → HaveStepped input (steps_of i k) old new → HaveStepped input (steps_of i times) old new
+  stepped_all i k times p old new inside here few stepped j d below =
+      let n : ℕ = length (commands_at input j) in
+      let More : ℕ → ℕ = λ m. min (replies_told old j d + m) n in
+      stepped j d below
+      ∙ elim (cases_eq j i) [
+        | inl own ↦
+            let told : replies_told old j d ≡ length p.told.items = ap (λ (m : ℕ). replies_told old m d) own ∙ ap (λ (x : PartyOnDemand M P). length x.told.items) (get_or-any old i d p inside ∙ sym here) in
+            let most : n ≡ length (commands_at input i) = ap (λ (m : ℕ). length (commands_at input m)) own in
+            let is : k ≡ min times (n - replies_told old j d) = few ∙ sym (λ x. min times (most x - told x)) in
+            ap More (steps_own i k j own) ∙ min_full (replies_told old j d) k times n is ∙ sym (ap More (steps_own i times j own))
+        | inr other ↦ ap More (steps_other i k j other ∙ sym (steps_other i times j other))
+      ]
 
   -- the steps of one more entry
   pub followed : (turns more : List ℕ) (i k : ℕ) (old mid new : Parties M P) → turns ++ replicate k i ≡ more → HaveStepped input (steps_in turns) old mid → HaveStepped input (steps_of i k) mid new → HaveStepped input (steps_in more) old new

@@ -73,7 +73,7 @@ fn step<M: PageMaker>(
     );
 }
 
-// Makes so many steps of party `i`.
+// Makes so many steps of party `i`, or as many as it has commands left: more would change nothing.
 fn repeat<M: PageMaker>(
     alloc: Global,
     input: &Input,
@@ -93,7 +93,12 @@ fn repeat<M: PageMaker>(
     ensures borrows { M.borrows seat.new.maker ≡ M.borrows seat.old.maker }
     ensures stepped { HaveStepped input.now (steps_of i times) parties.old.items parties.new.items }
 {
-    for turn in 0..times {
+    let given = input.parties.as_slice();
+    let count = given[i].commands.len();
+    let told = parties[i].told.len();
+    let left = count.saturating_sub(told);
+    let turns = times.min(left as u64);
+    for turn in 0..turns {
         step(alloc, input, allocator, seat, calls, parties, i);
     }
 }

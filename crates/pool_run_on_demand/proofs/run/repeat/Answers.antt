@@ -1,6 +1,7 @@
-use Rattle.std.proofs.Common.{rules, ◌≡◌, ℕ, refl, ◌∙◌, subst, arith}
+use Rattle.std.proofs.Common.{rules, ◌≡◌, ℕ, ◌-◌, length, min, refl, ap, ◌∙◌, subst, arith, slice_index_or}
+use Rattle.pool_run_on_demand.proofs.Imports.{commands_of, commands_in, Command, Party, commands_read}
 use Rattle.pool_run_on_demand.specs.Runs.{HaveStepped, steps_of}
-use Rattle.pool_run_on_demand.proofs.Folding.{repeated, stepped_none, steps_none}
+use Rattle.pool_run_on_demand.proofs.Folding.{repeated, stepped_all, stepped_none, steps_none}
 use Rattle.pool_run_on_demand.proofs.run.repeat.Goals as goal
 
 pub loop-turn-init : goal.loop-turn-init
@@ -24,6 +25,15 @@ loop-turn-preserved g c =
 
 pub returns-clause-stepped : goal.returns-clause-stepped
 returns-clause-stepped g c =
-    let all : c.loop-turn.turn ≡ c.args.times = omega arith in
-    let F : ℕ → Type 0 = λ n. HaveStepped c.args.input.now (steps_of c.args.i n) c.args.parties.now.items c.loop-turn.parties.items in
-    subst F all c.loop-turn.invariant.stepped
+    let i : ℕ = c.args.i in
+    let input = c.args.input.now in
+    let parties = c.args.parties.now.items in
+    let q : Party = c.index-given-i.result in
+    let p = c.index.result.now in
+    let there : p ≡ slice_index_or parties i p = c.index.ensures in
+    let count : c.len-count.result ≡ length (commands_of (commands_in input.parties) i) = c.len-count.ensures ∙ ap (length {A = Command}) (commands_read (commands_in input.parties) input.parties c.as_slice-given.result.now i q refl c.as_slice-given.ensures c.requires.1.1.1.1.1) in
+    let told : c.len-told.result ≡ length p.told.items = c.len-told.ensures in
+    let left : c.saturating_sub-left.result ≡ length (commands_of (commands_in input.parties) i) - length p.told.items = c.saturating_sub-left.ensures ∙ (λ j. count j - told j) in
+    let all : c.loop-turn.turn ≡ c.min-turns.result = omega arith in
+    let F : ℕ → Type 0 = λ n. HaveStepped input (steps_of i n) parties c.loop-turn.parties.items in
+    stepped_all input i c.min-turns.result c.args.times p parties c.loop-turn.parties.items (omega (arith, c.requires.1.1.1.1.0.count, c.requires.1.1.1.1.1)) there (c.min-turns.ensures ∙ ap (min c.args.times) left) (subst F all c.loop-turn.invariant.stepped)
