@@ -169,7 +169,7 @@ const TURNS: u32 = 20_000;
 #[test]
 fn two_threads_take_turns(rt: HostRuntime) -> Result<(), Fail> {
     let limits = vec![in rt.alloc(); 10u64]?;
-    let (hall, mut seat) = Hall::new(rt.alloc(), slots(rt.alloc())?, limits)?;
+    let (hall, mut seat) = Hall::new(rt.alloc(), slots(rt.alloc())?, limits, 1)?;
     let other = hall.split(&mut seat, 1000);
     let ((mut seat, here), (other, there)) = both(&rt, &hall, seat, other, TURNS);
     hall.join(&mut seat, other);
@@ -184,7 +184,7 @@ fn two_threads_take_turns(rt: HostRuntime) -> Result<(), Fail> {
 #[test]
 fn a_counter_counts(rt: HostRuntime) -> Result<(), Fail> {
     let limits = vec![in rt.alloc(); 1u64; 2]?;
-    let (hall, mut seat) = Hall::<Slot>::new(rt.alloc(), Vec::new(rt.alloc()), limits)?;
+    let (hall, mut seat) = Hall::<Slot>::new(rt.alloc(), Vec::new(rt.alloc()), limits, 0)?;
     let first = hall.add(&mut seat, 1);
     let second = hall.add(&mut seat, 1);
     hall.subtract(&mut seat, 1);

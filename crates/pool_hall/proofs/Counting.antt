@@ -1,5 +1,5 @@
 -- The steps on a counter keep the rule.
-use Rattle.std.proofs.Common.{◌≡◌, ◌≢◌, ℕ, ◌+◌, ◌-◌, ◌/◌, ◌%◌, ◌^◌, ◌<◌, ◌≤◌, ◌==◌, if◌then◌else◌, nat_lt, Bool, true, false, List, ◌∷◌, length, set, ⊎_elim, sym, refl, ap, ◌∙◌, subst, arith, length-set, get_or-set_same, get_or-set_other, slice_index}
+use Rattle.std.proofs.Common.{◌≡◌, ◌≢◌, ℕ, ◌+◌, ◌-◌, ◌%◌, ◌^◌, ◌<◌, ◌≤◌, ◌==◌, if◌then◌else◌, nat_lt, Bool, true, false, List, ◌∷◌, length, set, ⊎_elim, sym, refl, ap, ◌∙◌, subst, arith, length-set, get_or-set_same, get_or-set_other, slice_index}
 use Rattle.std.proofs.lemmas.Bool.{cases_eq, cases_lt, eq-eqb, ne_eqb, lt-ltb, le-ltb}
 use mathlib.Core.Option.{some, none}
 use lib.ListN.{get_elem?}
@@ -11,10 +11,12 @@ use Rattle.pool_hall.specs.Tally.{Tally, holding, having, counted, additions, lo
 use Rattle.pool_hall.specs.Unit.{times}
 use Rattle.pool_hall.specs.Meaning.{Meaning}
 use Rattle.pool_hall.specs.Rule.{word_of, nobody, IsView, Places, Lawful}
-use Rattle.pool_hall.specs.Step.{add_view, subtract_view, Loaded, added, subtracted, loaded}
+use Rattle.pool_hall.specs.Step.{add_view, subtract_view, Loaded, SeesMoment, added, subtracted, loaded}
+use Rattle.pool_hall.specs.Moment.{Moment}
 use Rattle.pool_hall.proofs.Totals.{total_set, total_le, total_kept}
 use Rattle.pool_hall.proofs.Keeps.{same_places}
-use Rattle.pool_hall.proofs.Told.{has_all}
+use Rattle.pool_hall.proofs.Told.{has_all, momentous}
+use Rattle.pool_hall.proofs.Words.{word_rises, words_apart}
 use Rattle.pool_hall.proofs.Hands.{set_word}
 
 one_up : (n a b : ℕ) → (n + b) % 2 ^ 64 ≡ a % 2 ^ 64 → ((n + 1) % 2 ^ 64 + b) % 2 ^ 64 ≡ (a + 1) % 2 ^ 64
@@ -66,30 +68,30 @@ module _ {T : Type 0} where
   taken_off_apart : (v : View T) (c k : ℕ) → k ≢ c → number (subtractions k) (subtract_view c v) ≡ number (subtractions k) v
   taken_off_apart v c k apart = let e : one_if (k == c) ≡ 0 = ap one_if (ne_eqb k c apart) in omega arith
 
-module _ {T : Type 0} (m : Meaning T) (parts : List T) (limits : List ℕ) where
+module _ {T : Type 0} (m : Meaning T) (parts : List T) (limits : List ℕ) (packed : ℕ) where
   abbrev St : Type 0
   St = State T (View T)
 
-  module _ (s : St) (l : Lawful m parts limits s) (id : ℕ) (v : View T) (c : ℕ) (seen : get_elem? s.views id ≡ some v) (near : c < length limits) where
+  module _ (s : St) (l : Lawful m parts limits packed s) (id : ℕ) (v : View T) (c : ℕ) (seen : get_elem? s.views id ≡ some v) (near : c < length limits) where
     abbrev word : ℕ
-    word = word_of (length parts + c)
+    word = word_of packed (length parts + c)
 
     abbrev found : ℕ
     found = slice_index s.words word
 
     wide : word < length s.words
-    wide = let w : length s.words ≡ word_of (length parts + length limits) = l.places.wide in omega arith
+    wide = subst (λ (n : ℕ). word < n) (sym l.places.wide) (word_rises packed (length parts + c) (length parts + length limits) (omega arith))
 
     word_now : (n : ℕ) → slice_index (set s.words word n) word ≡ n
     word_now n = get_or-set_same s.words word n 0 wide
 
-    word_other : (n k : ℕ) → k ≢ length parts + c → slice_index (set s.words word n) (word_of k) ≡ slice_index s.words (word_of k)
-    word_other n k apart = get_or-set_other s.words word (word_of k) n 0 (λ e. apart (omega arith))
+    word_other : (n k : ℕ) → k ≢ length parts + c → slice_index (set s.words word n) (word_of packed k) ≡ slice_index s.words (word_of packed k)
+    word_other n k apart = get_or-set_other s.words word (word_of packed k) n 0 (words_apart packed k (length parts + c) apart)
 
     -- a change of one view in its numbers of counters alone
     places_stay : (n : ℕ) (w : View T) → w.held ≡ v.held → w.units ≡ v.units → w.rises ≡ v.rises → w.portions ≡ v.portions → IsView m parts limits l.places.now w
-        → Places m parts limits record { words = set s.words word n; homes = s.homes; views = set s.views id w }
-    places_stay n w held units rises portions ok = same_places m parts limits s record { words = set s.words word n; homes = s.homes; views = set s.views id w } l.places refl (length-set s.words word n)
+        → Places m parts limits packed record { words = set s.words word n; homes = s.homes; views = set s.views id w }
+    places_stay n w held units rises portions ok = same_places m parts limits packed s record { words = set s.words word n; homes = s.homes; views = set s.views id w } l.places refl (length-set s.words word n)
         (λ p close. word_other n p (λ e. absurd (omega arith)))
         record {
           holding = λ p. total_kept (number (holding p)) s.views id v w seen (ap (one_at p) held);
@@ -141,7 +143,7 @@ module _ {T : Type 0} (m : Meaning T) (parts : List T) (limits : List ℕ) where
           (cases_lt (sum (low_additions c) s.views) (sum (additions c) s.views)))
           (cases_lt found (slice_index v.limits c))
 
-      adds_one : Lawful m parts limits record { words = set s.words word ((found + 1) % 2 ^ 64); homes = s.homes; views = views' }
+      adds_one : Lawful m parts limits packed record { words = set s.words word ((found + 1) % 2 ^ 64); homes = s.homes; views = views' }
       adds_one =
           let ok = l.places.each id v seen in
           let limit : slice_index v.limits c ≡ slice_index limits c = ap (λ ls. slice_index ls c) (ok.made portion).1 in
@@ -161,13 +163,13 @@ module _ {T : Type 0} (m : Meaning T) (parts : List T) (limits : List ℕ) where
                   let a = add_sum c in
                   let b = added_here v c found in
                   let d : sum (additions c) views' ≡ sum (additions c) s.views + 1 = omega arith in
-                  subst (λ (j : ℕ). (slice_index (set s.words word ((found + 1) % 2 ^ 64)) (word_of (length parts + j)) + sum (subtractions j) views') % 2 ^ 64 ≡ sum (additions j) views' % 2 ^ 64) (sym e)
+                  subst (λ (j : ℕ). (slice_index (set s.words word ((found + 1) % 2 ^ 64)) (word_of packed (length parts + j)) + sum (subtractions j) views') % 2 ^ 64 ≡ sum (additions j) views' % 2 ^ 64) (sym e)
                   (ap (λ n. (n + sum (subtractions c) views') % 2 ^ 64) (word_now ((found + 1) % 2 ^ 64)) ∙ ap (λ n. ((found + 1) % 2 ^ 64 + n) % 2 ^ 64) (sub_sum c) ∙ one_up found _ _ (l.counters.word c near) ∙ ap (λ n. n % 2 ^ 64) (sym d)))
                   (λ (f : k ≢ c).
                   let a = add_sum k in
                   let b = added_apart v c found k f in
                   let d : sum (additions k) views' ≡ sum (additions k) s.views = omega arith in
-                  ap (λ n. (n + sum (subtractions k) views') % 2 ^ 64) (word_other ((found + 1) % 2 ^ 64) (length parts + k) (λ e. f (omega arith))) ∙ ap (λ n. (slice_index s.words (word_of (length parts + k)) + n) % 2 ^ 64) (sub_sum k) ∙ l.counters.word k close ∙ ap (λ n. n % 2 ^ 64) (sym d))
+                  ap (λ n. (n + sum (subtractions k) views') % 2 ^ 64) (word_other ((found + 1) % 2 ^ 64) (length parts + k) (λ e. f (omega arith))) ∙ ap (λ n. (slice_index s.words (word_of packed (length parts + k)) + n) % 2 ^ 64) (sub_sum k) ∙ l.counters.word k close ∙ ap (λ n. n % 2 ^ 64) (sym d))
                   (cases_eq k c);
               full = λ k. ⊎_elim
                   (λ (e : k ≡ c). subst (λ (j : ℕ). sum (low_additions j) views' < sum (additions j) views' → slice_index limits j ≤ sum (low_additions j) views') (sym e) (add_full limit))
@@ -198,7 +200,7 @@ module _ {T : Type 0} (m : Meaning T) (parts : List T) (limits : List ℕ) where
       kept_low : (k : ℕ) → sum (low_additions k) (set s.views id less_one) ≡ sum (low_additions k) s.views
       kept_low k = total_kept (number (low_additions k)) s.views id v less_one seen refl
 
-      subtracts_one : Lawful m parts limits record { words = set s.words word ((found + (2 ^ 64 - 1)) % 2 ^ 64); homes = s.homes; views = set s.views id less_one }
+      subtracts_one : Lawful m parts limits packed record { words = set s.words word ((found + (2 ^ 64 - 1)) % 2 ^ 64); homes = s.homes; views = set s.views id less_one }
       subtracts_one =
           let ok = l.places.each id v seen in
           let n : ℕ = (found + (2 ^ 64 - 1)) % 2 ^ 64 in
@@ -219,13 +221,13 @@ module _ {T : Type 0} (m : Meaning T) (parts : List T) (limits : List ℕ) where
                   let a = total_set (number (subtractions c)) s.views id v less_one seen in
                   let b = taken_off v c in
                   let d : sum (subtractions c) views ≡ sum (subtractions c) s.views + 1 = omega arith in
-                  subst (λ (j : ℕ). (slice_index (set s.words word n) (word_of (length parts + j)) + sum (subtractions j) views) % 2 ^ 64 ≡ sum (additions j) views % 2 ^ 64) (sym e)
+                  subst (λ (j : ℕ). (slice_index (set s.words word n) (word_of packed (length parts + j)) + sum (subtractions j) views) % 2 ^ 64 ≡ sum (additions j) views % 2 ^ 64) (sym e)
                   (ap (λ x. (x + sum (subtractions c) views) % 2 ^ 64) (word_now n) ∙ ap (λ x. (n + x) % 2 ^ 64) d ∙ one_down found _ _ (l.counters.word c near) ∙ ap (λ x. x % 2 ^ 64) (sym (kept_sum c))))
                   (λ (f : k ≢ c).
                   let a = total_set (number (subtractions k)) s.views id v less_one seen in
                   let b = taken_off_apart v c k f in
                   let d : sum (subtractions k) views ≡ sum (subtractions k) s.views = omega arith in
-                  ap (λ x. (x + sum (subtractions k) views) % 2 ^ 64) (word_other n (length parts + k) (λ e. f (omega arith))) ∙ ap (λ x. (slice_index s.words (word_of (length parts + k)) + x) % 2 ^ 64) d ∙ l.counters.word k close ∙ ap (λ x. x % 2 ^ 64) (sym (kept_sum k)))
+                  ap (λ x. (x + sum (subtractions k) views) % 2 ^ 64) (word_other n (length parts + k) (λ e. f (omega arith))) ∙ ap (λ x. (slice_index s.words (word_of packed (length parts + k)) + x) % 2 ^ 64) d ∙ l.counters.word k close ∙ ap (λ x. x % 2 ^ 64) (sym (kept_sum k)))
                   (cases_eq k c);
               full = λ k less. let a = kept_sum k in let b = kept_low k in let g = l.counters.full k (omega arith) in omega arith;
             };
@@ -245,47 +247,47 @@ module _ {T : Type 0} (m : Meaning T) (parts : List T) (limits : List ℕ) where
           full = λ less. let f = l.counters.full c (omega arith) in omega arith;
         }
 
-module _ {T : Type 0} (m : Meaning T) (parts : List T) (limits : List ℕ) (slots id c : ℕ) (me : Me T (View T)) (own : me.0.parts ≡ parts) (own' : me.0.limits ≡ limits) (portion : 0 < me.0.portions) (near : c < length limits) where
+-- The step on the counter c of a seat, at a number that is its word
+module _ {T : Type 0} (m : Meaning T) (parts : List T) (limits : List ℕ) (packed slots id c : ℕ) (me : Me T (View T)) (own : me.0.parts ≡ parts) (own' : me.0.limits ≡ limits) (portion : 0 < me.0.portions) (near : c < length limits) where
   abbrev at_word : ℕ
-  at_word = word_of (length parts + c)
+  at_word = word_of packed (length parts + c)
 
-  -- the counter of the step's word
-  counter_is : at_word / 16 - length me.0.parts ≡ c
-  counter_is = let e = ap length own in omega arith
+  told_moment : (s : State T (View T)) → Places m parts limits packed s → get_elem? s.views id ≡ some me.0 → SeesMoment m me
+  told_moment s r seen = subst (λ (k : List T × List ℕ). Moment m k.0 k.1 me.0.units) (λ i. (sym own i, sym own' i)) (momentous m parts limits s r id me.0 seen)
 
-  adds_at : Allows (Lawful m parts limits) slots id me at_word (λ n. (n + 1) % 2 ^ 64) (added m (step slots at_word 1 0 none) me)
+  adds_at : Allows (Lawful m parts limits packed) slots id me at_word (λ n. (n + 1) % 2 ^ 64) (added m c (step slots at_word 1 0 none) me)
   adds_at s l _ seen small = (
     add_view c (slice_index s.words at_word) me.0,
     keeps,
     tt,
-    adds_one m parts limits s l id me.0 c seen near small portion,
-    λ i. (add_view (sym counter_is i) (slice_index s.words at_word) me.0, me.1),
+    adds_one m parts limits packed s l id me.0 c seen near small portion,
+    (refl, told_moment s l.places seen),
   )
 
-  subtracts_at : number (subtractions c) me.0 < number (additions c) me.0 → Allows (Lawful m parts limits) slots id me at_word (λ n. (n + (2 ^ 64 - 1)) % 2 ^ 64) (subtracted m (step slots at_word 1 0 none) me)
+  subtracts_at : number (subtractions c) me.0 < number (additions c) me.0 → Allows (Lawful m parts limits packed) slots id me at_word (λ n. (n + (2 ^ 64 - 1)) % 2 ^ 64) (subtracted m c (step slots at_word 1 0 none) me)
   subtracts_at more s l _ seen small = (
     subtract_view c me.0,
     keeps,
     tt,
-    subtracts_one m parts limits s l id me.0 c seen near portion more,
-    λ i. (subtract_view (sym counter_is i) me.0, me.1),
+    subtracts_one m parts limits packed s l id me.0 c seen near portion more,
+    (refl, told_moment s l.places seen),
   )
 
-  loads_at : Allows (Lawful m parts limits) slots id me at_word (λ n. n) (loaded m (step slots at_word 0 0 none) me)
+  loads_at : Allows (Lawful m parts limits packed) slots id me at_word (λ n. n) (loaded m c (step slots at_word 0 0 none) me)
   loads_at s l _ seen small = (
     me.0,
     keeps,
     tt,
-    subst (λ (k : List ℕ × List (View T)). Lawful m parts limits record { words = k.0; homes = s.homes; views = k.1 }) (λ i. (sym (set_word s.words at_word (slice_index s.words at_word) refl) i, sym (set_again s.views id me.0 seen) i)) l,
-    (refl, λ mine. subst (λ (k : ℕ). Loaded k (slice_index s.words at_word) me.0) (sym counter_is) (told_load m parts limits s l id me.0 c seen near small own' mine)),
+    subst (λ (k : List ℕ × List (View T)). Lawful m parts limits packed record { words = k.0; homes = s.homes; views = k.1 }) (λ i. (sym (set_word s.words at_word (slice_index s.words at_word) refl) i, sym (set_again s.views id me.0 seen) i)) l,
+    (refl, told_load m parts limits packed s l id me.0 c seen near small own', told_moment s l.places seen),
   )
 
-  -- the same at a number that is that word
-  pub adds : (i : ℕ) → i ≡ at_word → Allows (Lawful m parts limits) slots id me i (λ n. (n + 1) % 2 ^ 64) (added m (step slots i 1 0 none) me)
-  adds i is = subst (λ (k : ℕ). Allows (Lawful m parts limits) slots id me k (λ n. (n + 1) % 2 ^ 64) (added m (step slots k 1 0 none) me)) (sym is) adds_at
+  module _ (i n : ℕ) (word : i ≡ at_word) (named : n ≡ c) where
+    pub adds : Allows (Lawful m parts limits packed) slots id me i (λ k. (k + 1) % 2 ^ 64) (added m n (step slots i 1 0 none) me)
+    adds = subst (λ (k : ℕ × ℕ). Allows (Lawful m parts limits packed) slots id me k.0 (λ r. (r + 1) % 2 ^ 64) (added m k.1 (step slots k.0 1 0 none) me)) (λ j. (sym word j, sym named j)) adds_at
 
-  pub subtracts : (i : ℕ) → i ≡ at_word → number (subtractions c) me.0 < number (additions c) me.0 → Allows (Lawful m parts limits) slots id me i (λ n. (n + (2 ^ 64 - 1)) % 2 ^ 64) (subtracted m (step slots i 1 0 none) me)
-  subtracts i is more = subst (λ (k : ℕ). Allows (Lawful m parts limits) slots id me k (λ n. (n + (2 ^ 64 - 1)) % 2 ^ 64) (subtracted m (step slots k 1 0 none) me)) (sym is) (subtracts_at more)
+    pub subtracts : number (subtractions c) me.0 < number (additions c) me.0 → Allows (Lawful m parts limits packed) slots id me i (λ k. (k + (2 ^ 64 - 1)) % 2 ^ 64) (subtracted m n (step slots i 1 0 none) me)
+    subtracts more = subst (λ (k : ℕ × ℕ). Allows (Lawful m parts limits packed) slots id me k.0 (λ r. (r + (2 ^ 64 - 1)) % 2 ^ 64) (subtracted m k.1 (step slots k.0 1 0 none) me)) (λ j. (sym word j, sym named j)) (subtracts_at more)
 
-  pub loads : (i : ℕ) → i ≡ at_word → Allows (Lawful m parts limits) slots id me i (λ n. n) (loaded m (step slots i 0 0 none) me)
-  loads i is = subst (λ (k : ℕ). Allows (Lawful m parts limits) slots id me k (λ n. n) (loaded m (step slots k 0 0 none) me)) (sym is) loads_at
+    pub loads : Allows (Lawful m parts limits packed) slots id me i (λ k. k) (loaded m n (step slots i 0 0 none) me)
+    loads = subst (λ (k : ℕ × ℕ). Allows (Lawful m parts limits packed) slots id me k.0 (λ r. r) (loaded m k.1 (step slots k.0 0 0 none) me)) (λ j. (sym word j, sym named j)) loads_at

@@ -15,6 +15,7 @@ use Rattle.pool_hall.specs.Tally.{holding, having, counted, additions, low_addit
 use Rattle.pool_hall.specs.Meaning.{Meaning, StandsAt}
 use Rattle.pool_hall.specs.Rule.{word_of, away_of, out, keeping, IsView, Places, Counters}
 use Rattle.pool_hall.proofs.Totals.{inside, total_set, total_only}
+use Rattle.pool_hall.proofs.Words.{word_rises, words_apart}
 
 -- the sums over views that the rule on places speaks of are the same
 pub record EvenPlaces {T : Type 0} (old new : List (View T)) : Type 0 where
@@ -33,9 +34,10 @@ module _ {T : Type 0} (m : Meaning T) (parts : List T) (limits : List ℕ) where
   abbrev St : Type 0
   St = State T (View T)
 
-  pub same_places : (s t : St) (r : Places m parts limits s) → t.homes ≡ s.homes → length t.words ≡ length s.words → ((p : ℕ) → p < length parts → slice_index t.words (word_of p) ≡ slice_index s.words (word_of p))
-      → EvenPlaces s.views t.views → ((id : ℕ) (v : View T) → get_elem? t.views id ≡ some v → IsView m parts limits r.now v) → Places m parts limits t
-  same_places s t r homes long words even each = record {
+  pub same_places : (packed : ℕ) (s t : St) (r : Places m parts limits packed s) → t.homes ≡ s.homes → length t.words ≡ length s.words
+      → ((p : ℕ) → p < length parts → slice_index t.words (word_of packed p) ≡ slice_index s.words (word_of packed p))
+      → EvenPlaces s.views t.views → ((id : ℕ) (v : View T) → get_elem? t.views id ≡ some v → IsView m parts limits r.now v) → Places m parts limits packed t
+  same_places packed s t r homes long words even each = record {
     now = r.now;
     wide = long ∙ r.wide;
     roomy = ap length homes ∙ r.roomy;
@@ -54,9 +56,9 @@ module _ {T : Type 0} (m : Meaning T) (parts : List T) (limits : List ℕ) where
       near : (p : ℕ) (x : T) → get_elem? r.now p ≡ some x → p < length parts
       near p x here = let all : length r.now ≡ length parts = r.all in let h = inside r.now p x here in omega arith
 
-  pub same_counters : (s t : St) → Counters m parts limits s → ((c : ℕ) → c < length limits → slice_index t.words (word_of (length parts + c)) ≡ slice_index s.words (word_of (length parts + c)))
-      → EvenCounters s.views t.views → Counters m parts limits t
-  same_counters s t k words even = record {
+  pub same_counters : (packed : ℕ) (s t : St) → Counters m parts limits packed s → ((c : ℕ) → c < length limits → slice_index t.words (word_of packed (length parts + c)) ≡ slice_index s.words (word_of packed (length parts + c)))
+      → EvenCounters s.views t.views → Counters m parts limits packed t
+  same_counters packed s t k words even = record {
     word = λ c near. let a = even.additions c in let b = even.subtractions c in let w = words c near in let o = k.word c near in omega arith;
     full = λ c less. let a = even.additions c in let l = even.low c in let o = k.full c (omega arith) in omega arith;
   }
@@ -78,13 +80,13 @@ module _ {T : Type 0} (m : Meaning T) (parts : List T) (limits : List ℕ) where
     pub portions : w.portions ≡ v.portions
     pub view : IsView m parts limits (set now p y) w
 
-  module _ (s : St) (r : Places m parts limits s) (id : ℕ) (v w : View T) (p n : ℕ) (x y : T) (homes' : List (maybe.Option T)) (seen : get_elem? s.views id ≡ some v) (near : p < length parts) (here : get_elem? r.now p ≡ some x)
+  module _ (packed : ℕ) (s : St) (r : Places m parts limits packed s) (id : ℕ) (v w : View T) (p n : ℕ) (x y : T) (homes' : List (maybe.Option T)) (seen : get_elem? s.views id ≡ some v) (near : p < length parts) (here : get_elem? r.now p ≡ some x)
       (alone : (j : ℕ) (u : View T) → j ≢ id → get_elem? s.views j ≡ some u → number (holding p) u ≡ 0) (mv : Moves r.now v w p n x y) where
     abbrev now' : List T
     now' = set r.now p y
 
     abbrev t : St
-    t = record { words = set s.words (word_of p) n; homes = homes'; views = set s.views id w }
+    t = record { words = set s.words (word_of packed p) n; homes = homes'; views = set s.views id w }
 
     placed : p < length r.now
     placed = let all : length r.now ≡ length parts = r.all in omega arith
@@ -103,11 +105,11 @@ module _ {T : Type 0} (m : Meaning T) (parts : List T) (limits : List ℕ) where
     unheld : (q : ℕ) → q ≢ p → sum (holding q) t.views ≡ sum (holding q) s.views
     unheld q apart = let b = total_set (number (holding q)) s.views id v w seen in let c = mv.elsewhere q apart in omega arith
 
-    word_apart : (q : ℕ) → q ≢ p → slice_index t.words (word_of q) ≡ slice_index s.words (word_of q)
-    word_apart q apart = get_or-set_other s.words (word_of p) (word_of q) n 0 (λ e. apart (omega arith))
+    word_apart : (q : ℕ) → q ≢ p → slice_index t.words (word_of packed q) ≡ slice_index s.words (word_of packed q)
+    word_apart q apart = get_or-set_other s.words (word_of packed p) (word_of packed q) n 0 (words_apart packed q p apart)
 
-    word_here : slice_index t.words (word_of p) ≡ n
-    word_here = let wide : length s.words ≡ word_of (length parts + length limits) = r.wide in get_or-set_same s.words (word_of p) n 0 (omega arith)
+    word_here : slice_index t.words (word_of packed p) ≡ n
+    word_here = get_or-set_same s.words (word_of packed p) n 0 (subst (λ (k : ℕ). word_of packed p < k) (sym r.wide) (word_rises packed p (length parts + length limits) (omega arith)))
 
     none_of : (u : UnitName) (q : ℕ) (z : T) → StandsAt m parts limits q z → m.place parts limits u ≢ q → times u (m.away z) ≡ 0
     none_of u q z ok apart = ⊎_elim (λ (some' : 0 < times u (m.away z)). absurd (apart (ok.own u some'))) (λ (none' : times u (m.away z) ≤ 0). omega arith) (cases_lt 0 (times u (m.away z)))
@@ -157,22 +159,22 @@ module _ {T : Type 0} (m : Meaning T) (parts : List T) (limits : List ℕ) where
       low = ok.low;
     }
 
-    pub changed : length homes' ≡ length s.homes → ((q : ℕ) → q ≢ p → get_elem? homes' q ≡ get_elem? s.homes q) → (n ≡ 0 → get_elem? homes' p ≡ some (some y)) → Places m parts limits t
+    pub changed : length homes' ≡ length s.homes → ((q : ℕ) → q ≢ p → get_elem? homes' q ≡ get_elem? s.homes q) → (n ≡ 0 → get_elem? homes' p ≡ some (some y)) → Places m parts limits packed t
     changed long homes home = record {
       now = now';
-      wide = length-set s.words (word_of p) n ∙ r.wide;
+      wide = length-set s.words (word_of packed p) n ∙ r.wide;
       roomy = long ∙ r.roomy;
       all = length-set r.now p y ∙ r.all;
       part = at_now (λ q z. StandsAt m parts limits q z) mv.stands (λ q z _ e. r.part q z e);
       lock = λ q close. ⊎_elim
-          (λ (e : q ≡ p). subst (λ (k : ℕ). slice_index t.words (word_of k) ≡ sum (holding k) t.views) (sym e) (word_here ∙ sym held_by))
+          (λ (e : q ≡ p). subst (λ (k : ℕ). slice_index t.words (word_of packed k) ≡ sum (holding k) t.views) (sym e) (word_here ∙ sym held_by))
           (λ (f : q ≢ p). word_apart q f ∙ r.lock q close ∙ sym (unheld q f))
           (cases_eq q p);
       once = λ q. ⊎_elim
           (λ (e : q ≡ p). subst (λ (k : ℕ). sum (holding k) t.views ≤ 1) (sym e) (let a = held_by in let b : n ≤ 1 = mv.small in omega arith))
           (λ (f : q ≢ p). let a = unheld q f in let b = r.once q in omega arith)
           (cases_eq q p);
-      home = at_now (λ q z. slice_index t.words (word_of q) ≡ 0 → get_elem? homes' q ≡ some (some z)) (λ free. home (sym word_here ∙ free)) (λ q z f e free. homes q f ∙ r.home q z e (sym (word_apart q f) ∙ free));
+      home = at_now (λ q z. slice_index t.words (word_of packed q) ≡ 0 → get_elem? homes' q ≡ some (some z)) (λ free. home (sym word_here ∙ free)) (λ q z f e free. homes q f ∙ r.home q z e (sym (word_apart q f) ∙ free));
       unit = unit_after;
       count = λ q i z e. at_now (λ q z. slice_index (m.counts z) i ≡ sum (counted q i) t.views % 2 ^ 64)
           (let a = counted_here i in let b = r.count p i x here in let c = mv.count i in omega arith)

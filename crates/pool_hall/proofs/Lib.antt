@@ -1,7 +1,10 @@
 pub mod Totals
+pub mod Words
 pub mod Units
 pub mod Keeps
+pub mod Moments
 pub mod Told
+pub mod Takings
 pub mod Hands
 pub mod Sharing
 pub mod Opening

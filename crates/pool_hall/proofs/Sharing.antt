@@ -7,13 +7,13 @@ use Rattle.atomic_table.specs.Table.{State, Splits, Joins}
 use Rattle.atomic_table.proofs.Lists.{at_set, at_snoc, set_else}
 use Rattle.pool_hall.specs.declared.view.View.{View}
 use Rattle.pool_hall.specs.Sum.{one_if, often}
-use Rattle.pool_hall.specs.Unit.{times, pick_of}
 use Rattle.pool_hall.specs.Tally.{Tally, holding, having, counted, additions, low_additions, subtractions, portion_count, rise_at, one_at, number, sum}
 use Rattle.pool_hall.specs.Meaning.{Meaning}
 use Rattle.pool_hall.specs.Rule.{nobody, IsView, Lawful}
 use Rattle.pool_hall.specs.Step.{left_with, newcomer, joined}
 use Rattle.pool_hall.proofs.Totals.{total_append, total_split, total_joined}
 use Rattle.pool_hall.proofs.Units.{times_append}
+use Rattle.pool_hall.proofs.Moments.{beside_append}
 use Rattle.pool_hall.proofs.Keeps.{EvenPlaces, EvenCounters, same_places, same_counters}
 
 module _ {T : Type 0} where
@@ -44,16 +44,16 @@ module _ {T : Type 0} where
   even_counters : (old new : List (View T)) → ((t : Tally) → sum t new ≡ sum t old) → EvenCounters old new
   even_counters old new e = record { additions = λ c. e (additions c); low = λ c. e (low_additions c); subtractions = λ c. e (subtractions c) }
 
-module _ {T : Type 0} (m : Meaning T) (parts : List T) (limits : List ℕ) where
+module _ {T : Type 0} (m : Meaning T) (parts : List T) (limits : List ℕ) (packed : ℕ) where
   abbrev St : Type 0
   St = State T (View T)
 
   -- other views with the same sums keep the rule
-  reviewed : (s : St) (l : Lawful m parts limits s) (views : List (View T)) → ((t : Tally) → sum t views ≡ sum t s.views) → ((id : ℕ) (v : View T) → get_elem? views id ≡ some v → IsView m parts limits l.places.now v)
-      → Lawful m parts limits record { words = s.words; homes = s.homes; views = views }
+  reviewed : (s : St) (l : Lawful m parts limits packed s) (views : List (View T)) → ((t : Tally) → sum t views ≡ sum t s.views) → ((id : ℕ) (v : View T) → get_elem? views id ≡ some v → IsView m parts limits l.places.now v)
+      → Lawful m parts limits packed record { words = s.words; homes = s.homes; views = views }
   reviewed s l views even each = record {
-    places = same_places m parts limits s record { words = s.words; homes = s.homes; views = views } l.places refl refl (λ p near. refl) (even_places s.views views even) each;
-    counters = same_counters m parts limits s record { words = s.words; homes = s.homes; views = views } l.counters (λ c near. refl) (even_counters s.views views even);
+    places = same_places m parts limits packed s record { words = s.words; homes = s.homes; views = views } l.places refl refl (λ p near. refl) (even_places s.views views even) each;
+    counters = same_counters m parts limits packed s record { words = s.words; homes = s.homes; views = views } l.counters (λ c near. refl) (even_counters s.views views even);
   }
 
   left_view : (now : List T) (v : View T) (n : ℕ) → n < v.portions → IsView m parts limits now v → IsView m parts limits now (left_with n v)
@@ -86,13 +86,7 @@ module _ {T : Type 0} (m : Meaning T) (parts : List T) (limits : List ℕ) where
     spent = λ e. absurd (omega arith);
     made = λ _. a.made portion;
     held = a.held;
-    beside = λ u region h.
-        let e = times_append u v.units w.units in
-        let f = times_append (pick_of u) v.units w.units in
-        ⊎_elim
-        (λ (here : 0 < times u v.units). let k = a.beside u region here in omega arith)
-        (λ (not : times u v.units ≤ 0). let k = b.beside u region (omega arith) in omega arith)
-        (cases_lt 0 (times u v.units));
+    beside = beside_append v.units w.units a.beside b.beside;
     topped = λ p x h here.
         let e = total_append (λ k. one_if (p == k)) v.topped w.topped in
         ⊎_elim
@@ -103,7 +97,7 @@ module _ {T : Type 0} (m : Meaning T) (parts : List T) (limits : List ℕ) where
     low = λ c. let e = total_append (λ k. one_if (c == k)) v.added w.added in let f = total_append (λ k. one_if (c == k)) v.low w.low in let g = a.low c in let h = b.low c in omega arith;
   }
 
-  pub splits : (id n : ℕ) (v : View T) → 0 < n → n < v.portions → Splits (Lawful m parts limits) id v (left_with n v) (newcomer n v)
+  pub splits : (id n : ℕ) (v : View T) → 0 < n → n < v.portions → Splits (Lawful m parts limits packed) id v (left_with n v) (newcomer n v)
   splits id n v some' less s l seen =
       let ok = l.places.each id v seen in
       reviewed s l (set s.views id (left_with n v) ++ newcomer n v ∷ []) (λ t. total_split (number t) s.views id v (left_with n v) (newcomer n v) seen (split_number t n v (omega arith)))
@@ -116,7 +110,7 @@ module _ {T : Type 0} (m : Meaning T) (parts : List T) (limits : List ℕ) where
       (λ (new : newcomer n v ≡ u). subst (IsView m parts limits l.places.now) new (new_view l.places.now v n some' less ok))
       (at_snoc (set s.views id (left_with n v)) (newcomer n v) u j e))
 
-  pub joins : (id other : ℕ) (v w : View T) → 0 < v.portions → w.held ≡ None → Joins (Lawful m parts limits) id v other w (joined v w) nobody
+  pub joins : (id other : ℕ) (v w : View T) → 0 < v.portions → w.held ≡ None → Joins (Lawful m parts limits packed) id v other w (joined v w) nobody
   joins id other v w portion free s l seen apart there =
       let there' : get_elem? s.views other ≡ some w = sym (set_else s.views id other (joined v w) apart) ∙ there in
       let a = l.places.each id v seen in

@@ -12,7 +12,9 @@ use Rattle.pool_hall.specs.Tally.{Tally, having, counted, portion_count, number,
 use Rattle.pool_hall.specs.Meaning.{Meaning}
 use Rattle.pool_hall.specs.Rule.{nobody, away_of, out, keeping, Places}
 use Rattle.pool_hall.specs.Step.{Taken}
-use Rattle.pool_hall.proofs.Totals.{total_at, total_two, total_some, total_alone}
+use Rattle.pool_hall.specs.Moment.{Moment}
+use Rattle.pool_hall.proofs.Moments.{units_but, but_one, beside_but}
+use Rattle.pool_hall.proofs.Totals.{got, gotten, total_at, total_two, total_some, total_alone}
 
 -- a view with all portions has all of what views have
 pub has_all : {T : Type 0} (t : Tally) → number t (nobody {T = T}) ≡ 0 → (views : List (View T)) (id : ℕ) (v : View T) → get_elem? views id ≡ some v → sum portion_count views ≡ all_portions → v.portions ≡ all_portions
@@ -20,7 +22,7 @@ pub has_all : {T : Type 0} (t : Tally) → number t (nobody {T = T}) ≡ 0 → (
 has_all {T} t none' views id v seen all mine spent =
     total_alone (number t) (number portion_count) views id v seen (all ∙ sym mine) (λ j w at' zero'. ap (number t) (spent j w at' zero') ∙ none')
 
-module _ {T : Type 0} (m : Meaning T) (parts : List T) (limits : List ℕ) (s : State T (View T)) (r : Places m parts limits s) where
+module _ {T : Type 0} (m : Meaning T) (parts : List T) (limits : List ℕ) {packed : ℕ} (s : State T (View T)) (r : Places m parts limits packed s) where
   out_once : (u : UnitName) → out m parts limits u r.now ≤ 1
   out_once u = go (m.place parts limits u) (get_elem? r.now (m.place parts limits u)) refl
     where
@@ -34,6 +36,18 @@ module _ {T : Type 0} (m : Meaning T) (parts : List T) (limits : List ℕ) (s : 
 
   out_at : (u : UnitName) (p : ℕ) (x : T) → get_elem? r.now p ≡ some x → m.place parts limits u ≡ p → out m parts limits u r.now ≡ times u (m.away x)
   out_at u p x here is = ap (away_of m parts limits u) (ap (get_elem? r.now) is ∙ here)
+
+  -- what a seat is told of the moment
+  abbrev pub momentous : (id : ℕ) (v : View T) → get_elem? s.views id ≡ some v → Moment m parts limits v.units
+  momentous id v seen = record {
+    now = r.now;
+    others = units_but id s.views;
+    all = r.all;
+    stand = λ q y e. r.part q y (gotten r.now q y e);
+    unit = λ u. let a = but_one u s.views id v seen in let b = r.unit u in omega arith;
+    own = (r.each id v seen).beside;
+    beside = beside_but s.views id (λ j w e. (r.each j w e).beside);
+  }
 
   module _ (id p : ℕ) (v : View T) (x : T) (seen : get_elem? s.views id ≡ some v) (here : get_elem? r.now p ≡ some x) where
     -- a region unit that is away, whose pick unit the view has, is with no other seat and with no part
@@ -96,4 +110,6 @@ module _ {T : Type 0} (m : Meaning T) (parts : List T) (limits : List ℕ) (s : 
       topped = λ noted. (r.each id v seen).topped p x noted here;
       count = λ mine i. r.count p i x here ∙ ap (λ n. n % 2 ^ 64) (told_all mine i);
       exact = λ mine steady i. r.exact p i x here steady ∙ told_all mine i;
+      moment = momentous id v seen;
+      here = got r.now p x here;
     }

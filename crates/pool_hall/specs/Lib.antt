@@ -3,6 +3,8 @@ pub mod Unit
 pub mod Tally
 pub mod Meaning
 pub mod Rule
+pub mod Moment
+pub mod Ending
 pub mod Step
 pub mod Room
 pub mod Held

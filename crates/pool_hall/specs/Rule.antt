@@ -1,5 +1,5 @@
 -- The rule of a hall: what is true of its words, the parts at home and the views of all seats, between any two steps.
-use Rattle.std.specs.Prelude.{◌≡◌, ℕ, ◌+◌, ◌*◌, ◌%◌, ◌^◌, ◌<◌, ◌≤◌, true, List, [], length, IfSome, None, slice_index}
+use Rattle.std.specs.Prelude.{◌≡◌, ℕ, ◌+◌, ◌*◌, ◌-◌, ◌%◌, ◌^◌, ◌<◌, ◌≤◌, true, List, [], length, IfSome, None, slice_index}
 use mathlib.Core.Option.{Option, some, none}
 use lib.ListN.{get_elem?}
 use Rattle.atomic_table.specs.Table.{State}
@@ -10,9 +10,9 @@ use Rattle.pool_hall.specs.Unit.{times, Beside}
 use Rattle.pool_hall.specs.Tally.{holding, having, counted, additions, low_additions, subtractions, portion_count, number, sum, all_portions}
 use Rattle.pool_hall.specs.Meaning.{Meaning, StandsAt}
 
--- The word of the place n, and of the counter c where n is the number of places and c. Words 128 bytes apart share no cache line
-abbrev pub word_of : ℕ → ℕ
-word_of n = n * 16
+-- The word of the place n, and of the counter c where n is the number of places and c. The words of the first `packed` places lie side by side, and those after them 128 bytes apart, so that these share no cache line
+abbrev pub word_of : ℕ → ℕ → ℕ
+word_of packed n = n + 15 * (n + 1 - packed)
 
 -- the view of a seat that has no portion: it is empty
 abbrev pub nobody : {T : Type 0} → View T
@@ -55,15 +55,15 @@ module _ {T : Type 0} (m : Meaning T) (parts : List T) (limits : List ℕ) where
   -- The rule on places, units and counts. A place's word is how many views hold it, 0 or 1; at 0 its part is at home.
   -- Each unit is with the views and kept by the parts as often as the part at its place has it away. Each count is the
   -- sum of its rises in the views, modulo 2^64, and exactly that for a steady part. All portions add up to the whole.
-  pub record Places (s : State T (View T)) : Type 0 where
+  pub record Places (packed : ℕ) (s : State T (View T)) : Type 0 where
     pub now : List T
-    pub wide : length s.words ≡ word_of (length parts + length limits)
+    pub wide : length s.words ≡ word_of packed (length parts + length limits)
     pub roomy : length s.homes ≡ length parts
     pub all : length now ≡ length parts
     pub part : (p : ℕ) (x : T) → get_elem? now p ≡ some x → StandsAt m parts limits p x
-    pub lock : (p : ℕ) → p < length parts → slice_index s.words (word_of p) ≡ sum (holding p) s.views
+    pub lock : (p : ℕ) → p < length parts → slice_index s.words (word_of packed p) ≡ sum (holding p) s.views
     pub once : (p : ℕ) → sum (holding p) s.views ≤ 1
-    pub home : (p : ℕ) (x : T) → get_elem? now p ≡ some x → slice_index s.words (word_of p) ≡ 0 → get_elem? s.homes p ≡ some (some x)
+    pub home : (p : ℕ) (x : T) → get_elem? now p ≡ some x → slice_index s.words (word_of packed p) ≡ 0 → get_elem? s.homes p ≡ some (some x)
     pub unit : (u : UnitName) → sum (having u) s.views + keeping u now ≡ out u now
     pub count : (p i : ℕ) (x : T) → get_elem? now p ≡ some x → slice_index (m.counts x) i ≡ sum (counted p i) s.views % 2 ^ 64
     pub exact : (p i : ℕ) (x : T) → get_elem? now p ≡ some x → m.steady x ≡ true → slice_index (m.counts x) i ≡ sum (counted p i) s.views
@@ -71,11 +71,11 @@ module _ {T : Type 0} (m : Meaning T) (parts : List T) (limits : List ℕ) where
     pub each : (id : ℕ) (v : View T) → get_elem? s.views id ≡ some v → IsView now v
 
   -- The rule on counters: each word is the additions less the subtractions, modulo 2^64, and where some addition was not low, as many were low as the limit says
-  pub record Counters (s : State T (View T)) : Type 0 where
-    pub word : (c : ℕ) → c < length limits → (slice_index s.words (word_of (length parts + c)) + sum (subtractions c) s.views) % 2 ^ 64 ≡ sum (additions c) s.views % 2 ^ 64
+  pub record Counters (packed : ℕ) (s : State T (View T)) : Type 0 where
+    pub word : (c : ℕ) → c < length limits → (slice_index s.words (word_of packed (length parts + c)) + sum (subtractions c) s.views) % 2 ^ 64 ≡ sum (additions c) s.views % 2 ^ 64
     pub full : (c : ℕ) → sum (low_additions c) s.views < sum (additions c) s.views → slice_index limits c ≤ sum (low_additions c) s.views
 
   -- The whole rule of a hall: of its places with their parts, and of its counters.
-  pub record Lawful (s : State T (View T)) : Type 0 where
-    pub places : Places s
-    pub counters : Counters s
+  pub record Lawful (packed : ℕ) (s : State T (View T)) : Type 0 where
+    pub places : Places packed s
+    pub counters : Counters packed s

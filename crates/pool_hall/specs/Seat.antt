@@ -17,6 +17,10 @@ module _ {T : Type 0} where
   abbrev pub limits_of : Hall T → List ℕ
   limits_of h = limits_in h.table.shared.key
 
+  -- how many places at the front have their words side by side
+  abbrev pub packed_of : Hall T → ℕ
+  packed_of h = h.table.shared.key.packed
+
   -- what the seat knows
   abbrev pub view : HallSeat T → View T
   view s = s.seat.me.0

@@ -1,5 +1,5 @@
 -- What each step does to a view, what it needs, and what it tells.
-use Rattle.std.specs.Prelude.{◌≡◌, ◌≢◌, ℕ, ◌+◌, ◌-◌, ◌/◌, ◌%◌, ◌^◌, ◌<◌, ◌≤◌, if◌then◌else◌, nat_lt, true, List, [], ◌∷◌, ◌++◌, length, Some, None, slice_index}
+use Rattle.std.specs.Prelude.{◌≡◌, ◌≢◌, ℕ, ◌+◌, ◌-◌, ◌%◌, ◌^◌, ◌<◌, ◌≤◌, if◌then◌else◌, nat_lt, true, List, [], ◌∷◌, ◌++◌, Some, None, slice_get, slice_index}
 use Rattle.atomic_table.specs.Table.{Me, Step}
 use Rattle.pool_hall.specs.declared.unit_name.UnitName.{UnitName}
 use Rattle.pool_hall.specs.declared.view.HeldPart.{HeldPart}
@@ -8,6 +8,7 @@ use Rattle.pool_hall.specs.Sum.{often}
 use Rattle.pool_hall.specs.Unit.{times, minus, pick_of, Beside}
 use Rattle.pool_hall.specs.Tally.{counted, additions, low_additions, subtractions, number, all_portions}
 use Rattle.pool_hall.specs.Meaning.{Meaning, StandsAt}
+use Rattle.pool_hall.specs.Moment.{Moment}
 
 module _ {T : Type 0} where
   -- A part as it was taken from its place.
@@ -84,6 +85,9 @@ module _ {T : Type 0} (m : Meaning T) where
     -- a seat with all portions knows the counts
     pub count : v.portions ≡ all_portions → (i : ℕ) → slice_index (m.counts x) i ≡ number (counted p i) v % 2 ^ 64
     pub exact : v.portions ≡ all_portions → m.steady x ≡ true → (i : ℕ) → slice_index (m.counts x) i ≡ number (counted p i) v
+    -- all parts and all units at the moment of the take, and x among the parts
+    pub moment : Moment m parts limits v.units
+    pub here : slice_get moment.now p ≡ Some x
 
   -- What a put of y at p needs, where x was taken and the view has the units us
   pub record MayPut (parts : List T) (limits : List ℕ) (p : ℕ) (x y : T) (us : List UnitName) : Type 0 where
@@ -101,26 +105,26 @@ module _ {T : Type 0} (m : Meaning T) where
   abbrev Sits : Type 0
   Sits = Me T (View T)
 
-  -- a swap found 0, and the seat holds the place, or it found another number, and nothing changed
-  abbrev pub took : Step T → Sits → ℕ → Sits → Type 0
-  took st v r w = (r ≡ 0 → (x : T) × (w ≡ (with_held (st.word / 16) x v.0, (st.word / 16, x) ∷ v.1)) × Taken v.0.parts v.0.limits (st.word / 16) x v.0) × (r ≢ 0 → w ≡ v)
+  -- a swap at the place p found 0, and the seat holds the place, or it found another number, and nothing changed
+  abbrev pub took : ℕ → Step T → Sits → ℕ → Sits → Type 0
+  took p st v r w = (r ≡ 0 → (x : T) × (w ≡ (with_held p x v.0, (p, x) ∷ v.1)) × Taken v.0.parts v.0.limits p x v.0) × (r ≢ 0 → w ≡ v)
 
   -- the part that the seat held is home, and the seat holds no place
   abbrev pub gave : Step T → Sits → ℕ → Sits → Type 0
   gave st v r w = (p : ℕ) (x y : T) → v.0.held ≡ Some (held_at p x) → v.1 ≡ (p, y) ∷ [] → w ≡ (put_view p x y v.0, [])
 
-  -- the counter of the step's word
-  abbrev pub counter_of : Step T → Sits → ℕ
-  counter_of st v = st.word / 16 - length v.0.parts
+  -- What a step on a counter tells of the moment: all parts and all units.
+  abbrev pub SeesMoment : Sits → Type 0
+  SeesMoment v = Moment m v.0.parts v.0.limits v.0.units
 
-  -- What an addition on a counter changes: the adder's view notes the counter and whether the addition was low.
-  abbrev pub added : Step T → Sits → ℕ → Sits → Type 0
-  added st v r w = w ≡ (add_view (counter_of st v) r v.0, v.1)
+  -- What an addition on the counter c changes: the adder's view notes the counter and whether the addition was low.
+  abbrev pub added : ℕ → Step T → Sits → ℕ → Sits → Type 0
+  added c st v r w = (w ≡ (add_view c r v.0, v.1)) × SeesMoment v
 
-  -- What a subtraction from a counter changes: the view notes it.
-  abbrev pub subtracted : Step T → Sits → ℕ → Sits → Type 0
-  subtracted st v r w = w ≡ (subtract_view (counter_of st v) v.0, v.1)
+  -- What a subtraction from the counter c changes: the view notes it.
+  abbrev pub subtracted : ℕ → Step T → Sits → ℕ → Sits → Type 0
+  subtracted c st v r w = (w ≡ (subtract_view c v.0, v.1)) × SeesMoment v
 
-  -- A load changes no view. One who has all portions learns the counter's exact value.
-  abbrev pub loaded : Step T → Sits → ℕ → Sits → Type 0
-  loaded st v r w = (w ≡ v) × (v.0.portions ≡ all_portions → Loaded (counter_of st v) r v.0)
+  -- A load of the counter c changes no view. One who has all portions learns the counter's exact value.
+  abbrev pub loaded : ℕ → Step T → Sits → ℕ → Sits → Type 0
+  loaded c st v r w = (w ≡ v) × (v.0.portions ≡ all_portions → Loaded c r v.0) × SeesMoment v

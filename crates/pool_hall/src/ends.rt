@@ -1,14 +1,15 @@
 //! Making a hall and closing it.
-ghost use Rattle.std.specs.Prelude.{◌≡◌, ℕ, ◌+◌, ◌*◌, ◌^◌, ◌<◌, ◌≤◌, [], IfOk, replicate, vec_len, vec_capacity, length};
+ghost use Rattle.std.specs.Prelude.{◌≡◌, ℕ, ◌+◌, ◌^◌, ◌<◌, ◌≤◌, [], IfOk, replicate, vec_len, vec_capacity, length};
 ghost use Rattle.std.specs.Mem.Slots.{slots_items, slots_len, IsFull};
 ghost use Rattle.pool_hall.specs.Tally.{all_portions};
+ghost use Rattle.pool_hall.specs.Ending.{AllTold};
 ghost use Rattle.pool_hall.specs.Meaning.{AllFresh, AllStand};
-ghost use Rattle.pool_hall.specs.Rule.{first_view, AwayIsKept};
-ghost use Rattle.pool_hall.specs.Seat.{made_with, limits_of, view, IsSeatOf, IsFree};
+ghost use Rattle.pool_hall.specs.Rule.{word_of, first_view, AwayIsKept};
+ghost use Rattle.pool_hall.specs.Seat.{made_with, limits_of, packed_of, view, IsSeatOf, IsFree};
 
-use crate::calls::STRIDE;
 use crate::hall::{Hall, HallSeat};
 use crate::law::{Law, Made};
+use crate::layout::word_of;
 use crate::part::Part;
 use crate::room::Vacant;
 use crate::view::View;
@@ -17,11 +18,11 @@ use std::alloc::{AllocError, Global};
 use std::snapshot::Snapshot;
 
 // The words of a hall with so many places and counters: all free and at zero.
-fn zeros(alloc: Global, count: usize) -> Result<Vec<u64>, AllocError>
+fn zeros(alloc: Global, packed: u32, count: usize) -> Result<Vec<u64>, AllocError>
     requires { count < 2 ^ 32 }
-    ensures { IfOk result (λ v. v.items ≡ replicate (count * 16) 0) }
+    ensures { IfOk result (λ v. v.items ≡ replicate (word_of packed count) 0) }
 {
-    vec![in alloc; 0u64; count * STRIDE]
+    vec![in alloc; 0u64; word_of(packed, count)]
 }
 
 // The list that a closing answers, on a table of its own, so that threads may share it.
@@ -67,32 +68,45 @@ fn emptied<T: Part>(mut closed: Closed<T, Global>, mut list: Vec<T>) -> Vec<T>
 impl<T: Part> Hall<T> {
     /// Makes a hall in which each part is at home and each counter is 0, and its first seat. Where there is no memory
     /// the parts are dropped.
+    ///
+    /// The locks of the first `packed` places take 8 bytes each and share cache lines. Each other lock, and each counter,
+    /// takes 128, so that threads which use different ones don't slow each other down. Nothing else depends on it.
     pub fn new(
         alloc: Global,
         parts: Vec<T>,
         limits: Vec<u64>,
+        packed: u32,
     ) -> Result<(Hall<T>, HallSeat<T>), AllocError>
         requires some { 0 < vec_len parts + vec_len limits }
         requires few { vec_len parts + vec_len limits < 2 ^ 32 }
         requires fresh { AllFresh T.meaning parts.items limits.items }
         ensures parts { IfOk result (λ r. made_with r.0 ≡ parts.items) }
         ensures limits { IfOk result (λ r. limits_of r.0 ≡ limits.items) }
+        ensures packed { IfOk result (λ r. packed_of r.0 ≡ packed) }
         ensures own { IfOk result (λ r. IsSeatOf r.0 r.1 × IsFree r.1) }
         ensures view { IfOk result (λ r. view r.1 ≡ first_view parts.items limits.items) }
     {
         let made = Made {
             parts: Snapshot::of(&parts),
             limits: Snapshot::of(&limits),
+            packed,
         };
         let room = reserved(alloc, parts.len())?;
-        let words = zeros(alloc, parts.len() + limits.len())?;
+        let words = zeros(alloc, packed, parts.len() + limits.len())?;
         match Table::new(alloc, words.as_slice(), parts, &made) {
-            Ok((table, seat)) => Ok((Hall { table, room }, HallSeat { seat, place: 0 })),
+            Ok((table, seat)) => {
+                let hall = Hall {
+                    table,
+                    room,
+                    packed,
+                };
+                Ok((hall, HallSeat { seat, place: 0 }))
+            }
             Err(_) => Err(AllocError),
         }
     }
 
-    /// Ends a hall, and answers its parts in the order of their places.
+    /// Ends a hall, and answers its parts in the order of their places. The seat's view tells what they counted.
     pub fn close(self, seat: HallSeat<T>) -> Vec<T>
         requires own { IsSeatOf self seat }
         requires free { IsFree seat }
@@ -101,8 +115,13 @@ impl<T: Part> Hall<T> {
         ensures all { length result.items ≡ length (made_with self) }
         ensures stand { AllStand T.meaning (made_with self) (limits_of self) result.items }
         ensures units { AwayIsKept T.meaning (made_with self) (limits_of self) result.items }
+        ensures told { AllTold T.meaning (limits_of self) (view seat) result.items }
     {
-        let Hall { table, room } = self;
+        let Hall {
+            table,
+            room,
+            packed: _,
+        } = self;
         let HallSeat { seat, place: _ } = seat;
         let list = list_in(room);
         let closed = table.close_with(seat);

@@ -11,6 +11,8 @@ use std::snapshot::Snapshot;
 pub struct Made<T> {
     pub parts: Snapshot<Vec<T>>,
     pub limits: Snapshot<Vec<u64>>,
+    /// How many places at the front have their words side by side.
+    pub packed: u32,
 }
 
 /// The rule that each step of a hall keeps.
@@ -20,18 +22,31 @@ impl<T: Part> TableRule<T, View<T>, Made<T>> for Law {
     ghost use Rattle.pool_hall.specs.Made.{parts_of, limits_in};
     ghost use Rattle.pool_hall.specs.Rule.{Lawful, first_view};
 
-    ghost holds = { λ k. Lawful T.meaning (parts_of k) (limits_in k) };
+    ghost holds = { λ k. Lawful T.meaning (parts_of k) (limits_in k) k.packed };
 
     ghost first = { λ k. first_view (parts_of k) (limits_in k) };
 }
 
-// What a try of a place, a put, and the steps on a counter tell.
-pub(crate) struct Take;
+/// A number of a step that the step itself doesn't tell: its place, its counter, or how many portions it gives away.
+pub(crate) trait Number {
+    ghost use Rattle.std.specs.Prelude.{ℕ};
 
-impl<T: Part> Play<T, View<T>> for Take {
+    ghost number: { ℕ };
+}
+
+impl Number for Brand {
+    ghost number = { 0 };
+}
+
+// What a try of a place, a put, and the steps on a counter tell.
+pub(crate) struct Take<N> {
+    marker: PhantomData<N>,
+}
+
+impl<T: Part, N: Number> Play<T, View<T>> for Take<N> {
     ghost use Rattle.pool_hall.specs.Step.{took};
 
-    ghost then = { took T.meaning };
+    ghost then = { took T.meaning N.number };
 }
 
 pub(crate) struct Put;
@@ -42,52 +57,47 @@ impl<T: Part> Play<T, View<T>> for Put {
     ghost then = { gave T.meaning };
 }
 
-pub(crate) struct Add;
+pub(crate) struct Add<N> {
+    marker: PhantomData<N>,
+}
 
-impl<T: Part> Play<T, View<T>> for Add {
+impl<T: Part, N: Number> Play<T, View<T>> for Add<N> {
     ghost use Rattle.pool_hall.specs.Step.{added};
 
-    ghost then = { added T.meaning };
+    ghost then = { added T.meaning N.number };
 }
 
-pub(crate) struct Subtract;
+pub(crate) struct Subtract<N> {
+    marker: PhantomData<N>,
+}
 
-impl<T: Part> Play<T, View<T>> for Subtract {
+impl<T: Part, N: Number> Play<T, View<T>> for Subtract<N> {
     ghost use Rattle.pool_hall.specs.Step.{subtracted};
 
-    ghost then = { subtracted T.meaning };
+    ghost then = { subtracted T.meaning N.number };
 }
 
-pub(crate) struct Load;
+pub(crate) struct Load<N> {
+    marker: PhantomData<N>,
+}
 
-impl<T: Part> Play<T, View<T>> for Load {
+impl<T: Part, N: Number> Play<T, View<T>> for Load<N> {
     ghost use Rattle.pool_hall.specs.Step.{loaded};
 
-    ghost then = { loaded T.meaning };
+    ghost then = { loaded T.meaning N.number };
 }
 
-/// How many portions a split gives away.
-pub(crate) trait Portions {
-    ghost use Rattle.std.specs.Prelude.{ℕ};
-
-    ghost portions: { ℕ };
-}
-
-impl Portions for Brand {
-    ghost portions = { 0 };
-}
-
-// A split that gives the portions of `N` away.
+// A split that gives so many portions away.
 pub(crate) struct Cut<N> {
     marker: PhantomData<N>,
 }
 
-impl<T, N: Portions> Split<View<T>> for Cut<N> {
+impl<T, N: Number> Split<View<T>> for Cut<N> {
     ghost use Rattle.pool_hall.specs.Step.{left_with, newcomer};
 
-    ghost left = { left_with N.portions };
+    ghost left = { left_with N.number };
 
-    ghost right = { newcomer N.portions };
+    ghost right = { newcomer N.number };
 }
 
 // A join: all goes to the seat that stays.

@@ -29,6 +29,7 @@ mod room;
 mod calls;
 mod counters;
 mod holds;
+mod layout;
 mod lends;
 mod seats;
 

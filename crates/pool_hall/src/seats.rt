@@ -4,15 +4,15 @@ ghost use Rattle.pool_hall.specs.Step.{left_with, newcomer, joined};
 ghost use Rattle.pool_hall.specs.Seat.{view, IsSeatOf, IsFree, SamePlace};
 
 use crate::hall::{Hall, HallSeat};
-use crate::law::{Both, Cut, Portions};
+use crate::law::{Both, Cut, Number};
 use crate::part::Part;
 use std::marker::Brand;
 
 impl<T: Part> Hall<T> {
-    // `N` names the portions, since a split of the table has no number at run time.
-    fn cut<N: Portions>(&self, seat: &mut HallSeat<T>, portions: u32) -> HallSeat<T>
+    // `N` names the portions, since what a split of the table tells can't read the call's number.
+    fn cut<N: Number>(&self, seat: &mut HallSeat<T>, portions: u32) -> HallSeat<T>
         requires own { IsSeatOf self.now seat.old }
-        requires named { N.portions ≡ portions }
+        requires named { N.number ≡ portions }
         requires some { 0 < portions }
         requires fewer { portions < (view seat.old).portions }
         ensures left { view seat.new ≡ left_with portions (view seat.old) }

@@ -7,7 +7,7 @@ none_together : (us ws : List UnitName) → ((u : UnitName) → times u us ≡ 0
 none_together us ws a b = none_left (us ++ ws) (λ u. let e = times_append u us ws in let x = a u in let y = b u in omega arith)
 
 pub close-shards-requires-clause-units : goal.close-shards-requires-clause-units
-close-shards-requires-clause-units g c κs =
+close-shards-requires-clause-units g c =
     let ends = c.both-seat in
     let first = ap (λ v. v.units) c.split-other.ensures.left ∙ ap (λ v. v.units) c.in_ok-allocator.ensures.view in
     let second = ap (λ v. v.units) c.split-other.ensures.given in

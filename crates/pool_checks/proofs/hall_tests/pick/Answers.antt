@@ -71,7 +71,7 @@ module _ (ps : List Slot) (ls : List ℕ) (p : ℕ) (x y : Slot) (us : List Unit
       )
 
 pub put-requires-clause-may : goal.put-requires-clause-may
-put-requires-clause-may g c _ =
+put-requires-clause-may g c =
     let h = c.take.ensures.taken in
     let e = lent_is slot_meaning _ _ _ h _ c.part.ensures.value in
     let p = c.pick-picked.ensures in

@@ -7,8 +7,14 @@ pub store-requires : goal.store-requires
 store-requires g c =
     let own = c.requires.own in
     let h = c.requires.may.holds in
-    let e = ap length own.parts in
-    (own.table, omega (arith, c.args.self.now.words, h.within), puts_as g.T.Part.meaning _ _ _ _ _ _ _ _ h.place h.slots own.portion own.parts own.limits h.within c.requires.may.may)
+    let word = c.word-word.ensures in
+    (own.table, word.within, puts_as g.T.Part.meaning _ _ _ _ _ _ _ _ _ _ h.place h.slots own.portion own.parts own.limits h.within c.requires.may.may word.value)
+
+pub word-word-requires : goal.word-word-requires
+word-word-requires g c =
+    let h = c.requires.may.holds in
+    let e = ap length c.requires.own.parts in
+    omega (arith, h.within)
 
 pub returns-clause-own : goal.returns-clause-own
 returns-clause-own g c =

@@ -1,8 +1,0 @@
-use Rattle.pool_hall.proofs.Counting.{loads}
-use Rattle.pool_hall.proofs.hall.Hall.load.Goals as goal
-
-pub load-requires : goal.load-requires
-load-requires g c =
-    let own = c.requires.own in
-    let word = c.counter_word-word.ensures in
-    (own.table, word.within, loads g.T.Part.meaning _ _ _ _ _ _ own.parts own.limits own.portion c.requires.counter _ word.value)

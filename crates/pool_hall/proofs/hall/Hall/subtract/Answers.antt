@@ -1,8 +1,0 @@
-use Rattle.pool_hall.proofs.Counting.{subtracts}
-use Rattle.pool_hall.proofs.hall.Hall.subtract.Goals as goal
-
-pub fetch_sub-requires : goal.fetch_sub-requires
-fetch_sub-requires g c =
-    let own = c.requires.own in
-    let word = c.counter_word-word.ensures in
-    (own.table, word.within, subtracts g.T.Part.meaning _ _ _ _ _ _ own.parts own.limits own.portion c.requires.counter _ word.value c.requires.more)
