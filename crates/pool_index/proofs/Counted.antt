@@ -1,56 +1,23 @@
 -- Shards that are held one after the other and only looked at, and slots that are freed one after the other.
-use Rattle.std.proofs.Common.{◌≡◌, ℕ, zero, suc, ◌+◌, ◌-◌, ◌*◌, ◌^◌, ◌<◌, ◌≤◌, Bool, true, false, List, [], ◌∷◌, ◌++◌, length, min, Option, Some, sym, refl, ap, subst, ◌∙◌, arith, length-append, ◌==◌, ◌&&◌, sum_by, map, All}
-use Rattle.pool_index.proofs.Imports.{sum_by-append, sum_by-le, UnitName, View, same, times, IsHeld, put_view, Taken, MayPut}
+use Rattle.std.proofs.Common.{◌≡◌, ℕ, suc, ◌+◌, ◌*◌, ◌^◌, ◌<◌, ◌≤◌, Bool, true, false, List, [], ◌∷◌, ◌++◌, length, min, Some, sym, refl, ap, subst, ◌∙◌, arith, length-append, ◌==◌, ◌&&◌}
+use Rattle.pool_index.proofs.Imports.{sum_by-append, sum_by-le, View, Taken}
 use Rattle.pool_index.specs.declared.counting.ShardCounts.{ShardCounts}
-use Rattle.pool_index.specs.Shard.{ShardState, IsShard, used_count, resident_bytes}
+use Rattle.pool_index.specs.Shard.{ShardState, used_count, resident_bytes}
 use Rattle.pool_index.specs.Part.{shard_meaning}
-use Rattle.pool_index.specs.Moves.{Moves}
-use Rattle.pool_index.specs.ShardMeans.{shard_means}
 use Rattle.pool_index.specs.Freed.{IsCounted, IsSum, all_unused}
 use Rattle.pool_index.specs.Layout.{capacity_of}
 use Rattle.pool_index.specs.MadeShards.{AreMade}
-use Rattle.pool_index.specs.Round.{HeldShard, HeldInTurn, KeepsCounts, KeepsRest}
+use Rattle.pool_index.specs.Round.{HeldShard, HeldInTurn, KeepsRest}
 use Rattle.pool_index.proofs.Allocating.{shard_there}
-use Rattle.pool_index.proofs.Puts.{may_gain, units_after}
-use Rattle.pool_index.proofs.Rounds.{same_counts, rest_after}
+use Rattle.pool_index.proofs.HallFrees.{only_state}
 
 module _ (made : List ShardState) (limits : List ℕ) where
   abbrev Turns : (ShardState → ShardState) → ℕ → List ShardState → View ShardState → View ShardState → Type 0
   Turns left p ss v w = HeldInTurn shard_meaning Some made limits left p ss v w
 
-  pub may_look : (p : ℕ) (x y : ShardState) (v : View ShardState) → Taken shard_meaning made limits p x v → y ≡ x → MayPut shard_meaning made limits p x y v.units
-  may_look p x y v told e =
-      let moves : Moves x x [] [] = record { same = record { kind = refl; first = refl; step = refl; capacity = refl; budget = refl }; sound = told.stands.fits.sound; cold = omega arith; flow = λ u. refl } in
-      subst (λ (z : ShardState). MayPut shard_meaning made limits p x z v.units) (sym e) (may_gain shard_meaning Some shard_means made limits p x x x x refl refl v told [] (λ u region. refl) moves)
-
-  pub look_held : (p : ℕ) (r : ShardCounts) (v w : View ShardState) (h : IsHeld shard_meaning made limits p (λ x y. (y ≡ x) × IsCounted x r) v w) → HeldShard shard_meaning Some made limits p h.before h.before v w
-  look_held p r v w h = record {
-    before = h.before;
-    after = h.after;
-    was = refl;
-    is = ap (λ (z : ShardState). Some z) h.did.0;
-    same = record { kind = refl; first = refl; step = refl; capacity = refl; budget = refl };
-    sound = h.did.1.sound;
-    told = h.told;
-    view = h.view;
-  }
-
-  -- what the seat has then
-  module _ (p : ℕ) (r : ShardCounts) (v w : View ShardState) (h : IsHeld shard_meaning made limits p (λ x y. (y ≡ x) × IsCounted x r) v w) where
-    put_same : w ≡ put_view shard_meaning p h.before h.before v
-    put_same = h.view ∙ ap (λ (z : ShardState). put_view shard_meaning p h.before z v) h.did.0
-
-    pub look_units : (u : UnitName) → times u w.units ≡ times u v.units
-    look_units u =
-        let moves : Moves h.before h.before [] [] = record { same = record { kind = refl; first = refl; step = refl; capacity = refl; budget = refl }; sound = h.did.1.sound; cold = omega arith; flow = λ z. refl } in
-        let a = units_after shard_meaning Some shard_means made limits p h.before h.before h.before h.before refl refl v h.told [] [] moves (λ z. omega arith) w put_same u in
-        omega arith
-
-    pub look_counts : KeepsCounts v w
-    look_counts = same_counts shard_meaning p h.before h.before h.before h.before refl refl h.did.1.sound refl v w put_same
-
-    pub look_rest : KeepsRest v w
-    look_rest = rest_after shard_meaning p h.before h.after v w h.view
+  -- a shard that was held is the part that was found
+  pub told_of : (p : ℕ) (s t : ShardState) (v w : View ShardState) → HeldShard shard_meaning Some made limits p s t v w → Taken shard_meaning made limits p s v
+  told_of p s t v w held = subst (λ (z : ShardState). Taken shard_meaning made limits p z v) (only_state (Some held.before) held.before s refl held.was) held.told
 
   pub in_turn_more : (left : ShardState → ShardState) (p : ℕ) (ss : List ShardState) (s : ShardState) (v u w : View ShardState) → Turns left p ss v u → HeldShard shard_meaning Some made limits (p + length ss) s (left s) u w → Turns left p (ss ++ s ∷ []) v w
   in_turn_more left p [] s v u w e held =

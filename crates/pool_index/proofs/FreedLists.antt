@@ -1,31 +1,23 @@
--- Slots of one shard that are freed one after the other, and those of a list that are freed in one hold of their shard.
-use Rattle.std.proofs.Common.{◌≡◌, ℕ, zero, suc, ◌+◌, ◌-◌, ◌*◌, ◌/◌, ◌^◌, ◌<◌, ◌≤◌, ◌==◌, ◌&&◌, not, if◌then◌else◌, nat_lt, Bool, true, false, true≢false, inl, inr, is_some, List, [], ◌∷◌, length, drop, Option, Some, None, IsSome, refl, sym, ap, subst, ◌∙◌, ⊎_elim, arith, eq-eqb, map, All, slice_index, slice_index_or}
-use Rattle.std.specs.List.{sum_by}
+-- Slots of a list that are freed, those of each shard in one hold of it.
+use Rattle.std.proofs.Common.{◌≡◌, ℕ, zero, suc, ◌+◌, ◌-◌, ◌*◌, ◌/◌, ◌^◌, ◌<◌, ◌≤◌, ◌==◌, ◌&&◌, not, if◌then◌else◌, nat_lt, Bool, true, false, true≢false, inl, inr, List, [], ◌∷◌, length, drop, Option, Some, None, refl, sym, ap, subst, ◌∙◌, ⊎_elim, arith, eq-eqb, map, All, slice_index_or}
 use Rattle.std.proofs.Math.Seq.{drop-cons}
 use Rattle.std.proofs.Math.ListN.{drop_of_length-le}
-use Rattle.pool_index.proofs.Imports.{All-cons, All-head, All-nil, All-tail, cases_Bool, cases_eq, cases_lt, eqb-true, get_or_past, div-eq_of_lt-le, le-div, le-div_iff_mul-le, ne_eqb, nat_tests, sum_by-cons, sum_by_push, Memory, UnitName, View, one_if, same, times, pick_unit, pick_of, same_is, same_self, counted, number, put_view, rise, Taken, MayPut}
-use Rattle.pool_index.specs.Allocator.{made_of, limits_in, place_in, local_in, slots_at, bytes_into, FreedInShard, AddsBytes}
-use Rattle.pool_index.specs.Freed.{CanFree, AreFreed, HasAll, is_among, slots_among, units_of_slots}
+use Rattle.pool_index.proofs.Imports.{All-cons, All-head, All-nil, All-tail, cases_Bool, cases_eq, cases_lt, eqb-true, div-eq_of_lt-le, le-div, le-div_iff_mul-le, ne_eqb, nat_tests, sum_by-cons, Memory, UnitName, View, one_if, same, times, pick_unit, pick_of, same_is, counted, number}
+use Rattle.pool_index.specs.Allocator.{made_of, limits_in, shard_in, place_in, local_in, slots_at, bytes_into, FreedInShard, AddsBytes}
+use Rattle.pool_index.specs.Freed.{CanFree, HasAll, is_among, slots_among, units_of_slots}
+use Rattle.pool_index.specs.Holds.{units_at, all_bytes, MayGoBack, AddsAt}
 use Rattle.pool_index.specs.Laws.{free_all}
 use Rattle.pool_index.specs.MadeShards.{place_of_slot}
-use Rattle.pool_index.specs.Moves.{Moves}
-use Rattle.pool_index.specs.Part.{slot_unit, shard_units, shard_meaning, shard_counts, bytes_kept}
+use Rattle.pool_index.specs.Part.{shard_meaning, bytes_kept}
 use Rattle.pool_index.specs.Round.{HeldShard, Gives}
-use Rattle.pool_index.specs.Shard.{ShardState, IsShard, use_of, resident_bytes, after_free}
-use Rattle.pool_index.specs.ShardMeans.{shard_means}
+use Rattle.pool_index.specs.Shard.{ShardState, after_free}
 use Rattle.pool_index.specs.declared.allocator.ModuleAffinityIndexAllocator.{ModuleAffinityIndexAllocator}
-use Rattle.pool_index.specs.declared.ids.MemoryInModule.{MemoryInModule}
 use Rattle.pool_index.specs.declared.ids.SlotId.{SlotId}
-use Rattle.pool_index.specs.declared.warm_slot.WarmSlot.{WarmSlot}
-use Rattle.pool_index.proofs.Allocating.{owner_is, kind_at, first_at, step_at}
-use Rattle.pool_index.proofs.FreedSlots.{sum_of_both}
-use Rattle.pool_index.proofs.Puts.{may, small_counts, units_after}
-use Rattle.pool_index.proofs.Rounds.{no_rise, counted_after}
-use Rattle.pool_index.proofs.SlotUnits.{is_out, out_less}
+use Rattle.pool_index.specs.declared.shard_calls.ShardAt.{ShardAt}
+use Rattle.pool_index.proofs.Allocating.{owner_is}
+use Rattle.pool_index.proofs.FreedSlots.{bytes_added, sum_of_both}
+use Rattle.pool_index.proofs.HallFrees.{Slots}
 use Rattle.pool_index.proofs.Takings.{nothing}
-
-abbrev pub Slots : Type 0
-Slots = List (SlotId × ℕ)
 
 -- one slot and then the rest
 pub can_first : (b : Bool) (y : SlotId × ℕ) (ys : Slots) (s : ShardState) → CanFree (if b then y ∷ ys else ys) s → CanFree (if b then y ∷ [] else []) s × CanFree ys (free_all (if b then y ∷ [] else []) s)
@@ -36,77 +28,6 @@ pub free_first : (b : Bool) (y : SlotId × ℕ) (ys : Slots) (s : ShardState) �
 free_first true y ys s = refl
 free_first false y ys s = refl
 
--- what frees keep
-free_cold : (ys : Slots) (s : ShardState) → (free_all ys s).cold ≡ s.cold
-free_cold [] s = refl
-free_cold (p ∷ ps) s = free_cold ps (after_free p.0 p.1 s)
-
-free_full : (ys : Slots) (s : ShardState) → (free_all ys s).full_answers ≡ s.full_answers
-free_full [] s = refl
-free_full (p ∷ ps) s = free_full ps (after_free p.0 p.1 s)
-
-free_misses : (ys : Slots) (s : ShardState) → (free_all ys s).affine_misses ≡ s.affine_misses
-free_misses [] s = refl
-free_misses (p ∷ ps) s = free_misses ps (after_free p.0 p.1 s)
-
-free_takes : (ys : Slots) (s : ShardState) → (free_all ys s).warm_takes ≡ s.warm_takes
-free_takes [] s = refl
-free_takes (p ∷ ps) s = free_takes ps (after_free p.0 p.1 s)
-
-abbrev pub bytes_of : Slots → ℕ
-bytes_of ys = sum_by (λ (p : SlotId × ℕ). p.1) ys
-
-free_bytes : (ys : Slots) (s : ShardState) → resident_bytes (free_all ys s) ≡ resident_bytes s + bytes_of ys
-free_bytes [] s = let z : bytes_of [] ≡ 0 = refl in omega arith
-free_bytes (p ∷ ps) s =
-    let a = free_bytes ps (after_free p.0 p.1 s) in
-    let b : resident_bytes (after_free p.0 p.1 s) ≡ resident_bytes s + p.1 = sum_by_push (λ (e : WarmSlot). e.bytes) s.warm _ in
-    let c : bytes_of (p ∷ ps) ≡ p.1 + bytes_of ps = sum_by-cons (λ (p : SlotId × ℕ). p.1) p ps in
-    omega arith
-
-freed_rise : (ys : Slots) (s t : ShardState) → IsShard s → AreFreed ys s t → (i : ℕ) → rise (slice_index (shard_counts s) i) (slice_index (shard_counts t) i) ≡ (if i == bytes_kept then bytes_of ys else 0)
-freed_rise ys s t sound did zero = let e : t.cold ≡ s.cold = ap (λ (z : ShardState). z.cold) did.after ∙ free_cold ys s in let a = small_counts s sound 0 in omega arith
-freed_rise ys s t sound did (suc zero) = let e : t.full_answers ≡ s.full_answers = ap (λ (z : ShardState). z.full_answers) did.after ∙ free_full ys s in let a = small_counts s sound 1 in omega arith
-freed_rise ys s t sound did (suc (suc zero)) = let e : t.affine_misses ≡ s.affine_misses = ap (λ (z : ShardState). z.affine_misses) did.after ∙ free_misses ys s in let a = small_counts s sound 2 in omega arith
-freed_rise ys s t sound did (suc (suc (suc zero))) = let e : t.warm_takes ≡ s.warm_takes = ap (λ (z : ShardState). z.warm_takes) did.after ∙ free_takes ys s in let a = small_counts s sound 3 in omega arith
-freed_rise ys s t sound did (suc (suc (suc (suc zero)))) =
-    let e : resident_bytes t ≡ resident_bytes s + bytes_of ys = ap (λ (z : ShardState). resident_bytes z) did.after ∙ free_bytes ys s in
-    let a = small_counts s sound 4 in
-    let b = small_counts t did.sound 4 in
-    omega arith
-freed_rise ys s t sound did (suc (suc (suc (suc (suc i))))) =
-    let other : (suc (suc (suc (suc (suc i)))) == bytes_kept) ≡ false = ne_eqb (suc (suc (suc (suc (suc i))))) bytes_kept (omega arith) in
-    no_rise 0 (omega arith) ∙ sym (ap (λ (b : Bool). if b then bytes_of ys else 0) other)
-
--- the units of these slots of a shard
-abbrev units_in : ShardState → Slots → List UnitName
-units_in s ys = map (λ p. slot_unit s p.0.0) ys
-
-within : (used : List (Option (Option MemoryInModule))) (k : ℕ) → IsSome (slice_index_or used k None) → k < length used
-within used k taken = ⊎_elim (λ (h : k < length used). h) (λ (h : length used ≤ k). absurd (true≢false (sym taken ∙ ap is_some (get_or_past used k None h)))) (cases_lt k (length used))
-
-freed_flow : (ys : Slots) (s : ShardState) (u : UnitName) → CanFree ys s → times u (shard_units (free_all ys s)) + times u (units_in s ys) ≡ times u (shard_units s)
-freed_flow [] s u can = omega arith
-freed_flow (p ∷ ps) s u can =
-    let o = out_less s.kind s.step u s.first p.0.0 s.used (within s.used p.0.0 can.0.0) can.0.0 in
-    let r = freed_flow ps (after_free p.0 p.1 s) u can.1 in
-    omega arith
-
-can_free : (ys : Slots) (s : ShardState) → s.step ≡ 1 → All (λ p. p.1 ≤ 2 ^ 32) ys → ((u : UnitName) → times u (units_in s ys) ≤ times u (shard_units s)) → CanFree ys s
-can_free [] s one small few = tt
-can_free (p ∷ ps) s one small few =
-    let P : SlotId × ℕ → Type 0 = λ p. p.1 ≤ 2 ^ 32 in
-    let w : UnitName = slot_unit s p.0.0 in
-    let f = few w in
-    let o : one_if (same w w) ≡ 1 = ap one_if (same_self w) in
-    let out = is_out s.kind s.step w s.first s.used (omega arith) in
-    let e : s.first + p.0.0 * s.step ≡ s.first + out.slot * s.step = ap (λ (z : UnitName). z.slot) out.is in
-    let a : p.0.0 * s.step ≡ p.0.0 * 1 = ap (λ (j : ℕ). p.0.0 * j) one in
-    let b : out.slot * s.step ≡ out.slot * 1 = ap (λ (j : ℕ). out.slot * j) one in
-    let k : out.slot ≡ p.0.0 = omega arith in
-    let used : IsSome (use_of s p.0.0) = subst (λ (j : ℕ). IsSome (use_of s j)) k out.taken in
-    ((used, All-head P p ps small), can_free ps (after_free p.0 p.1 s) one (All-tail P p ps small) (λ u. let g = few u in let l = out_less s.kind s.step u s.first p.0.0 s.used (within s.used p.0.0 used) used in omega arith))
-
 -- slots of a list by their place
 memory_units : (xs : Slots) (u : UnitName) → 0 < times u (units_of_slots xs) → u.kind ≡ Memory
 memory_units [] u h = absurd (omega arith)
@@ -116,7 +37,7 @@ memory_units (x ∷ xs) u h = ⊎_elim
     (cases_Bool (same u (pick_unit Memory x.0.0)))
 
 module _ (a : ModuleAffinityIndexAllocator) (n : ℕ) where
-  low : (k : ℕ) → n ≡ place_in a k → n * a.slots_per_shard ≤ k
+  pub low : (k : ℕ) → n ≡ place_in a k → n * a.slots_per_shard ≤ k
   low k is = (le-div_iff_mul-le a.made.some).0 (omega arith)
 
   -- the units by the numbers outside
@@ -149,7 +70,7 @@ module _ (a : ModuleAffinityIndexAllocator) (n : ℕ) where
       let both = sum_of_both q c (times u (units_of_slots xs)) (times u (units_of_slots (x ∷ xs))) refl in
       omega arith
 
-  pub bytes_there : (xs : Slots) → bytes_of (slots_at a n xs) ≡ bytes_into a n xs
+  pub bytes_there : (xs : Slots) → all_bytes (slots_at a n xs) ≡ bytes_into a n xs
   bytes_there [] = refl
   bytes_there (x ∷ xs) =
       let b : Bool = n == place_in a x.0.0 in
@@ -159,11 +80,11 @@ module _ (a : ModuleAffinityIndexAllocator) (n : ℕ) where
       let s = one b (record { 0 = local_in a x.0.0 }, x.1) (slots_at a n xs) in
       omega arith
     where
-      one : (b : Bool) (z : SlotId × ℕ) (zs : Slots) → bytes_of (if b then z ∷ zs else zs) ≡ (if b then z.1 else 0) + bytes_of zs
+      one : (b : Bool) (z : SlotId × ℕ) (zs : Slots) → all_bytes (if b then z ∷ zs else zs) ≡ (if b then z.1 else 0) + all_bytes zs
       one true z zs = sum_by-cons (λ (p : SlotId × ℕ). p.1) z zs
       one false z zs = omega arith
 
-  small_there : (xs : Slots) → All (λ p. p.1 ≤ 2 ^ 32) xs → All (λ p. p.1 ≤ 2 ^ 32) (slots_at a n xs)
+  pub small_there : (xs : Slots) → All (λ p. p.1 ≤ 2 ^ 32) xs → All (λ p. p.1 ≤ 2 ^ 32) (slots_at a n xs)
   small_there [] small = All-nil (λ (p : SlotId × ℕ). p.1 ≤ 2 ^ 32)
   small_there (x ∷ xs) small =
       let P : SlotId × ℕ → Type 0 = λ p. p.1 ≤ 2 ^ 32 in
@@ -188,98 +109,42 @@ module _ (a : ModuleAffinityIndexAllocator) (n : ℕ) where
         | inr gone ↦ ap (λ (b : Bool). if b then (record { 0 = x.0.0 - first }, x.1) ∷ slots_at a n xs else slots_at a n xs) gone ∙ sym (ap (λ (b : Bool). if b then (record { 0 = local_in a x.0.0 }, x.1) ∷ slots_at a n xs else slots_at a n xs) gone)
       ]
 
--- the shard at a place, from which those of these slots are freed that are its own
-module _ (a : ModuleAffinityIndexAllocator) (n : ℕ) (h : n < a.shards) (xs : Slots) (x : ShardState) (v : View ShardState) (told : Taken shard_meaning (made_of a) (limits_in a) n x v)
-    (had : (u : UnitName) → place_in a u.slot ≡ n → times u (units_of_slots xs) ≤ times u v.units) where
-  abbrev its : Slots
-  its = slots_at a n xs
-
-  step : x.step ≡ 1
-  step = step_at _ _ _ _ _ _ a.made n x h told.stands.fits
-
-  its_units : (u : UnitName) → times u (units_in x its) ≡ (if n == place_in a u.slot then times u (units_of_slots xs) else 0)
-  its_units u =
-      let k = kind_at _ _ _ _ _ _ a.made n x h told.stands.fits in
-      let f = first_at _ _ _ _ _ _ a.made n x h told.stands.fits in
-      (λ i. times u (map (λ (p : SlotId × ℕ). pick_unit (k i) (f i + p.0.0 * step i)) its)) ∙ units_there a n xs u
+-- the units of those of these slots that belong to the shard at a place
+module _ (a : ModuleAffinityIndexAllocator) (n : ℕ) (xs : Slots) where
+  abbrev its : List UnitName
+  its = units_at (shard_in a n) (slots_at a n xs)
 
   -- a unit of them
   pub record Own (u : UnitName) : Type 0 where
     pub place : place_in a u.slot ≡ n
     pub kind : u.kind ≡ Memory
-    pub all : times u (units_in x its) ≡ times u (units_of_slots xs)
+    pub all : times u its ≡ times u (units_of_slots xs)
 
-  own : (u : UnitName) → 0 < times u (units_in x its) → Own u
+  own : (u : UnitName) → 0 < times u its → Own u
   own u some = elim (cases_Bool (n == place_in a u.slot)) [
     | inl here ↦
-        let e : times u (units_in x its) ≡ times u (units_of_slots xs) = its_units u ∙ ap (λ (b : Bool). if b then times u (units_of_slots xs) else 0) here in
+        let e : times u its ≡ times u (units_of_slots xs) = units_there a n xs u ∙ ap (λ (b : Bool). if b then times u (units_of_slots xs) else 0) here in
         record { place = sym (eqb-true n (place_in a u.slot) here); kind = memory_units xs u (omega arith); all = e }
-    | inr gone ↦ let e : times u (units_in x its) ≡ 0 = its_units u ∙ ap (λ (b : Bool). if b then times u (units_of_slots xs) else 0) gone in absurd (omega arith)
+    | inr gone ↦ let e : times u its ≡ 0 = units_there a n xs u ∙ ap (λ (b : Bool). if b then times u (units_of_slots xs) else 0) gone in absurd (omega arith)
   ]
 
-  away : (u : UnitName) → place_in a u.slot ≡ n → u.kind ≡ Memory → times u v.units ≤ times u (shard_units x)
-  away u place kind = told.away u (owner_is _ _ _ _ _ _ a.made u kind ∙ place)
-
-  few_had : (u : UnitName) → times u (units_in x its) ≤ times u v.units
-  few_had u = go (times u (units_in x its)) refl
+  pub back_there : (v : View ShardState) → ((u : UnitName) → place_in a u.slot ≡ n → times u (units_of_slots xs) ≤ times u v.units) → MayGoBack shard_meaning (made_of a) (limits_in a) n its v
+  back_there v had = record {
+    has = λ u. has u (times u its) refl;
+    own = λ u some. let o = own u some in owner_is _ _ _ _ _ _ a.made u o.kind ∙ o.place;
+    alone = λ u region some mine. let o = own (pick_of u) some in owner_is _ _ _ _ _ _ a.made u o.kind ∙ o.place;
+  }
     where
-      go : (k : ℕ) → times u (units_in x its) ≡ k → k ≤ times u v.units
-      go zero e = omega arith
-      go (suc k) e = let o = own u (omega arith) in let f = had u o.place in let g = o.all in omega arith
+      has : (u : UnitName) (k : ℕ) → times u its ≡ k → times u its ≤ times u v.units
+      has u zero e = omega arith
+      has u (suc k) e = let o = own u (omega arith) in let f = had u o.place in let g = o.all in omega arith
 
-  few_out : (u : UnitName) → times u (units_in x its) ≤ times u (shard_units x)
-  few_out u = go (times u (units_in x its)) refl
-    where
-      go : (k : ℕ) → times u (units_in x its) ≡ k → k ≤ times u (shard_units x)
-      go zero e = omega arith
-      go (suc k) e = let o = own u (omega arith) in let f = few_had u in let g = away u o.place o.kind in omega arith
+  module _ (v w : View ShardState) where
+    pub gave_there : Gives its v w → (u : UnitName) → times u w.units + (if n == place_in a u.slot then times u (units_of_slots xs) else 0) ≡ times u v.units
+    gave_there gave u = let e = gave u in let i = units_there a n xs u in omega arith
 
-  pub can_there : All (λ p. p.1 ≤ 2 ^ 32) xs → CanFree its x
-  can_there small = can_free its x step (small_there a n xs small) few_out
-
-  -- no unit that a shard has out is a region unit
-  none_out : (u : UnitName) → u.region ≡ true → times u (shard_units x) ≡ 0
-  none_out u region = go (times u (shard_units x)) refl
-    where
-      go : (k : ℕ) → times u (shard_units x) ≡ k → k ≡ 0
-      go zero e = refl
-      go (suc k) e = let o = is_out x.kind x.step u x.first x.used (omega arith) in absurd (true≢false (sym region ∙ ap (λ (z : UnitName). z.region) o.is))
-
-  needed : (u : UnitName) → u.region ≡ true → times u (units_in x its) < times u v.units + times u [] → times (pick_of u) (units_in x its) < times (pick_of u) v.units + times (pick_of u) []
-  needed u region some = go (times (pick_of u) (units_in x its)) refl
-    where
-      go : (k : ℕ) → times (pick_of u) (units_in x its) ≡ k → k < times (pick_of u) v.units + times (pick_of u) []
-      go zero e = let b = told.beside u region (omega arith) in omega arith
-      go (suc k) e = let o = own (pick_of u) (omega arith) in let g = away u o.place o.kind in let z = none_out u region in absurd (omega arith)
-
-  module _ (small : All (λ p. p.1 ≤ 2 ^ 32) xs) (y : ShardState) (did : AreFreed its x y) where
-    moves : Moves x y [] (units_in x its)
-    moves = record {
-      same = did.same;
-      sound = did.sound;
-      cold = let c : y.cold ≡ x.cold = ap (λ (z : ShardState). z.cold) did.after ∙ free_cold its x in omega arith;
-      flow = λ u.
-          let e : times u (shard_units y) ≡ times u (shard_units (free_all its x)) = ap (λ (z : ShardState). times u (shard_units z)) did.after in
-          let f = freed_flow its x u (can_there small) in
-          omega arith;
-    }
-
-    pub may_there : MayPut shard_meaning (made_of a) (limits_in a) n x y v.units
-    may_there = may shard_meaning Some shard_means (made_of a) (limits_in a) n x y x y refl refl v told [] (units_in x its) moves (λ u. let f = few_had u in omega arith) needed
-
-    module _ (w : View ShardState) (put : w ≡ put_view shard_meaning n x y v) where
-      pub gave_there : (u : UnitName) → times u w.units + (if n == place_in a u.slot then times u (units_of_slots xs) else 0) ≡ times u v.units
-      gave_there u =
-          let e = units_after shard_meaning Some shard_means (made_of a) (limits_in a) n x y x y refl refl v told [] (units_in x its) moves (λ u. let f = few_had u in omega arith) w put u in
-          let i = its_units u in
-          omega arith
-
-      pub counts_there : (p i : ℕ) → number (counted p i) w ≡ number (counted p i) v + (if p == n then (if i == bytes_kept then bytes_into a n xs else 0) else 0)
-      counts_there p i =
-          let e = counted_after shard_meaning n x y x y refl refl v w put p i in
-          let r : rise (slice_index (shard_counts x) i) (slice_index (shard_counts y) i) ≡ (if i == bytes_kept then bytes_into a n xs else 0) = freed_rise its x y told.stands.fits.sound did i ∙ ap (λ (m : ℕ). if i == bytes_kept then m else 0) (bytes_there a n xs) in
-          let f = ap (λ (m : ℕ). if p == n then m else 0) r in
-          omega arith
+    pub counts_there : AddsAt n (all_bytes (slots_at a n xs)) v w → (p i : ℕ) → number (counted p i) w ≡ number (counted p i) v + (if p == n then (if i == bytes_kept then bytes_into a n xs else 0) else 0)
+    counts_there adds p i = adds p i ∙ ap (λ (m : ℕ). number (counted p i) v + (if p == n then (if i == bytes_kept then m else 0) else 0)) (bytes_there a n xs)
 
 -- where none of the slots is the shard's, it isn't held
 module _ (a : ModuleAffinityIndexAllocator) (n : ℕ) (xs : Slots) (none : slots_at a n xs ≡ []) where
@@ -290,7 +155,7 @@ module _ (a : ModuleAffinityIndexAllocator) (n : ℕ) (xs : Slots) (none : slots
 
   pub none_counts : (p i k : ℕ) → k ≡ k + (if p == n then (if i == bytes_kept then bytes_into a n xs else 0) else 0)
   none_counts p i k =
-      let e : bytes_into a n xs ≡ 0 = sym (bytes_there a n xs) ∙ ap (λ (l : Slots). bytes_of l) none in
+      let e : bytes_into a n xs ≡ 0 = sym (bytes_there a n xs) ∙ ap (λ (l : Slots). all_bytes l) none in
       let f : (if p == n then (if i == bytes_kept then bytes_into a n xs else 0) else 0) ≡ 0 = nothing (p == n) (if i == bytes_kept then bytes_into a n xs else 0) (nothing (i == bytes_kept) (bytes_into a n xs) e) in
       omega arith
 
@@ -302,6 +167,64 @@ in_shard a n (y ∷ ys) some v w s held = (s, held)
 pub none_left : (ys : Slots) → nat_lt 0 (length ys) ≡ false → ys ≡ []
 none_left [] e = refl
 none_left (y ∷ ys) e = absurd (true≢false (sym (let t : nat_lt 0 (suc (length ys)) ≡ true = grind (arith, nat_tests) in t) ∙ e))
+
+-- the same by what the code has of the shard and the slots
+module _ (a : ModuleAffinityIndexAllocator) (n : ℕ) (xs : Slots) (q : ShardAt) (is : q ≡ shard_in a n) (ys : Slots) (them : ys ≡ slots_at a n xs) (v : View ShardState) where
+  pub back_many : ((u : UnitName) → place_in a u.slot ≡ n → times u (units_of_slots xs) ≤ times u v.units) → MayGoBack shard_meaning (made_of a) (limits_in a) q.place (units_at q ys) v
+  back_many had =
+      subst (λ (z : ShardAt). MayGoBack shard_meaning (made_of a) (limits_in a) z.place (units_at z ys) v) (sym is)
+      (subst (λ (l : Slots). MayGoBack shard_meaning (made_of a) (limits_in a) n (units_at (shard_in a n) l) v) (sym them) (back_there a n xs v had))
+
+  module _ (w : View ShardState) where
+    pub gave_many : Gives (units_at q ys) v w → (u : UnitName) → times u w.units + (if n == place_in a u.slot then times u (units_of_slots xs) else 0) ≡ times u v.units
+    gave_many gave = gave_there a n xs v w (subst (λ (l : Slots). Gives (units_at (shard_in a n) l) v w) them (subst (λ (z : ShardAt). Gives (units_at z ys) v w) is gave))
+
+    pub counts_many : AddsAt q.place (all_bytes ys) v w → (p i : ℕ) → number (counted p i) w ≡ number (counted p i) v + (if p == n then (if i == bytes_kept then bytes_into a n xs else 0) else 0)
+    counts_many adds = counts_there a n xs v w (subst (λ (l : Slots). AddsAt n (all_bytes l) v w) them (subst (λ (z : ShardAt). AddsAt z.place (all_bytes ys) v w) is adds))
+
+    pub freed_many : 0 < length ys → (s : ShardState) → HeldShard shard_meaning Some (made_of a) (limits_in a) q.place s (free_all ys s) v w → FreedInShard a n (slots_at a n xs) v w
+    freed_many some s held =
+        in_shard a n (slots_at a n xs) (subst (λ (l : Slots). 0 < length l) them some) v w s
+        (subst (λ (l : Slots). HeldShard shard_meaning Some (made_of a) (limits_in a) n s (free_all l s) v w) them (subst (λ (z : ShardAt). HeldShard shard_meaning Some (made_of a) (limits_in a) z.place s (free_all ys s) v w) is held))
+
+-- one slot
+module _ (a : ModuleAffinityIndexAllocator) (slot : SlotId) (bytes p : ℕ) (here : p ≡ place_in a slot.0) (q : ShardAt) (is : q ≡ shard_in a p) (k : SlotId) (local : k ≡ record { 0 = local_in a slot.0 }) (v : View ShardState) where
+  abbrev place : ℕ
+  place = place_in a slot.0
+
+  abbrev one : Slots
+  one = (record { 0 = local_in a slot.0 }, bytes) ∷ []
+
+  whole : q ≡ shard_in a place
+  whole = is ∙ ap (shard_in a) here
+
+  its_slots : (k, bytes) ∷ [] ≡ slots_at a place ((slot, bytes) ∷ [])
+  its_slots = (λ i. (local i, bytes) ∷ []) ∙ sym (ap (λ (b : Bool). if b then one else []) (eq-eqb place place refl))
+
+  pub back_one : 0 < times (pick_unit Memory slot.0) v.units → MayGoBack shard_meaning (made_of a) (limits_in a) q.place (units_at q ((k, bytes) ∷ [])) v
+  back_one had = back_many a place ((slot, bytes) ∷ []) q whole ((k, bytes) ∷ []) its_slots v (λ u there. ⊎_elim
+      (λ (same' : same u (pick_unit Memory slot.0) ≡ true). let e : times u v.units ≡ times (pick_unit Memory slot.0) v.units = ap (λ (z : UnitName). times z v.units) (same_is u (pick_unit Memory slot.0) same') in let o : one_if (same u (pick_unit Memory slot.0)) ≡ 1 = ap one_if same' in omega arith)
+      (λ (other : same u (pick_unit Memory slot.0) ≡ false). let z : one_if (same u (pick_unit Memory slot.0)) ≡ 0 = ap one_if other in omega arith)
+      (cases_Bool (same u (pick_unit Memory slot.0))))
+
+  its_unit : units_at q ((k, bytes) ∷ []) ≡ pick_unit Memory slot.0 ∷ []
+  its_unit =
+      let l = low a place slot.0 refl in
+      let number' : place * a.slots_per_shard + (slot.0 - place * a.slots_per_shard) * 1 ≡ slot.0 = omega arith in
+      (λ i. units_at (whole i) ((local i, bytes) ∷ [])) ∙ (λ i. pick_unit Memory (number' i) ∷ [])
+
+  module _ (w : View ShardState) where
+    pub gave_one : Gives (units_at q ((k, bytes) ∷ [])) v w → Gives (pick_unit Memory slot.0 ∷ []) v w
+    gave_one gave = subst (λ (l : List UnitName). Gives l v w) its_unit gave
+
+    pub freed_one : (s : ShardState) → HeldShard shard_meaning Some (made_of a) (limits_in a) q.place s (after_free k bytes s) v w → FreedInShard a place one v w
+    freed_one s held = (
+      s,
+      subst (λ (z : ShardAt). HeldShard shard_meaning Some (made_of a) (limits_in a) z.place s (free_all one s) v w) whole (subst (λ (j : SlotId). HeldShard shard_meaning Some (made_of a) (limits_in a) q.place s (after_free j bytes s) v w) local held),
+    )
+
+    pub added_one : AddsAt q.place bytes v w → AddsBytes a ((slot, bytes) ∷ []) v w
+    added_one adds = bytes_added a slot bytes v w (subst (λ (z : ShardAt). AddsAt z.place bytes v w) whole adds)
 
 -- the shards one after the other
 pub next_units : (p n t w v first : ℕ) → w + (if n == p then t else 0) ≡ v → v + (if nat_lt p n then t else 0) ≡ first → w + (if nat_lt p (n + 1) then t else 0) ≡ first

@@ -1,5 +1,5 @@
 -- What the files of proofs/ import from the crates below and from std, but for std's plainest words.
-pub use Rattle.std.proofs.Math.Nat.{div-eq_of_lt-le, le-div_iff_mul-le}
+pub use Rattle.std.proofs.Math.Nat.{div-eq_of_lt-le, le-div_iff_mul-le, zero-mod}
 pub use Rattle.std.proofs.Math.Seq.{map-set_same}
 pub use Rattle.std.proofs.lemmas.Bool.{and_parts, cases_Bool, cases_eq, cases_lt, eqb-true, ltb-true, ne_eqb}
 pub use Rattle.std.proofs.lemmas.Bool.Decides.{nat_tests}

@@ -8,6 +8,8 @@ pub mod Freeing
 pub mod Filtered
 pub mod Freshness
 pub mod Growing
+pub mod HallFrees
+pub mod HallTakes
 mod Imports
 pub mod LastPlaces
 pub mod Layouts
@@ -23,6 +25,7 @@ pub mod Tables
 pub mod Takings
 pub mod Ticks
 pub mod Views
+pub mod WarmTakes
 pub mod WarmUnits
 pub mod Weaving
 pub mod SlotUnits

@@ -1,10 +1,10 @@
 -- What is known of the slots that a pick takes.
-use Rattle.std.proofs.Common.{◌≡◌, ℕ, ◌+◌, ◌*◌, ◌^◌, ◌<◌, ◌≤◌, length, arith, Bool, true, false, List, refl, suc, ap, ◌∙◌, ◌≢◌, sym, subst, inl, inr, get_or-set_same, get_or-set_other, take, drop, true≢false, eq-eqb, Some, None, Option, IsSome, IfSome, is_some, option_map, ◌==◌, if◌then◌else◌, slice_index_or, slice_set, remove, count_by, nat_lt}
-use Rattle.pool_index.proofs.Imports.{nat_tests, length-set, get_or_past, cases_eq, cases_lt, length-remove, All-append, All-take, All-drop, All-get_or, sum_by-le, sum_by-remove, sum_by-set, get_or-le-sum_by, option_map_or}
+use Rattle.std.proofs.Common.{◌≡◌, ℕ, ◌+◌, ◌*◌, ◌^◌, ◌<◌, ◌≤◌, length, arith, Bool, true, false, List, refl, suc, ap, ◌∙◌, ◌≢◌, sym, subst, inl, inr, get_or-set_same, get_or-set_other, take, drop, true≢false, eq-eqb, Some, None, Option, IsSome, IfSome, is_some, option_map, ◌==◌, if◌then◌else◌, slice_index_or, slice_set, remove, count_by, nat_lt, All}
+use Rattle.pool_index.proofs.Imports.{nat_tests, length-set, get_or_past, cases_eq, cases_lt, length-remove, All-append, All-take, All-drop, All-get_or, All-from_get_or, sum_by-le, sum_by-remove, sum_by-set, get_or-le-sum_by, option_map_or}
 use Rattle.pool_index.specs.Affinity.{is_affine}
 use Rattle.pool_index.specs.Positions.{last_position}
 use Rattle.pool_index.proofs.Filtered.{last_passes}
-use Rattle.pool_index.specs.Shard.{ShardState, IsShard, affine_choice, slot_and_bytes, one_if, warm_count, entry_at, use_of, is_used, used_count, resident_bytes, after_choice, warm_at, next_cold}
+use Rattle.pool_index.specs.Shard.{ShardState, IsShard, NumbersFit, affine_choice, slot_and_bytes, one_if, warm_count, entry_at, use_of, is_used, used_count, resident_bytes, after_choice, warm_at, next_cold}
 use Rattle.pool_index.specs.declared.warm_slot.WarmSlot.{WarmSlot}
 use Rattle.pool_index.specs.declared.ids.MemoryInModule.{MemoryInModule}
 use Rattle.pool_index.specs.declared.ids.SlotId.{SlotId}
@@ -54,6 +54,10 @@ warm_slot_free s i sound inside =
     let once = counted_once (warm_count n s.warm) (is_used s n) _ (sound.partition n) self in
     let below : n < s.cold = grind (arith, nat_tests) in
     record { within = omega arith; was = below; unused = none_from (use_of s n) once.0 }
+
+-- the numbers of warm slots fit
+pub warm_fit : (s : ShardState) → IsShard s → (first step : ℕ) → NumbersFit first step s.capacity → All (λ e. first + e.slot.0 * step < 2 ^ 32) s.warm
+warm_fit s sound first step fit = All-from_get_or (λ (e : WarmSlot). first + e.slot.0 * step < 2 ^ 32) s.warm _ (λ i inside. fit.fit (entry_at s i).slot.0 (let f = warm_slot_free s i sound inside in let w = f.within in let e = sound.entries in omega arith))
 
 -- the first cold slot is neither warm nor used
 pub record IsCold (s : ShardState) (n : ℕ) : Type 0 where

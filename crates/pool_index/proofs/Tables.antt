@@ -1,7 +1,7 @@
 -- What a table of affinities tells after one of its places changed.
 use Rattle.std.proofs.Common.{◌≡◌, ◌≢◌, ℕ, zero, suc, ◌+◌, ◌^◌, ◌<◌, ◌≤◌, true, false, List, [], ◌∷◌, length, replicate, refl, ap, sym, ◌∙◌, subst, arith, inl, inr, ⊎_elim, true≢false, length-set, get_or-set_same, get_or-set_other, Option, None, Some, IfSome, is_some, option_map, slice_index_or, slice_set, max, if◌then◌else◌}
-use Rattle.pool_index.proofs.Imports.{option_or, cases_eq, cases_lt, cases_Bool, nat_tests, get_or_past, get_or-replicate, length-replicate, sum_by-set, sum_by-cons}
-use Rattle.pool_index.specs.Table.{same_affinity, home, place, distance, has, own, entry_with, ends_at, ends_len, entry_len, table_total}
+use Rattle.pool_index.proofs.Imports.{option_or, zero-mod, cases_eq, cases_lt, cases_Bool, nat_tests, get_or_past, get_or-replicate, length-replicate, sum_by-set, sum_by-cons}
+use Rattle.pool_index.specs.Table.{same_affinity, mixed, home, place, distance, has, own, entry_with, ends_at, ends_len, entry_len, table_total, IsSpot}
 use Rattle.pool_index.specs.TableFields.{IsTable}
 use Rattle.pool_index.specs.declared.ids.MemoryInModule.{MemoryInModule}
 use Rattle.pool_index.specs.declared.affinity_table.Ends.{Ends}
@@ -311,3 +311,38 @@ none_vacant es reach n h d t long close all taken = full_table es t.lists (λ i 
     let inside' : i < n = omega arith in
     let below : distance n h i < n = distance-below n h i close' inside' in
     ap (λ j. is_some (slice_index_or es j None)) (sym (place-distance n h i close' inside')) ∙ taken (distance n h i) (omega arith))
+
+pub home_none : (n : ℕ) → home n None ≡ 0
+unfolding home mixed
+home_none n = zero-mod n
+
+-- what a search found
+some_same : (i j : ℕ) → Some i ≡ Some j → i ≡ j
+some_same i j e = cc
+
+pub found_spot : (es : Entries) (reach : List ℕ) → IsTable es reach → (n h i : ℕ) (a : Affinity) (x : AffinityEntry) → n ≡ length es → h ≡ home n a → h < n → i < n → slice_index_or es i None ≡ Some x → same_affinity a x.affinity ≡ true → IsSpot es a (record { home = h; entry = Some i; ends = Some x.ends })
+found_spot es reach t n h i a x long its close inside here same =
+    let in' : i < length es = omega arith in
+    let its_entry : has a (slice_index_or es i None) ≡ true = ap (has a) here ∙ same in
+    record {
+      its = its ∙ ap (λ k. home k a) long;
+      within = omega arith;
+      list = sym (found_ends es i a t.once in' its_entry ∙ has_own a (slice_index_or es i None) x its_entry here);
+      found = λ j e. subst (λ k. (k < length es) × (has a (slice_index_or es k None) ≡ true)) (some_same i j e) (in', its_entry);
+      absent = λ e. absurd (cc e);
+    }
+
+pub absent_spot : (es : Entries) (n h : ℕ) (a : Affinity) → n ≡ length es → h ≡ home n a → h < n → ((i : ℕ) → has a (slice_index_or es i None) ≡ false) → IsSpot es a (record { home = h; entry = None; ends = None })
+absent_spot es n h a long its close absent = record {
+  its = its ∙ ap (λ k. home k a) long;
+  within = omega arith;
+  list = sym (none_has es a absent);
+  found = λ i e. absurd (cc e);
+  absent = λ e. absent;
+}
+
+-- an affinity's entry with other ends
+pub its_entry : (es : Entries) (i : ℕ) (a : Affinity) (x : AffinityEntry) (ends : Ends) → has a (slice_index_or es i None) ≡ true → slice_index_or es i None ≡ Some x → Some (record x { ends = ends }) ≡ entry_with a (Some ends)
+its_entry es i a x ends found here =
+    let its : a ≡ x.affinity = same_is a x.affinity (sym (ap (has a) here) ∙ found) in
+    (λ k. Some (record { affinity = sym its k; ends = ends }))

@@ -1,12 +1,13 @@
 -- What a taking of all warm slots of a shard adds to the counts.
-use Rattle.std.proofs.Common.{◌≡◌, ◌≢◌, ℕ, zero, suc, ◌+◌, ◌-◌, ◌%◌, ◌^◌, ◌<◌, ◌≤◌, ◌==◌, nat_lt, if◌then◌else◌, Bool, true, false, List, [], ◌∷◌, ◌++◌, refl, sym, ap, subst, ◌∙◌, ⊎_elim, arith, eq-eqb, map, All, slice_index}
-use Rattle.pool_index.proofs.Imports.{All-from_get_or, All-head, All-tail, cases_eq, ne_eqb, nat_tests, sum_by-append, sum_by-cons, View, counted, number, put_view, rise, Taken}
+use Rattle.std.proofs.Common.{◌≡◌, ◌≢◌, ℕ, ◌+◌, ◌-◌, ◌%◌, ◌^◌, ◌<◌, ◌≤◌, ◌==◌, nat_lt, if◌then◌else◌, Bool, true, false, List, [], ◌∷◌, ◌++◌, refl, sym, ap, subst, ◌∙◌, ⊎_elim, arith, eq-eqb, map, All}
+use Rattle.pool_index.proofs.Imports.{All-from_get_or, All-head, All-tail, cases_eq, ne_eqb, nat_tests, sum_by-append, sum_by-cons, View, counted, number}
 use Rattle.std.specs.List.{sum_by}
-use Rattle.pool_index.specs.Allocator.{made_of, limits_in, place_in, bytes_into, taking_adds, CountsTaking}
-use Rattle.pool_index.specs.Freed.{IsTakenFrom, known_outside, taken_outside}
+use Rattle.pool_index.specs.Allocator.{made_of, place_in, bytes_into, taking_adds, CountsTaking}
+use Rattle.pool_index.specs.Freed.{known_outside, taken_outside}
+use Rattle.pool_index.specs.Holds.{TakesAt}
 use Rattle.pool_index.specs.Lists.{with_bytes}
-use Rattle.pool_index.specs.Part.{slot_unit, shard_meaning, shard_counts, cold_picks, warm_takes, bytes_kept}
-use Rattle.pool_index.specs.Shard.{ShardState, IsShard, entry_at, slot_number, resident_bytes, after_take_warm}
+use Rattle.pool_index.specs.Part.{slot_unit, FitsAt, cold_picks, warm_takes, bytes_kept}
+use Rattle.pool_index.specs.Shard.{ShardState, IsShard, entry_at, slot_number, resident_bytes}
 use Rattle.pool_index.specs.Round.{NoColdPick}
 use Rattle.pool_index.specs.Taken.{TakenState}
 use Rattle.pool_index.specs.declared.allocator.ModuleAffinityIndexAllocator.{ModuleAffinityIndexAllocator}
@@ -14,13 +15,8 @@ use Rattle.pool_index.specs.declared.ids.SlotId.{SlotId}
 use Rattle.pool_index.specs.declared.warm_slot.WarmSlot.{WarmSlot}
 use Rattle.pool_index.proofs.Allocating.{owner_is, kind_at}
 use Rattle.pool_index.proofs.FreedSlots.{sum_of_both}
-use Rattle.pool_index.proofs.Puts.{small_counts}
-use Rattle.pool_index.proofs.Rounds.{no_rise, rise_once, counted_after}
+use Rattle.pool_index.proofs.HallTakes.{chosen}
 use Rattle.pool_index.proofs.Shards.{warm_slot_free}
-
--- by two tests: the first number, the second, or 0
-abbrev chosen : Bool → Bool → ℕ → ℕ → ℕ
-chosen b c m n = if b then m else (if c then n else 0)
 
 no_matter : (b c : Bool) → chosen b c 0 0 ≡ 0
 no_matter true c = refl
@@ -30,22 +26,6 @@ no_matter false false = refl
 pub nothing : (b : Bool) (n : ℕ) → n ≡ 0 → (if b then n else 0) ≡ 0
 nothing true n e = e
 nothing false n e = refl
-
--- the counts of one shard
-module _ (s t : ShardState) (sound : IsShard s) (after : t ≡ after_take_warm s) where
-  none_kept : resident_bytes t ≡ 0
-  none_kept = ap (λ (z : ShardState). resident_bytes z) after
-
-  taken_rise : (i : ℕ) → rise (slice_index (shard_counts s) i) (slice_index (shard_counts t) i) ≡ chosen (i == warm_takes) (i == bytes_kept) 1 ((2 ^ 64 - resident_bytes s) % 2 ^ 64)
-  taken_rise zero = let e : t.cold ≡ s.cold = ap (λ (z : ShardState). z.cold) after in let a = small_counts s sound 0 in omega arith
-  taken_rise (suc zero) = let e : t.full_answers ≡ s.full_answers = ap (λ (z : ShardState). z.full_answers) after in let a = small_counts s sound 1 in omega arith
-  taken_rise (suc (suc zero)) = let e : t.affine_misses ≡ s.affine_misses = ap (λ (z : ShardState). z.affine_misses) after in let a = small_counts s sound 2 in omega arith
-  taken_rise (suc (suc (suc zero))) = let e : t.warm_takes ≡ (s.warm_takes + 1) % 2 ^ 64 = ap (λ (z : ShardState). z.warm_takes) after in ap (rise s.warm_takes) e ∙ rise_once s.warm_takes sound.counts.2
-  taken_rise (suc (suc (suc (suc zero)))) = let e = none_kept in let a = small_counts s sound 4 in omega arith
-  taken_rise (suc (suc (suc (suc (suc i))))) =
-      let a : (suc (suc (suc (suc (suc i)))) == warm_takes) ≡ false = ne_eqb (suc (suc (suc (suc (suc i))))) warm_takes (omega arith) in
-      let b : (suc (suc (suc (suc (suc i)))) == bytes_kept) ≡ false = ne_eqb (suc (suc (suc (suc (suc i))))) bytes_kept (omega arith) in
-      no_rise 0 (omega arith) ∙ sym (λ j. chosen (a j) (b j) 1 ((2 ^ 64 - resident_bytes s) % 2 ^ 64))
 
 -- slots whose shard is at the place n
 into_place : (a : ModuleAffinityIndexAllocator) (s : ShardState) (n p : ℕ) (es : List WarmSlot) → All (λ (e : WarmSlot). place_in a (slot_number s e.slot.0) ≡ n) es → bytes_into a p (map (known_outside s) (map with_bytes es)) ≡ (if p == n then sum_by (λ (e : WarmSlot). e.bytes) es else 0)
@@ -59,12 +39,12 @@ into_place a s n p (e ∷ es) there =
     let both = sum_of_both (p == n) e.bytes (sum_by (λ (e : WarmSlot). e.bytes) es) (sum_by (λ (e : WarmSlot). e.bytes) (e ∷ es)) (sum_by-cons (λ (e : WarmSlot). e.bytes) e es) in
     omega arith
 
-module _ (a : ModuleAffinityIndexAllocator) (n : ℕ) (h : n < a.shards) (x : ShardState) (v : View ShardState) (told : Taken shard_meaning (made_of a) (limits_in a) n x v) (y : ShardState) (old new local left : TakenState) (did : IsTakenFrom x y old new local left) where
+module _ (a : ModuleAffinityIndexAllocator) (n : ℕ) (h : n < a.shards) (x : ShardState) (fit : FitsAt (made_of a) n x) (old new : TakenState) (came : new ≡ record old { items = old.items ++ taken_outside x }) where
   sound : IsShard x
-  sound = told.stands.fits.sound
+  sound = fit.sound
 
   its_place : (k : ℕ) → k < x.capacity → place_in a (slot_number x k) ≡ n
-  its_place k inside = sym (owner_is _ _ _ _ _ _ a.made (slot_unit x k) (kind_at _ _ _ _ _ _ a.made n x h told.stands.fits)) ∙ told.stands.fits.own k inside
+  its_place k inside = sym (owner_is _ _ _ _ _ _ a.made (slot_unit x k) (kind_at _ _ _ _ _ _ a.made n x h fit)) ∙ fit.own k inside
 
   its_places : All (λ (e : WarmSlot). place_in a (slot_number x e.slot.0) ≡ n) x.warm
   its_places = All-from_get_or (λ (e : WarmSlot). place_in a (slot_number x e.slot.0) ≡ n) x.warm _ (λ i inside. its_place (entry_at x i).slot.0 (let f = warm_slot_free x i sound inside in let e = sound.entries in let w = f.within in omega arith))
@@ -72,7 +52,7 @@ module _ (a : ModuleAffinityIndexAllocator) (n : ℕ) (h : n < a.shards) (x : Sh
   more_bytes : (p : ℕ) → bytes_into a p new.items ≡ bytes_into a p old.items + (if p == n then resident_bytes x else 0)
   more_bytes p =
       let f : SlotId × ℕ → ℕ = λ q. if p == place_in a q.0.0 then q.1 else 0 in
-      let e : bytes_into a p new.items ≡ bytes_into a p (old.items ++ taken_outside x) = ap (λ (z : TakenState). bytes_into a p z.items) did.taken in
+      let e : bytes_into a p new.items ≡ bytes_into a p (old.items ++ taken_outside x) = ap (λ (z : TakenState). bytes_into a p z.items) came in
       let b : bytes_into a p (old.items ++ taken_outside x) ≡ bytes_into a p old.items + bytes_into a p (taken_outside x) = sum_by-append f old.items (taken_outside x) in
       let c = into_place a x n p x.warm its_places in
       omega arith
@@ -83,9 +63,9 @@ module _ (a : ModuleAffinityIndexAllocator) (n : ℕ) (h : n < a.shards) (x : Sh
   pub beyond_more : ((p : ℕ) → n ≤ p → bytes_into a p old.items ≡ 0) → (p : ℕ) → n + 1 ≤ p → bytes_into a p new.items ≡ 0
   beyond_more none p far = elsewhere p (λ (e : p ≡ n). absurd (omega arith)) ∙ none p (omega arith)
 
-  module _ (w : View ShardState) (put : w ≡ put_view shard_meaning n x y v) (first : View ShardState) (none : (p : ℕ) → n ≤ p → bytes_into a p old.items ≡ 0) (before : CountsTaking a n old.items first v) where
-    after_it : (p i : ℕ) → number (counted p i) w ≡ (if p == n then rise (slice_index (shard_counts x) i) (slice_index (shard_counts y) i) else 0) + number (counted p i) v
-    after_it p i = counted_after shard_meaning n x y x y refl refl v w put p i
+  module _ (v w : View ShardState) (takes : TakesAt n (resident_bytes x) v w) (first : View ShardState) (none : (p : ℕ) → n ≤ p → bytes_into a p old.items ≡ 0) (before : CountsTaking a n old.items first v) where
+    after_it : (p i : ℕ) → number (counted p i) w ≡ (if p == n then chosen (i == warm_takes) (i == bytes_kept) 1 ((2 ^ 64 - resident_bytes x) % 2 ^ 64) else 0) + number (counted p i) v
+    after_it p i = let t = takes p i in omega arith
 
     -- of the shard that was held nothing was taken before
     here : (i : ℕ) → number (counted n i) w ≡ number (counted n i) first + taking_adds a (n + 1) new.items n i
@@ -94,7 +74,7 @@ module _ (a : ModuleAffinityIndexAllocator) (n : ℕ) (h : n < a.shards) (x : Sh
         let c : Bool = i == bytes_kept in
         let k : ℕ = (2 ^ 64 - resident_bytes x) % 2 ^ 64 in
         let it : (n == n) ≡ true = eq-eqb n n refl in
-        let rose : number (counted n i) w ≡ chosen b c 1 k + number (counted n i) v = after_it n i ∙ ap (λ (t : Bool). (if t then rise (slice_index (shard_counts x) i) (slice_index (shard_counts y) i) else 0) + number (counted n i) v) it ∙ ap (λ (m : ℕ). m + number (counted n i) v) (taken_rise x y sound did.after i) in
+        let rose : number (counted n i) w ≡ chosen b c 1 k + number (counted n i) v = after_it n i ∙ ap (λ (t : Bool). (if t then chosen b c 1 k else 0) + number (counted n i) v) it in
         let not_yet : nat_lt n n ≡ false = grind (arith, nat_tests) in
         let now : nat_lt n (n + 1) ≡ true = grind (arith, nat_tests) in
         let was : taking_adds a n old.items n i ≡ 0 = (λ j. chosen b c (if not_yet j then 1 else 0) ((2 ^ 64 - none n (omega arith) j) % 2 ^ 64)) ∙ no_matter b c in
@@ -106,7 +86,7 @@ module _ (a : ModuleAffinityIndexAllocator) (n : ℕ) (h : n < a.shards) (x : Sh
     there : (p i : ℕ) → p ≢ n → number (counted p i) w ≡ number (counted p i) first + taking_adds a (n + 1) new.items p i
     there p i other =
         let still : nat_lt p (n + 1) ≡ nat_lt p n = grind (arith, nat_tests) in
-        let same : number (counted p i) w ≡ 0 + number (counted p i) v = after_it p i ∙ ap (λ (t : Bool). (if t then rise (slice_index (shard_counts x) i) (slice_index (shard_counts y) i) else 0) + number (counted p i) v) (ne_eqb p n other) in
+        let same : number (counted p i) w ≡ 0 + number (counted p i) v = after_it p i ∙ ap (λ (t : Bool). (if t then chosen (i == warm_takes) (i == bytes_kept) 1 ((2 ^ 64 - resident_bytes x) % 2 ^ 64) else 0) + number (counted p i) v) (ne_eqb p n other) in
         let is : taking_adds a (n + 1) new.items p i ≡ taking_adds a n old.items p i = λ j. chosen (i == warm_takes) (i == bytes_kept) (if still j then 1 else 0) ((2 ^ 64 - elsewhere p other j) % 2 ^ 64) in
         let had = before p i in
         omega arith

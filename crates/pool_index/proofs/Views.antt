@@ -9,7 +9,7 @@ use Rattle.pool_index.proofs.LastPlaces.{last_position-filter}
 use Rattle.pool_index.proofs.Ends.{last_of_ends}
 use Rattle.pool_index.specs.Links.{Each, IsLinked, before_in, has_affinity, with_affinity, first_of, last_or, ends_of, ends_first, ends_last, is_warm, entry_in, warm_entry, use_in, Linked, after_in, followed, lists_of, ends_with, ends_without, IsWoven}
 use Rattle.pool_index.specs.Lists.{SlotLists, warm_slot, bytes_of, use_warm, use_slot, free_slot}
-use Rattle.pool_index.specs.Records.{record_of, links_of, cold_records}
+use Rattle.pool_index.specs.Records.{record_of, links_of, cold_records, taken_rows}
 use Rattle.pool_index.proofs.Linking.{each-weaker, each-both, each-filter, same_links}
 use Rattle.pool_index.specs.Table.{ends_at, ends_len, entry_len, has, table_total, same_affinity}
 use Rattle.pool_index.specs.declared.ids.MemoryInModule.{MemoryInModule}
@@ -20,8 +20,8 @@ use Rattle.pool_index.specs.declared.slot_row.SlotRecord.{SlotRecord}
 use Rattle.pool_index.specs.declared.slot_row.SlotRecord.TheVariants.{Cold, Used, Warm}
 use Rattle.pool_index.specs.declared.warm_slot.WarmSlot.{WarmSlot}
 use Rattle.pool_index.proofs.Records.{Rows, uses_unlinked, uses_appended}
-use Rattle.pool_index.proofs.Tables.{Entries, Affinity, none_has, get_or-replicate-any}
-use Rattle.pool_index.proofs.Weaving.{ends_len_of, taken_rows, taken_entries, taken_woven, entry_of, same_filter, same_bytes}
+use Rattle.pool_index.proofs.Tables.{Entries, Affinity, same_is, none_has, get_or-replicate-any}
+use Rattle.pool_index.proofs.Weaving.{ends_len_of, taken_entries, taken_woven, entry_of, same_filter, same_bytes}
 use Rattle.pool_index.proofs.Freeing.{freed_record, freed_rows, freed_entries, freed_woven, its_record}
 
 -- the links lead through the list
@@ -320,10 +320,26 @@ pub record IsLastAffine (l : SlotLists) (of : MemoryInModule) (x : ℕ) : Type 0
   pub at_place : last_position (is_affine of) l.warm ≡ Some place
   pub inside : place < length l.warm
   pub slot : (warm_slot l place).slot.0 ≡ x
+  pub its : (warm_slot l place).affinity ≡ Some of
 
 place_of : (l : SlotLists) (of : MemoryInModule) (x : ℕ) (o : Option ℕ) → last_position (is_affine of) l.warm ≡ o → Some x ≡ option_map (λ i. (warm_slot l i).slot.0) o → IsLastAffine l of x
 place_of l of x None e h = absurd (cc h)
-place_of l of x (Some i) e h = record { place = i; at_place = e; inside = (last_passes (is_affine of) l.warm i (warm_slot l i) e).inside; slot = cc (sym h) }
+place_of l of x (Some i) e h =
+    let last = last_passes (is_affine of) l.warm i _ e in
+    record {
+      place = i;
+      at_place = e;
+      inside = last.inside;
+      slot = cc (sym h);
+      its = sym (same_is (Some of) (warm_slot l i).affinity (sym (affine_same of (warm_slot l i).affinity) ∙ last.passes));
+    }
 
 pub last_affine_at : (l : SlotLists) (of : MemoryInModule) (x : ℕ) → Some x ≡ option_map (λ i. (warm_slot l i).slot.0) (last_position (is_affine of) l.warm) → IsLastAffine l of x
 last_affine_at l of x h = place_of l of x (last_position (is_affine of) l.warm) refl h
+
+none_of : {X Y : Type 0} (f : X → Y) (o : Option X) → None ≡ option_map f o → o ≡ None
+none_of f None e = refl
+none_of f (Some x) e = absurd (cc e)
+
+pub no_last_affine : (l : SlotLists) (of : MemoryInModule) → None ≡ option_map (λ i. (warm_slot l i).slot.0) (last_position (is_affine of) l.warm) → last_position (is_affine of) l.warm ≡ None
+no_last_affine l of e = none_of (λ i. (warm_slot l i).slot.0) (last_position (is_affine of) l.warm) e

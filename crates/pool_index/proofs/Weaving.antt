@@ -2,7 +2,7 @@
 use Rattle.std.proofs.Common.{◌≡◌, ◌≢◌, ℕ, ◌+◌, ◌-◌, ◌<◌, ◌≤◌, Bool, true, false, List, [], ◌∷◌, ◌++◌, length, refl, ap, sym, ◌∙◌, subst, arith, true≢false, ⊎_elim, length-set, get_or-set_other, length-append, Option, None, Some, IfSome, slice_set, filter, sum_by, if◌then◌else◌}
 use Rattle.pool_index.proofs.Imports.{cases_Bool, filter-append, sum_by-append, sum_by-cons}
 use Rattle.pool_index.specs.Links.{Each, Apart, first_of, last_or, ends_of, is_at, is_warm, entry_in, warm_entry, IsLinked, after_in, before_in, has_affinity, with_affinity, ends_without, IsWoven}
-use Rattle.pool_index.specs.Records.{record_of, links_of, unlinked}
+use Rattle.pool_index.specs.Records.{record_of, links_of, unlinked, LinksWithin, taken_rows}
 use Rattle.pool_index.specs.Table.{same_affinity, ends_at, ends_len, table_total}
 use Rattle.pool_index.specs.declared.ids.MemoryInModule.{MemoryInModule}
 use Rattle.pool_index.specs.declared.affinity_table.Ends.{Ends}
@@ -93,10 +93,6 @@ module _ (rs ts : Rows) where
   pub same_bytes : (ks : List ℕ) → Each (λ j. warm_entry ts j ≡ warm_entry rs j) ks → sum_by (λ k. (warm_entry ts k).bytes) ks ≡ sum_by (λ k. (warm_entry rs k).bytes) ks
   same_bytes ks h = sum_agree (λ k. (warm_entry ts k).bytes) (λ k. (warm_entry rs k).bytes) ks (each-weaker (λ j. warm_entry ts j ≡ warm_entry rs j) (λ j. (warm_entry ts j).bytes ≡ (warm_entry rs j).bytes) (λ j e. ap (λ (s : WarmSlot). s.bytes) e) ks h)
 
--- A slot is taken
-abbrev pub taken_rows : Option MemoryInModule → WarmRecord → ℕ → Rows → Rows
-taken_rows want w x rs = unlinked Affine w.affine (unlinked Freed w.freed (slice_set rs x (Used want)))
-
 -- what a take leaves of another warm slot
 pub record AfterTake (rs ts : Rows) (x j : ℕ) : Type 0 where
   pub freed : Unlinks (after_in Freed rs) (before_in Freed rs) (after_in Freed ts) (before_in Freed ts) x j
@@ -155,16 +151,16 @@ module _ (rs : Rows) (table : Entries) (freed : Option Ends) (bytes : ℕ) (ls :
   right_within : Each (λ j. j < length rs) bs
   right_within = each-right (λ j. j < length rs) ls bs all_within
 
-  pub freed_before_within : Within w.freed.before rs
+  freed_before_within : Within w.freed.before rs
   freed_before_within = subst (λ o. Within o rs) (sym freed_before) (last_each (λ j. j < length rs) None ls tt left_within)
 
-  pub freed_after_within : Within w.freed.after rs
+  freed_after_within : Within w.freed.after rs
   freed_after_within = subst (λ o. Within o rs) (sym freed_after) (first_each (λ j. j < length rs) bs right_within)
 
-  pub affine_before_within : Within w.affine.before rs
+  affine_before_within : Within w.affine.before rs
   affine_before_within = subst (λ o. Within o rs) (sym affine_before) (last_each (λ j. j < length rs) None (F1 w.affinity) tt (each-filter (λ j. j < length rs) (has_affinity rs w.affinity) ls left_within))
 
-  pub affine_after_within : Within w.affine.after rs
+  affine_after_within : Within w.affine.after rs
   affine_after_within = subst (λ o. Within o rs) (sym affine_after) (first_each (λ j. j < length rs) (F2 w.affinity) (each-filter (λ j. j < length rs) (has_affinity rs w.affinity) bs right_within))
 
   abbrev r0 : Rows
@@ -259,17 +255,13 @@ module _ (rs : Rows) (table : Entries) (freed : Option Ends) (bytes : ℕ) (ls :
       let its' : (warm_entry rs x).bytes ≡ w.bytes = ap (λ (s : WarmSlot). s.bytes) (entry_of rs x w here) in
       omega arith
 
-  pub first_before_within : Within w.freed.before r0
-  first_before_within = within_to w.freed.before r0 length_r0 freed_before_within
-
-  pub first_after_within : Within w.freed.after r0
-  first_after_within = within_to w.freed.after r0 length_r0 freed_after_within
-
-  pub then_before_within : Within w.affine.before r1
-  then_before_within = within_to w.affine.before r1 length_r1 affine_before_within
-
-  pub then_after_within : Within w.affine.after r1
-  then_after_within = within_to w.affine.after r1 length_r1 affine_after_within
+  pub links_within : LinksWithin (length rs) (record_of rs x)
+  links_within = subst (LinksWithin (length rs)) (sym here) (record {
+    freed_before = freed_before_within;
+    freed_after = freed_after_within;
+    affine_before = affine_before_within;
+    affine_after = affine_after_within;
+  })
 
   pub taken_length : length ts ≡ length rs
   taken_length = length_unlinked Affine w.affine r1 ∙ length_r1

@@ -13,6 +13,7 @@ use Rattle.pool_index.specs.Shard.{ShardState}
 use Rattle.pool_index.specs.declared.allocator.ModuleAffinityIndexAllocator.{ModuleAffinityIndexAllocator}
 use Rattle.pool_index.specs.declared.ids.SlotId.{SlotId}
 use Rattle.pool_index.specs.declared.round.ShardPlaces.{ShardPlaces}
+use Rattle.pool_index.specs.declared.shard_calls.ShardAt.{ShardAt}
 
 -- what the allocator's hall was made with
 abbrev pub made_of : ModuleAffinityIndexAllocator → List ShardState
@@ -29,6 +30,10 @@ slot_count a = a.capacity
 -- The places of an index allocator's shards in its hall, which has nothing else.
 abbrev pub places_of : ModuleAffinityIndexAllocator → ShardPlaces
 places_of a = record { kind = Memory; first = 0; count = a.shards }
+
+-- The shard at a place of an index allocator's hall.
+abbrev pub shard_in : ModuleAffinityIndexAllocator → ℕ → ShardAt
+shard_in a p = record { place = p; kind = Memory; first = p * a.slots_per_shard; step = 1 }
 
 -- the number of the slot that was answered, if one was
 abbrev pub slot_answered : Option SlotId → Option ℕ

@@ -56,16 +56,13 @@ pub record IsCounted (s : ShardState) (r : ShardCounts) : Type 0 where
   pub bytes : r.bytes ≡ resident_bytes s
   pub none : r.is_empty ≡ (used_count s == 0)
 
--- there is room for all warm slots of the shard, and none are in the list for the slots of one shard
-pub record HasRoomFor (s : ShardState) (taken local : TakenState) : Type 0 where
-  pub none : local.items ≡ []
-  pub one : length s.warm ≤ local.room
-  pub all : length taken.items + length s.warm ≤ taken.room
+-- There is room for all warm slots of the shard.
+abbrev pub HasRoomFor : ShardState → TakenState → Type 0
+HasRoomFor s taken = length taken.items + length s.warm ≤ taken.room
 
 -- all warm slots of the shard s came behind those that were taken before, and t is left
-pub record IsTakenFrom (s t : ShardState) (old new local rest : TakenState) : Type 0 where
+pub record IsTakenFrom (s t : ShardState) (old new : TakenState) : Type 0 where
   pub taken : new ≡ record old { items = old.items ++ taken_outside s }
-  pub left : rest ≡ local
   pub after : t ≡ after_take_warm s
   pub same : IsSameShard s t
   pub sound : IsShard t

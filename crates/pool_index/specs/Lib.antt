@@ -1,6 +1,7 @@
 pub mod Affinity
 pub mod Allocator
 pub mod Freed
+pub mod Holds
 pub mod Laws
 pub mod Layout
 pub mod ListFields

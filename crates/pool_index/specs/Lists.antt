@@ -1,5 +1,5 @@
 -- The slots that were used: the free ones in a list, and what each of the others was picked for.
-use Rattle.std.specs.Prelude.{ℕ, ◌+◌, ◌-◌, ◌++◌, List, [], ◌∷◌, length, filter, min, take, drop, slice_index_or, slice_set, remove, sum_by, Option, None, Some, unwrap_or}
+use Rattle.std.specs.Prelude.{ℕ, ◌+◌, ◌-◌, ◌*◌, ◌++◌, List, [], ◌∷◌, length, filter, min, take, drop, slice_index_or, slice_set, remove, sum_by, Option, None, Some, unwrap_or}
 use Rattle.pool_index.specs.Table.{same_affinity}
 use Rattle.pool_index.specs.declared.ids.MemoryInModule.{MemoryInModule}
 use Rattle.pool_index.specs.declared.ids.SlotId.{SlotId}
@@ -17,6 +17,10 @@ warm_slot l i = slice_index_or l.warm i (record { slot = record { 0 = 0 }; affin
 -- the slot of a warm slot, with the bytes that it keeps resident
 abbrev pub with_bytes : WarmSlot → SlotId × ℕ
 with_bytes e = (e.slot, e.bytes)
+
+-- a slot with its bytes, by the number that it has where the first slot has this one, and each next one so much more
+abbrev pub numbered : ℕ → ℕ → SlotId × ℕ → SlotId × ℕ
+numbered first step p = (record { 0 = first + p.0.0 * step }, p.1)
 
 -- the bytes that warm slots keep resident
 abbrev pub bytes_of : List WarmSlot → ℕ

@@ -1,8 +1,10 @@
 -- The records of slots, and how their links change.
-use Rattle.std.specs.Prelude.{ℕ, List, slice_index_or, slice_set, replicate, Option, None, Some}
+use Rattle.std.specs.Prelude.{ℕ, ◌+◌, ◌<◌, IfSome, List, slice_index_or, slice_set, replicate, Option, None, Some}
+use Rattle.pool_index.specs.declared.ids.MemoryInModule.{MemoryInModule}
 use Rattle.pool_index.specs.declared.slot_row.Chain.{Chain}
 use Rattle.pool_index.specs.declared.slot_row.Chain.TheVariants.{Freed, Affine}
 use Rattle.pool_index.specs.declared.slot_row.Links.{Links}
+use Rattle.pool_index.specs.declared.slot_row.WarmRecord.{WarmRecord}
 use Rattle.pool_index.specs.declared.slot_row.SlotRecord.{SlotRecord}
 use Rattle.pool_index.specs.declared.slot_row.SlotRecord.TheVariants.{Cold, Used, Warm}
 
@@ -58,3 +60,18 @@ appended c last k rs = with_after c last (Some k) rs
 abbrev pub link_accesses : Option ℕ → ℕ
 link_accesses None = 0
 link_accesses (Some k) = 1
+
+-- the slots that a record is linked with are among so many
+pub record LinksWithin (n : ℕ) (r : SlotRecord) : Type 0 where
+  pub freed_before : IfSome (links_of Freed r).before (λ k. k < n)
+  pub freed_after : IfSome (links_of Freed r).after (λ k. k < n)
+  pub affine_before : IfSome (links_of Affine r).before (λ k. k < n)
+  pub affine_after : IfSome (links_of Affine r).after (λ k. k < n)
+
+-- The records once a warm slot is used for what was wanted: its neighbours are linked with each other in both lists
+abbrev pub taken_rows : Option MemoryInModule → WarmRecord → ℕ → List SlotRecord → List SlotRecord
+taken_rows want w x rs = unlinked Affine w.affine (unlinked Freed w.freed (slice_set rs x (Used want)))
+
+-- how many records such a take accesses: that of the slot and those of its neighbours
+abbrev pub taken_accesses : WarmRecord → ℕ
+taken_accesses w = 1 + link_accesses w.freed.before + link_accesses w.freed.after + link_accesses w.affine.before + link_accesses w.affine.after

@@ -1,10 +1,11 @@
 -- The table of affinities: where the list of each begins and ends.
-use Rattle.std.specs.Prelude.{ℕ, ◌+◌, ◌-◌, ◌*◌, ◌/◌, ◌%◌, ◌^◌, Bool, true, false, nat_lt, List, [], ◌∷◌, sum_by, Option, None, Some, if◌then◌else◌}
+use Rattle.std.specs.Prelude.{◌≡◌, ℕ, ◌<◌, ◌+◌, ◌-◌, ◌*◌, ◌/◌, ◌%◌, ◌^◌, Bool, true, false, nat_lt, List, [], ◌∷◌, length, slice_index_or, sum_by, Option, None, Some, if◌then◌else◌}
 use Rattle.std.specs.Option.{option_or, option_map_or}
 use Rattle.pool_index.specs.Affinity.{same_memory}
 use Rattle.pool_index.specs.declared.ids.MemoryInModule.{MemoryInModule}
 use Rattle.pool_index.specs.declared.affinity_table.Ends.{Ends}
 use Rattle.pool_index.specs.declared.affinity_table.AffinityEntry.{AffinityEntry}
+use Rattle.pool_index.specs.declared.affinity_table.Spot.{Spot}
 
 -- the same memory, or none both times
 abbrev pub same_affinity : Option MemoryInModule → Option MemoryInModule → Bool
@@ -62,3 +63,11 @@ entry_len (Some e) = e.ends.len
 -- how many slots all lists have
 abbrev pub table_total : List (Option AffinityEntry) → ℕ
 table_total es = sum_by entry_len es
+
+-- a search for an affinity found this
+pub record IsSpot (es : List (Option AffinityEntry)) (a : Option MemoryInModule) (s : Spot) : Type 0 where
+  pub its : s.home ≡ home (length es) a
+  pub within : s.home < length es
+  pub list : s.ends ≡ ends_at es a
+  pub found : (i : ℕ) → s.entry ≡ Some i → (i < length es) × (has a (slice_index_or es i None) ≡ true)
+  pub absent : s.entry ≡ None → (i : ℕ) → has a (slice_index_or es i None) ≡ false

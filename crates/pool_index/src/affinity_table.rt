@@ -1,5 +1,5 @@
 ghost use Rattle.std.specs.Prelude.{◌≡◌, ℕ, ◌+◌, ◌*◌, ◌<◌, ◌≤◌, ◌^◌, true, false, Some, None, Option, IfOk, IfSome, IfNone, is_some, length, replicate, max, slice_index_or, if◌then◌else◌};
-ghost use Rattle.pool_index.specs.Table.{same_affinity, mixed, home, place, has, ends_at, table_total, ends_len, entry_with};
+ghost use Rattle.pool_index.specs.Table.{same_affinity, mixed, home, place, has, ends_at, table_total, ends_len, entry_with, IsSpot};
 
 use crate::ids::MemoryInModule;
 use std::alloc::{AllocError, Global};
@@ -18,6 +18,17 @@ pub struct Ends {
 pub struct AffinityEntry {
     pub affinity: Option<MemoryInModule>,
     pub ends: Ends,
+}
+
+/// What a search for an affinity finds.
+#[derive(Clone, Copy, Debug, PartialEq, Eq)]
+pub struct Spot {
+    /// Where it is looked for first.
+    pub home: usize,
+    /// The place of its entry, where there is one.
+    pub entry: Option<usize>,
+    /// The ends of its list, where there is one.
+    pub ends: Option<Ends>,
 }
 
 /// Where the lists of the affinities begin and end. An entry stands at its home or as near behind it as was free, and
@@ -52,19 +63,14 @@ fn is_same(one: Option<MemoryInModule>, other: Option<MemoryInModule>) -> bool
     }
 }
 
-/// A number made of an affinity.
+/// A number made of a memory.
 #[tactic(auto, unfolding(crate::specs::Table::mixed))]
-fn mixed_of(affinity: Option<MemoryInModule>) -> u64
-    ensures { result ≡ mixed affinity }
+fn mixed_of(memory: MemoryInModule) -> u64
+    ensures { result ≡ mixed (Some memory) }
 {
-    match affinity {
-        Some(memory) => {
-            let module = memory.0.0.wrapping_mul(0x9E37_79B9_7F4A_7C15);
-            let index = (memory.1.0 as u64).wrapping_mul(0xC2B2_AE3D_27D4_EB4F);
-            module.wrapping_add(index)
-        }
-        None => 0,
-    }
+    let module = memory.0.0.wrapping_mul(0x9E37_79B9_7F4A_7C15);
+    let index = (memory.1.0 as u64).wrapping_mul(0xC2B2_AE3D_27D4_EB4F);
+    module.wrapping_add(index)
 }
 
 /// Where among so many places an affinity is looked for first.
@@ -73,7 +79,10 @@ fn home_of(affinity: Option<MemoryInModule>, len: usize) -> usize
     ensures value { result ≡ home len affinity }
     ensures within { result < len }
 {
-    (mixed_of(affinity) >> 32) as usize % len
+    match affinity {
+        Some(memory) => (mixed_of(memory) >> 32) as usize % len,
+        None => 0,
+    }
 }
 
 fn entry_of(affinity: Option<MemoryInModule>, ends: Option<Ends>) -> Option<AffinityEntry>
@@ -110,59 +119,10 @@ impl AffinityTable {
         Ok(AffinityTable { entries, reach })
     }
 
-    /// The ends of the list of an affinity, where there is one.
-    pub fn get(&self, affinity: Option<MemoryInModule>) -> Option<Ends>
-        ensures { result ≡ ends_at self.now affinity }
-    {
-        let (ends, _) = self.look(affinity);
-        ends
-    }
-
-    /// The ends of the list of an affinity, where there is one, and the place of its entry.
-    pub fn look(&self, affinity: Option<MemoryInModule>) -> (Option<Ends>, Option<usize>)
-        ensures ends { result.0 ≡ ends_at self.now affinity }
-        ensures found { (i : ℕ) → result.1 ≡ Some i → (i < length self.now) × (has affinity (slice_index_or self.now i None) ≡ true) }
-        ensures absent { result.1 ≡ None → (i : ℕ) → has affinity (slice_index_or self.now i None) ≡ false }
-    {
-        match self.find(affinity) {
-            Some(at) => match self.entries[at] {
-                Some(entry) => (Some(entry.ends), Some(at)),
-                None => unreachable!(),
-            },
-            None => (None, None),
-        }
-    }
-
-    /// Notes the ends of the list of an affinity, whose entry has this place, or that there is none. Takes no memory.
-    pub fn put_at(
-        &mut self,
-        at: Option<usize>,
-        affinity: Option<MemoryInModule>,
-        ends: Option<Ends>,
-    )
-        requires found { (i : ℕ) → at ≡ Some i → (i < length self.old) × (has affinity (slice_index_or self.old i None) ≡ true) }
-        requires absent { at ≡ None → (i : ℕ) → has affinity (slice_index_or self.old i None) ≡ false }
-        requires room { ends_at self.old affinity ≡ None → table_total self.old < length self.old }
-        requires some { IfSome ends (λ e. 0 < e.len) }
-        ensures ends { (a : Option MemoryInModule) → ends_at self.new a ≡ (if same_affinity a affinity then ends else ends_at self.old a) }
-        ensures total { table_total self.new + ends_len (ends_at self.old affinity) ≡ table_total self.old + ends_len ends }
-        ensures len { length self.new ≡ length self.old }
-    {
-        match at {
-            Some(at) => {
-                self.change(at, affinity, ends);
-                if ends.is_none() {
-                    self.shorten(affinity);
-                }
-            }
-            None => self.insert(affinity, ends),
-        }
-    }
-
-    /// The place of the entry of an affinity.
-    fn find(&self, affinity: Option<MemoryInModule>) -> Option<usize>
-        ensures found { IfSome result (λ i. (i < length self.now) × (has affinity (slice_index_or self.now i None) ≡ true)) }
-        ensures absent { IfNone result ((i : ℕ) → has affinity (slice_index_or self.now i None) ≡ false) }
+    /// Looks for an affinity.
+    #[inline(always)]
+    pub fn look(&self, affinity: Option<MemoryInModule>) -> Spot
+        ensures { IsSpot self.now affinity result }
     {
         let len = self.entries.len();
         let home = home_of(affinity, len);
@@ -171,10 +131,38 @@ impl AffinityTable {
             if let Some(entry) = self.entries[at]
                 && is_same(affinity, entry.affinity)
             {
-                return Some(at);
+                return Spot {
+                    home,
+                    entry: Some(at),
+                    ends: Some(entry.ends),
+                };
             }
         }
-        None
+        Spot {
+            home,
+            entry: None,
+            ends: None,
+        }
+    }
+
+    /// Notes the ends of the list of an affinity, which was looked for, or that there is none. Takes no memory.
+    #[inline(always)]
+    pub fn put_at(&mut self, spot: Spot, affinity: Option<MemoryInModule>, ends: Option<Ends>)
+        requires spot { IsSpot self.old affinity spot }
+        requires room { ends_at self.old affinity ≡ None → table_total self.old < length self.old }
+        requires some { IfSome ends (λ e. 0 < e.len) }
+        ensures ends { (a : Option MemoryInModule) → ends_at self.new a ≡ (if same_affinity a affinity then ends else ends_at self.old a) }
+        ensures total { table_total self.new + ends_len (ends_at self.old affinity) ≡ table_total self.old + ends_len ends }
+        ensures len { length self.new ≡ length self.old }
+    {
+        match (spot.entry, ends) {
+            (Some(at), Some(ends)) => self.change(at, affinity, ends),
+            (Some(at), None) => {
+                self.take_out(at, affinity);
+                self.shorten(spot.home);
+            }
+            (None, _) => self.insert(spot, affinity, ends),
+        }
     }
 
     /// How far behind a home the first free place is.
@@ -193,16 +181,32 @@ impl AffinityTable {
         unreachable!()
     }
 
-    /// Changes or takes out the entry of an affinity.
-    fn change(&mut self, at: usize, affinity: Option<MemoryInModule>, ends: Option<Ends>)
+    /// Changes the ends of the list of an affinity.
+    fn change(&mut self, at: usize, affinity: Option<MemoryInModule>, ends: Ends)
         requires inside { at < length self.old }
         requires found { has affinity (slice_index_or self.old at None) ≡ true }
-        requires some { IfSome ends (λ e. 0 < e.len) }
-        ensures ends { (a : Option MemoryInModule) → ends_at self.new a ≡ (if same_affinity a affinity then ends else ends_at self.old a) }
-        ensures total { table_total self.new + ends_len (ends_at self.old affinity) ≡ table_total self.old + ends_len ends }
+        requires some { 0 < ends.len }
+        ensures ends { (a : Option MemoryInModule) → ends_at self.new a ≡ (if same_affinity a affinity then Some ends else ends_at self.old a) }
+        ensures total { table_total self.new + ends_len (ends_at self.old affinity) ≡ table_total self.old + ends.len }
         ensures len { length self.new ≡ length self.old }
     {
-        self.entries[at] = entry_of(affinity, ends);
+        let _ = affinity;
+        let Some(entry) = &mut self.entries[at] else {
+            unreachable!()
+        };
+        entry.ends = ends;
+    }
+
+    /// Takes out the entry of an affinity.
+    fn take_out(&mut self, at: usize, affinity: Option<MemoryInModule>)
+        requires inside { at < length self.old }
+        requires found { has affinity (slice_index_or self.old at None) ≡ true }
+        ensures ends { (a : Option MemoryInModule) → ends_at self.new a ≡ (if same_affinity a affinity then None else ends_at self.old a) }
+        ensures total { table_total self.new + ends_len (ends_at self.old affinity) ≡ table_total self.old }
+        ensures len { length self.new ≡ length self.old }
+    {
+        let _ = affinity;
+        self.entries[at] = None;
     }
 
     /// How far behind a home a place is taken, of so many.
@@ -222,18 +226,19 @@ impl AffinityTable {
         0
     }
 
-    /// Forgets the free places at the end of the reach of an affinity's home.
-    fn shorten(&mut self, affinity: Option<MemoryInModule>)
+    /// Forgets the free places at the end of the reach of a home.
+    fn shorten(&mut self, home: usize)
+        requires { home < length self.old }
         ensures { self.new ≡ self.old }
     {
-        let home = home_of(affinity, self.entries.len());
         let left = self.taken_within(home, self.reach[home]);
         self.reach[home] = left;
     }
 
     /// Puts the entry of an affinity, where there is to be one, into the first free place behind its home.
-    fn insert(&mut self, affinity: Option<MemoryInModule>, ends: Option<Ends>)
-        requires absent { (i : ℕ) → has affinity (slice_index_or self.old i None) ≡ false }
+    fn insert(&mut self, spot: Spot, affinity: Option<MemoryInModule>, ends: Option<Ends>)
+        requires spot { IsSpot self.old affinity spot }
+        requires absent { spot.entry ≡ None }
         requires room { table_total self.old < length self.old }
         requires some { IfSome ends (λ e. 0 < e.len) }
         ensures ends { (a : Option MemoryInModule) → ends_at self.new a ≡ (if same_affinity a affinity then ends else ends_at self.old a) }
@@ -241,7 +246,7 @@ impl AffinityTable {
         ensures len { length self.new ≡ length self.old }
     {
         let len = self.entries.len();
-        let home = home_of(affinity, len);
+        let home = spot.home;
         let distance = self.vacancy(home);
         self.entries[place_of(home, distance, len)] = entry_of(affinity, ends);
         self.reach[home] = self.reach[home].max(distance + 1);

@@ -7,20 +7,21 @@ ghost use Rattle.pool_hall.specs.Unit.{pick_unit, times};
 ghost use Rattle.pool_hall.specs.Seat.{made_with, limits_of, view, IsSeatOf, IsFree};
 ghost use Rattle.pool_hall.specs.declared.hall.HallSeat.{HallSeat};
 ghost use Rattle.pool_index.specs.Shard.{ShardState, IsShard};
+ghost use Rattle.pool_index.specs.Holds.{HasShard};
 ghost use Rattle.pool_index.specs.Layout.{shard_count, slots_per_shard};
 ghost use Rattle.pool_index.specs.Part.{shard_meaning, full_answers, affine_misses};
 ghost use Rattle.pool_index.specs.declared.probe.Probe.TheVariants as probe;
 ghost use Rattle.pool_index.specs.Round.{round_place, found_units, AreShards, IsRound, KeepsRest, Gains, Gives, OnlyGrows, NoColdPick, OneColdPick, AllMissed, AllTopped};
 ghost use Rattle.pool_index.specs.MadeShards.{made_shard, made_shards};
-ghost use Rattle.pool_index.specs.Allocator.{slot_answered, made_of, limits_in, slot_count, places_of, place_in, local_in, FreedInShard, AddsBytes, IsIndexSeat};
+ghost use Rattle.pool_index.specs.Allocator.{slot_answered, made_of, limits_in, slot_count, places_of, shard_in, place_in, local_in, FreedInShard, AddsBytes, IsIndexSeat};
 
 use crate::allocator::{FullNotes, IndexSeat, ModuleAffinityIndexAllocator};
-use crate::free_call::FreeSlot;
 use crate::ids::{MemoryInModule, ShardId, SlotId};
-use crate::layout::{shard_of, slots_per_shard_of};
+use crate::layout::{numbers_at, shard_of, slots_per_shard_of};
 use crate::probe::Probe;
 use crate::round::{ShardPlaces, probe_shards};
 use crate::shard::Shard;
+use crate::shard_calls::{ShardAt, free_in};
 use pool_hall::{Hall, SlotKind};
 use pool_types::{CompiledModuleId, DefinedMemoryIndex};
 use std::alloc::{AllocError, Global};
@@ -90,7 +91,7 @@ impl ModuleAffinityIndexAllocator {
         let slots_per_shard = slots_per_shard_of(capacity, shards);
         let count = capacity.div_ceil(slots_per_shard).max(1);
         let parts = made_shards(alloc, capacity, warm, slots_per_shard, count)?;
-        let (hall, seat) = Hall::new(alloc, parts, Vec::new(alloc))?;
+        let (hall, seat) = Hall::new(alloc, parts, Vec::new(alloc), 0)?;
         let allocator = ModuleAffinityIndexAllocator {
             hall,
             capacity,
@@ -161,11 +162,27 @@ impl ModuleAffinityIndexAllocator {
         }
     }
 
+    /// The shard at a place.
+    pub(crate) fn at(&self, place: u32) -> ShardAt
+        requires { place < self.now.shards }
+        ensures value { result ≡ shard_in self.now place }
+        ensures within { result.place < length (made_of self.now) }
+        ensures shard { HasShard shard_meaning Some (made_of self.now) (limits_in self.now) result }
+    {
+        let (first, _) = numbers_at(self.capacity, self.slots_per_shard, self.shards, place);
+        ShardAt {
+            place,
+            kind: SlotKind::Memory,
+            first,
+            step: 1,
+        }
+    }
+
     /// The place of a slot's shard, and the slot's number there.
     fn local(&self, slot: SlotId) -> (u32, SlotId)
         ensures place { result.0 ≡ place_in self.now slot.0 }
         ensures local { result.1 ≡ record { 0 = local_in self.now slot.0 } }
-        ensures within { result.0 < length (made_of self.now) }
+        ensures within { result.0 < self.now.shards }
     {
         let place = (slot.0 / self.slots_per_shard).min(self.shards - 1);
         (place, SlotId(slot.0 - place * self.slots_per_shard))
@@ -240,10 +257,7 @@ impl ModuleAffinityIndexAllocator {
         ensures rest { KeepsRest (view seat.old) (view seat.new) }
     {
         let (place, local) = self.local(slot);
-        let mut call = FreeSlot {
-            slot: local,
-            bytes: bytes_resident,
-        };
-        self.hall.hold(rt, seat, place, &mut call);
+        let at = self.at(place);
+        free_in(rt, &self.hall, seat, at, local, bytes_resident);
     }
 }

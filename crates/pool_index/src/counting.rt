@@ -1,8 +1,6 @@
 //! What a shard tells of itself while it is held, and the taking of all its warm slots.
-ghost use Rattle.std.specs.Prelude.{◌≡◌, ◌+◌, ◌<◌, ◌≤◌, ◌++◌, length, map, All};
-ghost use Rattle.pool_index.specs.Freed.{IsCounted, HasRoomFor, IsTakenFrom, known_outside};
+ghost use Rattle.pool_index.specs.Freed.{IsCounted, HasRoomFor, IsTakenFrom};
 
-use crate::ids::SlotId;
 use crate::shard::Shard;
 use crate::taken::Taken;
 use pool_hall::PartCall;
@@ -49,8 +47,13 @@ impl PartCall<Shard> for CountSlots {
 #[derive(Drop)]
 pub struct TakeWarm {
     pub taken: Taken,
-    /// Empty between two calls.
-    pub local: Taken,
+}
+
+fn take_warm(shard: &mut Shard, taken: &mut Taken)
+    requires { HasRoomFor shard.old taken.old }
+    ensures { IsTakenFrom shard.old shard.new taken.old taken.new }
+{
+    shard.take_warm_outside(taken);
 }
 
 impl PartCall<Shard> for TakeWarm {
@@ -58,33 +61,11 @@ impl PartCall<Shard> for TakeWarm {
 
     type Answer = ();
 
-    ghost needs = { λ c s. HasRoomFor s c.taken c.local };
+    ghost needs = { λ c s. HasRoomFor s c.taken };
 
-    ghost does = { λ c s r d t. IsTakenFrom s t c.taken d.taken c.local d.local };
+    ghost does = { λ c s r d t. IsTakenFrom s t c.taken d.taken };
 
     fn call(&mut self, part: &mut Shard) {
-        take_warm(part, &mut self.taken, &mut self.local);
-    }
-}
-
-fn take_warm(shard: &mut Shard, taken: &mut Taken, local: &mut Taken)
-    requires { HasRoomFor shard.old taken.old local.old }
-    ensures { IsTakenFrom shard.old shard.new taken.old taken.new local.old local.new }
-{
-    shard.take_warm(local);
-    number_slots(shard, taken, local);
-    local.clear();
-}
-
-// Puts each of the shard's slots behind the taken ones, by its number outside.
-fn number_slots(shard: &Shard, taken: &mut Taken, local: &Taken)
-    requires inside { All (λ p. p.0.0 < shard.now.capacity) local.now.items }
-    requires room { length taken.old.items + length local.now.items ≤ taken.old.room }
-    ensures { taken.new ≡ record taken.old { items = taken.old.items ++ map (known_outside shard.now) local.now.items } }
-{
-    let slots = local.as_slice();
-    for at in 0..slots.len() {
-        let (slot, bytes) = slots[at];
-        taken.push(SlotId(shard.number(slot)), bytes);
+        take_warm(part, &mut self.taken);
     }
 }

@@ -39,10 +39,11 @@ mod free_call;
 mod many_calls;
 mod simple;
 
-// The round over shards, behind locks
+// The round over shards, and calls on one, behind locks
 mod part;
 mod probe;
 mod round;
+mod shard_calls;
 
 pub use allocator::{FullNotes, IndexSeat, ModuleAffinityIndexAllocator};
 pub use counting::{CountSlots, ShardCounts, TakeWarm};
@@ -55,6 +56,7 @@ pub use pool_hall::SlotKind;
 pub use probe::Probe;
 pub use round::{ShardPlaces, probe_shards};
 pub use shard::{FullNote, Shard};
+pub use shard_calls::{ShardAt, count_in, free_in, free_many_in, take_warm_in};
 pub use simple::SimpleIndexAllocator;
 pub use steps::Steps;
 pub use taken::Taken;

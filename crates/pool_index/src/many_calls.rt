@@ -11,10 +11,11 @@ ghost use Rattle.pool_index.specs.Round.{KeepsRest, KeepsUnits, Gains, Gives, Ke
 ghost use Rattle.pool_index.specs.Allocator.{slot_count, places_of, place_in, slots_at, bytes_into, FoundInTurn, FreedInShard, FreedInTurn, AddsBytes, CountsTaking, IsIndexSeat};
 
 use crate::allocator::{IndexSeat, ModuleAffinityIndexAllocator};
-use crate::counting::{CountSlots, ShardCounts, TakeWarm};
-use crate::free_call::{FreeSlots, has_between};
+use crate::counting::ShardCounts;
+use crate::free_call::has_between;
 use crate::ids::SlotId;
 use crate::layout::numbers_at;
+use crate::shard_calls::{count_in, free_many_in, take_warm_in};
 use crate::taken::Taken;
 use std::alloc::{AllocError, Global};
 use std::sync::Wait;
@@ -56,12 +57,8 @@ impl ModuleAffinityIndexAllocator {
     {
         let (first, end) = numbers_at(self.capacity, self.slots_per_shard, self.shards, place);
         if has_between(first, end, items) {
-            let mut call = FreeSlots {
-                slots: items,
-                first,
-                end,
-            };
-            self.hall.hold(rt, seat, place, &mut call);
+            let at = self.at(place);
+            free_many_in(rt, &self.hall, seat, at, items, first, end);
         }
     }
 
@@ -100,7 +97,8 @@ impl ModuleAffinityIndexAllocator {
             is_empty: true,
         };
         for place in 0..self.shards {
-            let found = self.hall.hold(rt, seat, place, &mut CountSlots {});
+            let at = self.at(place);
+            let found = count_in(rt, &self.hall, seat, at);
             let total = added(sum, found);
             sum = total;
         }
@@ -147,23 +145,26 @@ impl ModuleAffinityIndexAllocator {
     }
 
     // Takes the warm slots of each shard.
-    fn take_all<R: Wait>(&self, rt: &R, seat: &mut IndexSeat, call: &mut TakeWarm)
+    fn take_all<R: Wait>(&self, rt: &R, seat: &mut IndexSeat, room: Taken) -> Taken
         requires seat { IsIndexSeat self.now seat.old }
-        requires none { (call.old.taken.items ≡ []) × (call.old.local.items ≡ []) }
-        requires room { (call.old.taken.room ≡ slot_count self.now) × (call.old.local.room ≡ self.now.slots_per_shard) }
+        requires none { room.items ≡ [] }
+        requires room { room.room ≡ slot_count self.now }
         ensures seat { IsIndexSeat self.now seat.new }
-        ensures taken { FoundInTurn self.now after_take_warm (λ ss. call.new.taken.items ≡ flat_map taken_outside ss) (view seat.old) (view seat.new) }
-        ensures bytes { All (λ p. p.1 ≤ 2 ^ 32) call.new.taken.items }
-        ensures units { Gains (units_of_slots call.new.taken.items) (view seat.old) (view seat.new) }
-        ensures counts { CountsTaking self.now self.now.shards call.new.taken.items (view seat.old) (view seat.new) }
+        ensures taken { FoundInTurn self.now after_take_warm (λ ss. result.items ≡ flat_map taken_outside ss) (view seat.old) (view seat.new) }
+        ensures bytes { All (λ p. p.1 ≤ 2 ^ 32) result.items }
+        ensures units { Gains (units_of_slots result.items) (view seat.old) (view seat.new) }
+        ensures counts { CountsTaking self.now self.now.shards result.items (view seat.old) (view seat.new) }
         ensures takes { AllMissed (places_of self.now) warm_takes (view seat.old) (view seat.new) }
         ensures cold { NoColdPick (view seat.old) (view seat.new) }
         ensures grows { OnlyGrows (view seat.old) (view seat.new) }
         ensures rest { KeepsRest (view seat.old) (view seat.new) }
     {
+        let mut taken = room;
         for place in 0..self.shards {
-            self.hall.hold(rt, seat, place, call);
+            let at = self.at(place);
+            taken = take_warm_in(rt, &self.hall, seat, at, taken);
         }
+        taken
     }
 
     /// Takes all warm slots, shard by shard from the first on, each with the bytes that it keeps resident. They keep
@@ -188,12 +189,7 @@ impl ModuleAffinityIndexAllocator {
         ensures grows { OnlyGrows (view seat.old) (view seat.new) }
         ensures rest { KeepsRest (view seat.old) (view seat.new) }
     {
-        let mut call = TakeWarm {
-            taken: Taken::new(alloc, self.capacity as usize)?,
-            local: Taken::new(alloc, self.slots_per_shard as usize)?,
-        };
-        self.take_all(rt, seat, &mut call);
-        let TakeWarm { taken, local: _ } = call;
-        Ok(taken)
+        let room = Taken::new(alloc, self.capacity as usize)?;
+        Ok(self.take_all(rt, seat, room))
     }
 }

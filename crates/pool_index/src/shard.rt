@@ -1,6 +1,8 @@
-ghost use Rattle.std.specs.Prelude.{◌≡◌, ◌+◌, ◌^◌, ◌<◌, ◌≤◌, ◌==◌, ◌++◌, length, All, IfOk, IfSome, OnOk, OnErr, IsSome, Some, None, option_map};
+ghost use Rattle.std.specs.Prelude.{◌≡◌, ◌+◌, ◌^◌, ◌<◌, ◌≤◌, ◌==◌, ◌++◌, length, map, All, IfOk, IfSome, OnOk, OnErr, IsSome, Some, None, option_map};
 ghost use Rattle.std.specs.Result.{result_ok};
 ghost use Rattle.std.specs.Option.{option_map_or};
+ghost use Rattle.pool_index.specs.Freed.{taken_outside};
+ghost use Rattle.pool_index.specs.Lists.{numbered};
 ghost use Rattle.pool_index.specs.Shard.{IsShard, IsSameShard, NumbersFit, KeepsOthers, KeepsUsed, fresh_shard, use_of, used_count, resident_bytes, slot_number, warm_at, next_cold, affine_choice, slot_and_bytes, after_choice, pick_answer, after_full, after_pick, affine_answer, after_affine_pick, taken_slots, after_take_warm, after_free};
 
 use crate::ids::{MemoryInModule, SlotId};
@@ -198,8 +200,21 @@ impl Shard {
         ensures stay { KeepsUsed self.old self.new }
         ensures sound { IsShard self.new }
     {
-        self.lists.take_all::<Brand>(out, Blank::new(1));
-        self.warm_takes = self.warm_takes.wrapping_add(1);
+        let _slots = self.len();
+        self.take_warm_as(0, 1, out);
+    }
+
+    /// The same, by the numbers by which the slots are known outside.
+    pub fn take_warm_outside(&mut self, out: &mut Taken)
+        requires { length out.old.items + length self.old.warm ≤ out.old.room }
+        ensures taken { out.new ≡ record out.old { items = out.old.items ++ taken_outside self.old } }
+        ensures after { self.new ≡ after_take_warm self.old }
+        ensures same { IsSameShard self.old self.new }
+        ensures used { All (λ p. IsSome (use_of self.new p.0.0)) (taken_slots self.old) }
+        ensures stay { KeepsUsed self.old self.new }
+        ensures sound { IsShard self.new }
+    {
+        self.take_warm_as(self.first, self.step, out);
     }
 
     /// Gives a used slot back: it is warm then, and keeps so many bytes resident. Takes no memory.
@@ -214,6 +229,23 @@ impl Shard {
         ensures steps { steps.new ≤ steps.old + 8 }
     {
         self.lists.free(slot, bytes_resident, steps);
+    }
+
+    /// Takes all warm slots, each by the number that it has where the first slot has this one, and each next one so much
+    /// more.
+    fn take_warm_as(&mut self, first: u32, step: u32, out: &mut Taken)
+        requires fit { NumbersFit first step self.old.capacity }
+        requires room { length out.old.items + length self.old.warm ≤ out.old.room }
+        ensures taken { out.new ≡ record out.old { items = out.old.items ++ map (numbered first step) (taken_slots self.old) } }
+        ensures after { self.new ≡ after_take_warm self.old }
+        ensures same { IsSameShard self.old self.new }
+        ensures used { All (λ p. IsSome (use_of self.new p.0.0)) (taken_slots self.old) }
+        ensures stay { KeepsUsed self.old self.new }
+        ensures sound { IsShard self.new }
+    {
+        self.lists
+            .take_all::<Brand>(first, step, out, Blank::new(1));
+        self.warm_takes = self.warm_takes.wrapping_add(1);
     }
 
     /// Takes the last warm slot that is affine to the wanted memory, where there is one.

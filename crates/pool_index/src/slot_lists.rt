@@ -1,10 +1,10 @@
-ghost use Rattle.std.specs.Prelude.{◌≡◌, ◌≢◌, ℕ, ◌+◌, ◌<◌, ◌≤◌, ◌^◌, ◌++◌, [], Some, None, IfOk, IsSome, length, map, replicate, slice_index_or, option_map};
+ghost use Rattle.std.specs.Prelude.{◌≡◌, ◌≢◌, ℕ, ◌+◌, ◌*◌, ◌<◌, ◌≤◌, ◌^◌, ◌++◌, [], Some, None, All, IfOk, IsSome, length, map, replicate, slice_index_or, option_map};
 ghost use Rattle.std.specs.Option.{option_map_or};
 ghost use Rattle.pool_index.specs.Affinity.{is_affine};
 ghost use Rattle.pool_index.specs.Positions.{last_position};
 ghost use Rattle.pool_index.specs.Links.{ends_without, ends_with, ends_last};
 ghost use Rattle.pool_index.specs.Table.{ends_len};
-ghost use Rattle.pool_index.specs.Lists.{warm_slot, with_bytes, bytes_of, use_warm, use_slot, free_slot, free_accesses, take_accesses, use_again};
+ghost use Rattle.pool_index.specs.Lists.{warm_slot, with_bytes, numbered, bytes_of, use_warm, use_slot, free_slot, free_accesses, take_accesses, use_again};
 
 use crate::affinity_table::{AffinityTable, Ends};
 use crate::ids::{MemoryInModule, SlotId};
@@ -142,8 +142,14 @@ impl SlotLists {
         ensures steps { steps.new ≡ steps.old + option_map_or (take_accesses self.old) (last_position (is_affine of) self.old.warm) 0 }
         ensures missed { result ≡ None → steps.new ≡ steps.old }
     {
-        let slot = self.last_affine(of)?;
-        Some(self.take(slot, want, steps))
+        let spot = self.table.look(Some(of));
+        let slot = last_of(spot.ends)?;
+        let taken = self.rows.take(slot, want, steps);
+        self.table
+            .put_at(spot, Some(of), without(spot.ends, taken.affine));
+        self.freed = without(self.freed, taken.freed);
+        self.bytes -= taken.bytes;
+        Some((SlotId(slot), taken.bytes))
     }
 
     /// Takes the first warm slot for what is wanted.
@@ -158,23 +164,31 @@ impl SlotLists {
         ensures steps { steps.new ≡ steps.old + take_accesses self.old 0 }
     {
         let slot = self.first();
-        self.take(slot, want, steps)
+        let taken = self.rows.take(slot, want, steps);
+        let spot = self.table.look(taken.affinity);
+        self.table
+            .put_at(spot, taken.affinity, without(spot.ends, taken.affine));
+        self.freed = without(self.freed, taken.freed);
+        self.bytes -= taken.bytes;
+        (SlotId(slot), taken.bytes)
     }
 
-    /// Takes all warm slots in their order. Each is used for what it is affine to.
-    pub fn take_all<L: Ledger>(&mut self, out: &mut Taken, blank: Blank)
+    /// Takes all warm slots in their order, each by the number that it has where the first slot has this one, and each next
+    /// one so much more. Each is used for what it is affine to.
+    pub fn take_all<L: Ledger>(&mut self, first: u32, step: u32, out: &mut Taken, blank: Blank)
         requires name { blank.name ≡ L.name }
         requires parts { blank.parts ≡ L.parts }
         requires some { 0 < blank.parts }
+        requires fit { All (λ e. first + e.slot.0 * step < 2 ^ 32) self.old.warm }
         requires room { length out.old.items + length self.old.warm ≤ out.old.room }
-        ensures taken { out.new ≡ record out.old { items = out.old.items ++ map with_bytes self.old.warm } }
+        ensures taken { out.new ≡ record out.old { items = out.old.items ++ map (numbered first step) (map with_bytes self.old.warm) } }
         ensures after { self.new ≡ record { warm = []; used = use_again self.old.warm self.old.used } }
     {
         let mut steps = Steps::<L>::new(blank);
         while self.warm_len() > 0 {
             let affinity = self.first_affinity(&mut steps);
             let (slot, bytes) = self.take_first(affinity, &mut steps);
-            out.push(slot, bytes);
+            out.push(SlotId(first + slot.0 * step), bytes);
         }
     }
 
@@ -205,46 +219,22 @@ impl SlotLists {
         let SlotRecord::Used(affinity) = self.rows.read(slot.0, steps) else {
             unreachable!()
         };
-        let (affine, at) = self.table.look(affinity);
+        let spot = self.table.look(affinity);
         let record = WarmRecord {
             affinity,
             bytes,
             freed: behind(self.freed),
-            affine: behind(affine),
+            affine: behind(spot.ends),
         };
         self.rows.replace(slot.0, SlotRecord::Warm(record), steps);
         self.rows
             .append(Chain::Freed, last_of(self.freed), slot.0, steps);
         self.rows
-            .append(Chain::Affine, last_of(affine), slot.0, steps);
-        self.table.put_at(at, affinity, Some(with(affine, slot.0)));
+            .append(Chain::Affine, last_of(spot.ends), slot.0, steps);
+        self.table
+            .put_at(spot, affinity, Some(with(spot.ends, slot.0)));
         self.freed = Some(with(self.freed, slot.0));
         self.bytes += bytes;
-    }
-
-    /// Takes a warm slot for what is wanted.
-    fn take<L: Ledger>(
-        &mut self,
-        slot: u32,
-        want: Option<MemoryInModule>,
-        steps: &mut Steps<L>,
-    ) -> (SlotId, usize)
-        requires { (i : ℕ) × (i < length self.old.warm) × ((warm_slot self.old i).slot.0 ≡ slot) }
-        ensures answer { (i : ℕ) → i < length self.old.warm → (warm_slot self.old i).slot.0 ≡ slot → result ≡ with_bytes (warm_slot self.old i) }
-        ensures after { (i : ℕ) → i < length self.old.warm → (warm_slot self.old i).slot.0 ≡ slot → self.new ≡ use_warm want self.old i }
-        ensures steps { (i : ℕ) → i < length self.old.warm → (warm_slot self.old i).slot.0 ≡ slot → steps.new ≡ steps.old + take_accesses self.old i }
-    {
-        let SlotRecord::Warm(record) = self.rows.replace(slot, SlotRecord::Used(want), steps) else {
-            unreachable!()
-        };
-        self.rows.unlink(Chain::Freed, record.freed, steps);
-        self.rows.unlink(Chain::Affine, record.affine, steps);
-        let (affine, at) = self.table.look(record.affinity);
-        self.table
-            .put_at(at, record.affinity, without(affine, record.affine));
-        self.freed = without(self.freed, record.freed);
-        self.bytes -= record.bytes;
-        (SlotId(slot), record.bytes)
     }
 
     /// The first warm slot.
@@ -267,12 +257,5 @@ impl SlotLists {
             SlotRecord::Warm(record) => record.affinity,
             _ => unreachable!(),
         }
-    }
-
-    /// The last warm slot that is affine to a memory.
-    fn last_affine(&self, of: MemoryInModule) -> Option<u32>
-        ensures { result ≡ option_map (λ i. (warm_slot self.now i).slot.0) (last_position (is_affine of) self.now.warm) }
-    {
-        last_of(self.table.get(Some(of)))
     }
 }

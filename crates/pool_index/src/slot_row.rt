@@ -1,5 +1,7 @@
-ghost use Rattle.std.specs.Prelude.{◌≡◌, ◌+◌, ◌<◌, IfOk, IfSome, length, slice_set};
-ghost use Rattle.pool_index.specs.Records.{record_of, cold_records, with_before, with_after, unlinked, appended, link_accesses};
+ghost use Rattle.std.specs.Prelude.{◌≡◌, ◌+◌, ◌<◌, true, IfOk, IfSome, length, slice_set};
+ghost use Rattle.pool_index.specs.Links.{is_warm};
+ghost use Rattle.pool_index.specs.Records.{record_of, cold_records, with_before, with_after, unlinked, appended, link_accesses, LinksWithin, taken_rows, taken_accesses};
+ghost use Rattle.pool_index.specs.declared.slot_row.SlotRecord.TheVariants.{Warm};
 
 use crate::ids::MemoryInModule;
 use crate::steps::Steps;
@@ -94,8 +96,30 @@ impl SlotRow {
         had
     }
 
+    /// Takes a warm slot for what is wanted: its neighbours are linked with each other, past the slot.
+    #[inline(always)]
+    pub fn take<L: Ledger>(
+        &mut self,
+        slot: u32,
+        want: Option<MemoryInModule>,
+        steps: &mut Steps<L>,
+    ) -> WarmRecord
+        requires warm { is_warm (record_of self.old slot) ≡ true }
+        requires linked { LinksWithin (length self.old) (record_of self.old slot) }
+        ensures value { Warm result ≡ record_of self.old slot }
+        ensures after { self.new ≡ taken_rows want result slot self.old }
+        ensures steps { steps.new ≡ steps.old + taken_accesses result }
+    {
+        let SlotRecord::Warm(taken) = self.replace(slot, SlotRecord::Used(want), steps) else {
+            unreachable!()
+        };
+        self.unlink(Chain::Freed, taken.freed, steps);
+        self.unlink(Chain::Affine, taken.affine, steps);
+        taken
+    }
+
     /// Links the neighbours of a slot with each other, past the slot.
-    pub fn unlink<L: Ledger>(&mut self, chain: Chain, links: Links, steps: &mut Steps<L>)
+    fn unlink<L: Ledger>(&mut self, chain: Chain, links: Links, steps: &mut Steps<L>)
         requires before { IfSome links.before (λ k. k < length self.old) }
         requires after { IfSome links.after (λ k. k < length self.old) }
         ensures after { self.new ≡ unlinked chain links self.old }

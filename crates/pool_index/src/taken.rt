@@ -56,11 +56,4 @@ impl Taken {
             unreachable!()
         };
     }
-
-    /// No slot again.
-    pub(crate) fn clear(&mut self)
-        ensures { self.new ≡ record self.old { items = [] } }
-    {
-        self.items.clear();
-    }
 }

@@ -1,15 +1,19 @@
-use Rattle.std.proofs.Common.{◌≡◌, ◌∙◌, sym, subst, arith, Some, None, slice_index_or}
+use Rattle.std.proofs.Common.{◌≡◌, rules, arith, subst, true, Some, None, slice_index_or}
 use Rattle.std.proofs.lemmas.Grind.{common_steps}
+use Rattle.pool_index.specs.Table.{same_affinity}
 use Rattle.pool_index.specs.TableFields.{IsTable}
-use Rattle.pool_index.proofs.Tables.{Entries, none_has, found_ends, has_own}
+use Rattle.pool_index.proofs.Tables.{Entries, none_found, found_spot, absent_spot}
 use Rattle.pool_index.proofs.affinity_table.AffinityTable.look.Goals as goal
 
-pub returns-in-None-clause-ends : goal.returns-in-None-clause-ends
-returns-in-None-clause-ends c = sym (none_has c.args.self.now c.args.affinity c.in-None.ensures.absent)
-
-pub returns-in-Some-index-clause-ends : goal.returns-in-Some-index-clause-ends
-returns-in-Some-index-clause-ends c =
+pub returns : goal.returns
+returns c =
     let t : IsTable c.args.self.now c.self.inside.reach.items = subst (λ (es : Entries). IsTable es c.self.inside.reach.items) c.self.view_is c.self.invariant in
-    let found = c.in-Some.ensures.found in
-    let here : slice_index_or c.args.self.now c.in-Some.at None ≡ Some c.in-Some-index.entry = grind (arith, common_steps) in
-    sym (found_ends c.args.self.now c.in-Some.at c.args.affinity t.once found.0 found.1 ∙ has_own c.args.affinity _ c.in-Some-index.entry found.1 here)
+    absent_spot c.args.self.now c.len-len.result c.home_of-home.result c.args.affinity (search rules) c.home_of-home.ensures.value c.home_of-home.ensures.within
+    (none_found c.args.self.now c.self.inside.reach.items c.args.affinity c.len-len.result c.home_of-home.result c.loop-distance.distance t (search rules) c.home_of-home.ensures.value c.home_of-home.ensures.within (let at_end : slice_index_or c.self.inside.reach.items c.home_of-home.result 0 ≡ c.index-distance-end.result.now = grind (arith, common_steps) in let test = c.loop-distance-test.false in omega arith) c.loop-distance.invariant)
+
+pub returns-in-loop-distance : goal.returns-in-loop-distance
+returns-in-loop-distance c =
+    let t : IsTable c.args.self.now c.self.inside.reach.items = subst (λ (es : Entries). IsTable es c.self.inside.reach.items) c.self.view_is c.self.invariant in
+    let here : slice_index_or c.args.self.now c.place_of-at.result None ≡ Some c.in-Some.entry = grind (arith, common_steps) in
+    let same : same_affinity c.args.affinity c.in-Some.entry.affinity ≡ true = grind (arith, common_steps) in
+    found_spot c.args.self.now c.self.inside.reach.items t c.len-len.result c.home_of-home.result c.place_of-at.result c.args.affinity c.in-Some.entry (search rules) c.home_of-home.ensures.value c.home_of-home.ensures.within c.place_of-at.ensures.within here same

@@ -5,4 +5,4 @@ use Rattle.pool_index.proofs.affinity_table.AffinityTable.shorten.Goals as goal
 
 pub invariant_of-self : goal.invariant_of-self
 invariant_of-self c =
-    shortened_table c.self.inside.entries.items c.self.inside.reach.items c.home_of-home.result c.taken_within-left.result c.self.invariant (grind (arith, common_steps)) (grind (arith, common_steps)) (grind (arith, common_steps))
+    shortened_table c.self.inside.entries.items c.self.inside.reach.items c.args.home c.taken_within-left.result c.self.invariant (grind (arith, common_steps)) (grind (arith, common_steps)) (grind (arith, common_steps))

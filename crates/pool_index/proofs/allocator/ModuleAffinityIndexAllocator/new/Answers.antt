@@ -12,6 +12,6 @@ new-requires-2-clause-few c =
     omega (arith, c.in_ok-parts.parts.ok.0)
 
 pub new-requires-2-clause-fresh : goal.new-requires-2-clause-fresh
-new-requires-2-clause-fresh c _ =
+new-requires-2-clause-fresh c =
     let made = c.in_ok-parts.ensures.made in
     subst (λ (l : List ShardState). AllFresh shard_meaning l c.new.result.items) (sym made) (all_fresh _ _ _ (omega arith) c.new.result.items (subst (All IsShard) made c.in_ok-parts.ensures.sound))

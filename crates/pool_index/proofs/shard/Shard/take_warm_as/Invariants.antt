@@ -1,4 +1,4 @@
-use Rattle.pool_index.proofs.shard.Shard.take_warm.Given as goal
+use Rattle.pool_index.proofs.shard.Shard.take_warm_as.Given as goal
 
 abbrev pub ghosts-take_all : goal.ghosts-take_all
 ghosts-take_all a = record { name = a.blank.name; parts = a.blank.parts }
