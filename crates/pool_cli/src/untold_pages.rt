@@ -1,34 +1,107 @@
-ghost use Rattle.std.specs.Prelude.{◌≡◌, ◌==◌, if◌then◌else◌, Ok};
+ghost use Rattle.std.specs.Prelude.{◌≡◌, ◌+◌, ◌-◌, ◌/◌, ◌%◌, ◌^◌, ◌<◌, ◌≤◌, ◌==◌, if◌then◌else◌, false, length, replicate, IfOk, Ok};
 ghost use Rattle.pool_types.specs.Rising.{risen};
+ghost use Rattle.pool_pages.specs.Contents.{put_all, touched, range_marked, touched_marked};
+ghost use Rattle.pool_pages.specs.Told.{mapped_mark};
 
 use pool_pages::{ImageData, MakeFault, PageCalls, PageFault, PageMaker, Pages, RegionName};
 use pool_types::{DecommitBehavior, HostAlignedByteCount, PageSize};
-use std::alloc::Global;
+use std::alloc::{AllocError, Global};
 use std::marker::Model;
 
 /// What each byte of an `UntoldRegion` reads as.
 const UNTOLD_BYTE: u8 = 0x5a;
 
-/// A region that tells neither what it holds nor which calls fail. It holds nothing, and reads as one byte throughout.
+/// A region that tells neither what it holds nor which calls fail. It holds nothing but its dirty marks, and reads as
+/// one byte throughout.
 #[derive(Drop)]
 pub(crate) struct UntoldRegion {
     name: RegionName,
     len: HostAlignedByteCount,
     behaviour: DecommitBehavior,
+    marks: Vec<bool>,
     made: u64,
     calls: PageCalls,
 }
 
 impl Model for UntoldRegion {
-    ghost use Rattle.std.specs.Prelude.{None};
+    ghost use Rattle.std.specs.Prelude.{◌≡◌, ◌/◌, length, None};
     ghost use Rattle.pool_pages.specs.Told.{Told};
 
     ghost Value = { Told };
 
-    ghost view = { λ r. record { name = r.name; page = r.len.page; len = r.len.bytes; behaviour = r.behaviour; contents = None; plan = None; made = r.made; calls = r.calls; faults = 0 } };
+    ghost view = { λ r. record { name = r.name; page = r.len.page; len = r.len.bytes; behaviour = r.behaviour; contents = None; marks = r.marks.items; plan = None; made = r.made; calls = r.calls; faults = 0 } };
+
+    ghost invariant = { λ r. length r.marks.items ≡ r.len.bytes / r.len.page };
+}
+
+/// The number of pages that the bytes from a place on touch.
+#[tactic(auto, using(crate::proofs::Marks::pages_order))]
+fn touched_pages(page: usize, start: usize, len: usize) -> usize
+    requires page { 0 < page }
+    requires inside { start + len < 2 ^ 64 }
+    ensures { result ≡ touched page start len }
+{
+    if len == 0 {
+        0
+    } else {
+        (start + len - 1) / page + 1 - start / page
+    }
+}
+
+/// So many pages that aren't dirty.
+fn clean_marks(alloc: Global, pages: usize) -> Result<Vec<bool>, AllocError>
+    ensures { IfOk result (λ marks. marks.items ≡ replicate pages false) }
+{
+    let mut marks = Vec::with_capacity(alloc, pages)?;
+    marks.resize(pages, false)?;
+    Ok(marks)
+}
+
+/// Whether a page that an image was mapped to is dirty.
+fn mapped_mark(behaviour: DecommitBehavior) -> bool
+    ensures { result ≡ mapped_mark behaviour }
+{
+    match behaviour {
+        DecommitBehavior::RestoreOriginalMapping => false,
+        DecommitBehavior::Zero => true,
+    }
 }
 
 impl UntoldRegion {
+    /// Sets or clears the dirty marks of pages.
+    #[tactic(auto, using(crate::proofs::Marks::marks_long))]
+    fn mark(&mut self, first: usize, count: usize, dirty: bool)
+        requires { first + count ≤ length self.old.marks }
+        ensures { self.new ≡ record self.old { marks = put_all first count dirty self.old.marks } }
+    {
+        let range = &mut self.marks[first..first + count];
+        range.fill(dirty);
+    }
+
+    /// Sets or clears the dirty marks of a range of whole pages.
+    #[tactic(auto, using(crate::proofs::Marks::marks_fit))]
+    fn mark_range(&mut self, start: usize, len: usize, dirty: bool)
+        requires start { start % self.old.page ≡ 0 }
+        requires len { len % self.old.page ≡ 0 }
+        requires inside { start + len ≤ self.old.len }
+        ensures { self.new ≡ record self.old { marks = range_marked dirty start len self.old.page self.old.marks } }
+    {
+        let _whole = self.len.byte_count();
+        let page = self.len.page().get();
+        self.mark(start / page, len / page, dirty);
+    }
+
+    /// Sets the dirty marks of the pages that bytes touch.
+    #[tactic(auto, using(crate::proofs::Marks::touched_fit))]
+    fn touch(&mut self, at: usize, len: usize)
+        requires { at + len ≤ self.old.len }
+        ensures { self.new ≡ record self.old { marks = touched_marked at len self.old.page self.old.marks } }
+    {
+        let _whole = self.len.byte_count();
+        let page = self.len.page().get();
+        self.mark(at / page, touched_pages(page, at, len), true);
+    }
+
     /// Counts a call on a range of this length, after which the counts of each kind are these.
     fn count(&mut self, len: usize, calls: PageCalls) -> Result<(), PageFault>
         ensures value { self.new ≡ record self.old { made = if len == 0 then self.old.made else risen self.old.made; calls = if len == 0 then self.old.calls else calls } }
@@ -55,6 +128,8 @@ impl Pages for UntoldRegion {
     }
 
     fn len(&self) -> HostAlignedByteCount {
+        let _whole = self.len.byte_count();
+        let _marks = self.marks.len();
         self.len
     }
 
@@ -77,8 +152,7 @@ impl Pages for UntoldRegion {
     }
 
     fn dirty(&self, page: usize) -> bool {
-        let _len = self.len;
-        true
+        self.marks[page]
     }
 
     fn expose(
@@ -110,9 +184,12 @@ impl Pages for UntoldRegion {
         start: HostAlignedByteCount,
         image: &ImageData,
     ) -> Result<(), PageFault> {
+        let len = image.as_slice().len();
+        let copied = mapped_mark(self.behaviour);
+        self.mark_range(start.byte_count(), len, copied);
         let map_image = self.calls.map_image.saturating_add(1);
         self.count(
-            image.as_slice().len(),
+            len,
             PageCalls {
                 map_image,
                 ..self.calls
@@ -125,6 +202,7 @@ impl Pages for UntoldRegion {
         start: HostAlignedByteCount,
         len: HostAlignedByteCount,
     ) -> Result<(), PageFault> {
+        self.mark_range(start.byte_count(), len.byte_count(), false);
         let remap_zeros = self.calls.remap_zeros.saturating_add(1);
         self.count(
             len.byte_count(),
@@ -140,6 +218,7 @@ impl Pages for UntoldRegion {
         start: HostAlignedByteCount,
         len: HostAlignedByteCount,
     ) -> Result<(), PageFault> {
+        self.mark_range(start.byte_count(), len.byte_count(), false);
         let erase = self.calls.erase.saturating_add(1);
         self.count(
             len.byte_count(),
@@ -171,6 +250,7 @@ impl Pages for UntoldRegion {
         start: HostAlignedByteCount,
         len: HostAlignedByteCount,
     ) -> Result<(), PageFault> {
+        self.mark_range(start.byte_count(), len.byte_count(), false);
         let decommit = self.calls.decommit.saturating_add(1);
         self.count(
             len.byte_count(),
@@ -193,18 +273,21 @@ impl Pages for UntoldRegion {
 
     fn write(&mut self, at: usize, bytes: &[u8]) {
         let _len = self.len;
+        self.touch(at, bytes.len());
     }
 
     fn fill(&mut self, at: usize, len: usize, byte: u8) {
         let _len = self.len;
+        self.touch(at, len);
     }
 
     fn restore(&mut self, at: usize, len: usize) {
         let _len = self.len;
+        self.touch(at, len);
     }
 }
 
-/// Makes regions that tell nothing. No making fails.
+/// Makes regions that tell nothing but their dirty marks. A making fails only for want of memory.
 #[derive(Drop)]
 pub(crate) struct UntoldPages {
     pub(crate) page: PageSize,
@@ -233,7 +316,7 @@ impl PageMaker for UntoldPages {
 
     fn make(
         &mut self,
-        _alloc: Global,
+        alloc: Global,
         name: RegionName,
         behaviour: DecommitBehavior,
         _accessible: HostAlignedByteCount,
@@ -242,10 +325,14 @@ impl PageMaker for UntoldPages {
         if let RegionName::OnDemand(_) = name {
             self.next = self.next.saturating_add(1);
         }
+        let Ok(marks) = clean_marks(alloc, len.byte_count() / len.page().get()) else {
+            return Err(MakeFault::Memory);
+        };
         Ok(UntoldRegion {
             name,
             len,
             behaviour,
+            marks,
             made: 0,
             calls: PageCalls::none(),
         })

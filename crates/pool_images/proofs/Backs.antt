@@ -1,5 +1,5 @@
 -- Parts of a region that are set to what they go back to.
-use Rattle.std.proofs.Common.{◌≡◌, ℕ, ◌+◌, ◌-◌, ◌/◌, ◌≤◌, true, List, [], length, take, drop, refl, sym, ap, ◌∙◌, subst, arith, slice_range, Option, Some, None, IfSome, option_map}
+use Rattle.std.proofs.Common.{◌≡◌, ℕ, ◌+◌, ◌-◌, ◌/◌, ◌≤◌, true, Bool, List, [], length, take, drop, refl, sym, ap, ◌∙◌, subst, arith, slice_range, Option, Some, None, IfSome, option_map}
 use Rattle.pool_images.proofs.Imports.{Count, Contents, IsShaped, CanReach, put, put_all, written, put_back, Told, TellsShaped, restored, length-put, length-range, range-put, range-put_both, put_empty, put_range}
 use Rattle.pool_images.specs.Slots.{Slot, IsSlot, Keeps, IsSound, IsReady, size_of, cleared}
 use Rattle.pool_images.proofs.Making.{reach_slot}
@@ -40,7 +40,7 @@ none_told i (Some c) = ap (λ (x : Contents). Some x) (back_none i c)
 pub restored_none : (i n : ℕ) (t : Told) → n ≡ 0 → t ≡ restored i n t
 restored_none i n t none =
     let E : ℕ → Type 0 = λ m. t ≡ restored i m t in
-    subst E (sym none) (ap (λ o. record t { contents = o }) (sym (none_told i t.contents)))
+    subst E (sym none) (ap (λ o. record t { contents = o }) (sym (none_told i t.contents)) ∙ ap (λ (ms : List Bool). record t { contents = option_map (put_back i 0) t.contents; marks = ms }) (sym (put_empty (i / t.page) t.marks)))
 
 -- the first bytes of the slot can be reached
 pub reach_first : (s : Slot) (n : ℕ) → IsSlot s → IfSome s.region.contents (IsReady s) → n ≤ s.accessible.bytes → IfSome s.region.contents (CanReach s.base.bytes n)

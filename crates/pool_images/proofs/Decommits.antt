@@ -141,7 +141,7 @@ faulted_clean s start len new fits clean inside faulted shaped =
     let first : Q s.region.page new.len = subst (λ (p : ℕ). Q p new.len) page shaped in
     let shape : Q s.region.page s.region.len = subst (λ (l : ℕ). Q s.region.page l) size first in
     let started = partly_told s start len s.region.contents new.contents fits inside (good s fits clean) faulted.partly shape in
-    let u : Told = record (counted (decommitting (s.base.bytes + start) len) s.region) { contents = new.contents; faults = new.faults } in
+    let u : Told = record (counted (decommitting (s.base.bytes + start) len) s.region) { contents = new.contents; marks = new.marks; faults = new.faults } in
     let t : Slot = record s { region = u } in
     subst P (sym faulted.same) (record {
       not_dirty = clean.not_dirty;

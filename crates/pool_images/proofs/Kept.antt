@@ -84,10 +84,10 @@ kept_faulted s new n fits after faulted =
     let half : S s.region.page r.len = subst (λ (p : ℕ). S p r.len) page told in
     let shape : S s.region.page s.region.len = subst (λ (l : ℕ). S s.region.page l) size half in
     let like : IsLikeOld s s.region.contents r.contents = like_partly s n s.region.contents r.contents fits fits.told faulted.region.partly shape in
-    let u : Told = record (counted (raising n s) s.region) { contents = r.contents; faults = r.faults } in
+    let u : Told = record (counted (raising n s) s.region) { contents = r.contents; marks = r.marks; faults = r.faults } in
     let t : Slot = record s { region = u } in
     subst Q (sym faulted.same) (subst P (sym faulted.region.same) (record {
-      same = same_faulted (raising n s) s t (record { region = record { nonempty = faulted.region.nonempty; same = refl; rose = faulted.region.rose; partly = faulted.region.partly; listed = faulted.region.listed; planned = faulted.region.planned }; same = refl });
+      same = same_faulted (raising n s) s t (record { region = record { nonempty = faulted.region.nonempty; same = refl; rose = faulted.region.rose; partly = faulted.region.partly; marked = faulted.region.marked; listed = faulted.region.listed; planned = faulted.region.planned }; same = refl });
       image = refl;
       dirty = refl;
       bytes = like.bytes;

@@ -1,8 +1,7 @@
 -- What a reset keeps of a slot, and what it leaves, by the dirty marks of the slot's pages. Where it is given none, each page
 -- counts as dirty, and it is the plain reset.
-use Rattle.std.specs.Prelude.{ℕ, ◌+◌, ◌-◌, ◌*◌, ◌/◌, ◌&&◌, ◌==◌, List, [], ◌∷◌, ◌++◌, length, take, drop, fold, slice_range, slice_index_or, Bool, false, nat_lt, if◌then◌else◌, Option, None, Some, option_map}
+use Rattle.std.specs.Prelude.{ℕ, ◌+◌, ◌-◌, ◌*◌, ◌/◌, ◌&&◌, ◌==◌, List, [], ◌∷◌, ◌++◌, length, take, drop, fold, slice_range, slice_index_or, Bool, false, nat_lt, if◌then◌else◌, Option, None, Some}
 use Rattle.std.specs.List.{filter, range_with_len}
-use Rattle.pool_pages.specs.Contents.{Contents}
 use Rattle.pool_pages.specs.Told.{Told, restored}
 use Rattle.pool_types.specs.declared.decommit_behavior.DecommitBehavior.{DecommitBehavior}
 use Rattle.pool_types.specs.declared.decommit_behavior.DecommitBehavior.TheVariants.{Zero, RestoreOriginalMapping}
@@ -11,13 +10,13 @@ use Rattle.pool_images.specs.Slots.{Slot, wiped, kept_bytes, left_ranges, reset_
 use Rattle.pool_images.specs.declared.ranges.ByteRange.{ByteRange}
 
 -- the dirty marks of the slot's accessible pages
-abbrev pub marks_of : Slot → Contents → List Bool
-marks_of s c = slice_range c.dirty (s.base.bytes / s.region.page) ((s.base.bytes + s.accessible.bytes) / s.region.page)
+abbrev pub marks_of : Slot → List Bool
+marks_of s = slice_range s.region.marks (s.base.bytes / s.region.page) ((s.base.bytes + s.accessible.bytes) / s.region.page)
 
 -- The marks that a reset is given: none, unless they are offered and more than one page is accessible. They are those
--- that the region tells. So far no caller offers them.
+-- that its region always tells. So far no caller offers them.
 abbrev pub given_marks : Bool → Slot → Option (List Bool)
-given_marks offered s = if offered && nat_lt s.region.page s.accessible.bytes then option_map (marks_of s) s.region.contents else None
+given_marks offered s = if offered && nat_lt s.region.page s.accessible.bytes then Some (marks_of s) else None
 
 -- the numbers of the marked pages, counted from the slot's base, in rising order
 abbrev pub marked_pages : List Bool → List ℕ

@@ -68,7 +68,7 @@ pub more_copied : (done n : ℕ) (from old mid new : Slot) → IsSlot from → I
 more_copied done n from old mid new from_fits fits in_from in_old first second =
     let base : mid.base.bytes ≡ old.base.bytes = ap (λ (s : Slot). s.base.bytes) first.written.same in
     let P : ℕ → Type 0 = λ b. option_map (λ c. c.bytes) new.region.contents ≡ option_map (λ c. put (b + done) second.bytes c.bytes) mid.region.contents in
-    let W : Slot → Type 0 = λ s. new ≡ record s { region = record s.region { contents = new.region.contents }; dirty = new.dirty } in
+    let W : Slot → Type 0 = λ s. new ≡ record s { region = record s.region { contents = new.region.contents; marks = new.region.marks }; dirty = new.dirty } in
     let there : from.base.bytes + (done + n) ≡ from.base.bytes + done + n = omega arith in
     let here : old.base.bytes + (done + n) ≡ old.base.bytes + done + length second.bytes = omega (arith, second.long) in
     record {

@@ -10,7 +10,7 @@ pub record IsReadable (n : ℕ) (s : Slot) : Type 0 where
 -- only bytes of the slot were written
 pub record OnlyWritten (old new : Slot) : Type 0 where
   pub tells : is_some new.region.contents ≡ is_some old.region.contents
-  pub same : new ≡ record old { region = record old.region { contents = new.region.contents }; dirty = new.dirty }
+  pub same : new ≡ record old { region = record old.region { contents = new.region.contents; marks = new.region.marks }; dirty = new.dirty }
 
 -- Bytes from a place of one slot on were copied to the same place of the other, and nothing else of it changed.
 pub record IsCopied (at len : ℕ) (from old new : Slot) : Type 0 where

@@ -1,5 +1,5 @@
 -- A linear memory: how many bytes it has and may have, where they lie, and what a write makes of it.
-use Rattle.std.specs.Prelude.{◌≡◌, ℕ, ◌+◌, ◌-◌, ◌≤◌, List, take, replicate, slice_range, min, Bool, true, false, Option, None, IfSome, is_some, option_map}
+use Rattle.std.specs.Prelude.{◌≡◌, ℕ, ◌+◌, ◌-◌, ◌≤◌, List, [], take, replicate, slice_range, min, Bool, true, false, Option, None, IfSome, is_some, option_map}
 use Rattle.pool_memory.specs.Imports.{put, count, no_calls, OnDemand, Zero, Slot, written_at}
 
 -- in the slot of an image, or in storage of the memory's own: how many bytes of that can be reached and, where it tells
@@ -20,7 +20,7 @@ pub record Linear : Type 0 where
 -- a slot of no pages, for a memory that lies in none
 abbrev pub no_slot : Slot
 no_slot = record {
-  region = record { name = OnDemand 0; page = 16; len = 0; behaviour = Zero; contents = None; plan = None; made = 0; calls = no_calls; faults = 0 };
+  region = record { name = OnDemand 0; page = 16; len = 0; behaviour = Zero; contents = None; marks = []; plan = None; made = 0; calls = no_calls; faults = 0 };
   base = count 16 0;
   accessible = count 16 0;
   static_size = 0;

@@ -1,9 +1,12 @@
 -- Each call on pages changes exactly the pages of its range.
 use Rattle.std.proofs.Common.{◌≡◌, ℕ, ◌+◌, ◌-◌, ◌*◌, ◌/◌, ◌<◌, ◌≤◌, ◌⊎◌, Bool, true, false, List, length, min, get_or, take, drop, replicate, refl, sym, ap, ◌∙◌, arith, inl, inr, slice_range}
 use Rattle.pool_pages.proofs.Imports.{mul-le-mul_right, mul-le-mul_left, div-mul-le_self, lt-mul-div-succ, length-replicate, take-replicate, drop-replicate, same_lists, cases_lt, page_below}
-use Rattle.pool_pages.specs.Contents.{Contents, Page, page_bytes, page_origin, page_at, IsIn, IsShaped, put, put_all, touched}
+use Rattle.pool_pages.specs.Contents.{Contents, Page, page_bytes, page_origin, page_at, IsIn, IsShaped, put, put_all, touched, touched_marked}
 use Rattle.pool_pages.specs.Dense.{zeroed}
-use Rattle.pool_pages.specs.PageLaws.{IsPages, ChangesExactly, image_part, IsTouched, ExposeChangesItsPages, HideChangesItsPages, MapChangesItsPages, CopyChangesItsPages, EraseChangesItsPages, RemapChangesItsPages, RecolourChangesItsPages, DecommitChangesItsPages, WriteChangesItsPages, RestoreChangesItsPages}
+use Rattle.pool_pages.specs.Told.{mapping}
+use Rattle.pool_types.specs.declared.decommit_behavior.DecommitBehavior.{DecommitBehavior}
+use Rattle.pool_types.specs.declared.decommit_behavior.DecommitBehavior.TheVariants.{Zero, RestoreOriginalMapping}
+use Rattle.pool_pages.specs.PageLaws.{IsPages, ChangesExactly, image_part, IsTouched, ExposeChangesItsPages, HideChangesItsPages, MapChangesItsPages, CopyChangesItsPages, EraseChangesItsPages, RemapChangesItsPages, RecolourChangesItsPages, DecommitChangesItsPages, WriteChangesItsPages, RestoreChangesItsPages, MarksAlike, CallsMarkAlike}
 use Rattle.pool_pages.proofs.PageNumbers.{page_before, page_from, page_above, page_inside, touched_some, touched_above, touched_fit}
 use Rattle.pool_pages.proofs.Puts.{length-put, length-range, get_or-range, get_or-put_below, get_or-put_in, get_or-put_above, put_range, range_range}
 use Rattle.pool_pages.proofs.Shapes.{get_or-put_all_in, get_or-put_all_out, untouched, pages_fit, column_inside, column_outside}
@@ -286,3 +289,22 @@ restore_law n start len c positive shaped fits =
           ∙ ap (λ zs. record (page_at k c) { bytes = put (start - k * c.page) zs (page_bytes k c); dirty = true }) part;
       others = λ k below out. law.others k below (λ is. out (record { some = omega (arith, is.some); below = omega (arith, is.below); above = is.above }));
     }
+
+mapped_alike : (behaviour : DecommitBehavior) (start : ℕ) (image : List ℕ) → MarksAlike (mapping behaviour start image)
+mapped_alike RestoreOriginalMapping start image c = refl
+mapped_alike Zero start image c = refl
+
+pub marks_law : CallsMarkAlike
+marks_law = record {
+  expose = λ start len c. refl;
+  hide = λ start len c. refl;
+  map_image = mapped_alike;
+  remap_zeros = λ start len c. refl;
+  erase = λ start len c. refl;
+  recolour = λ start len colour c. refl;
+  decommit = λ start len c. refl;
+  write = λ start new c. refl;
+  restore = λ start len c fits.
+      let long : length (slice_range c.origin start (start + len)) ≡ len = omega (arith, length-range c.origin start (start + len) fits) in
+      ap (λ (n : ℕ). touched_marked start n c.page c.dirty) long;
+}

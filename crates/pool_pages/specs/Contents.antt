@@ -88,6 +88,14 @@ written start new c = record c {
 abbrev pub put_back : ℕ → ℕ → Contents → Contents
 put_back start len c = written start (slice_range c.origin start (start + len)) c
 
+-- The dirty marks, one a page, where those of a range of whole pages are all set, or all cleared.
+abbrev pub range_marked : Bool → ℕ → ℕ → ℕ → List Bool → List Bool
+range_marked mark start len page marks = put_all (start / page) (len / page) mark marks
+
+-- The dirty marks, one a page, where those of the pages that n bytes touch are set.
+abbrev pub touched_marked : ℕ → ℕ → ℕ → List Bool → List Bool
+touched_marked start n page marks = put_all (start / page) (touched page start n) true marks
+
 -- The bytes of page k.
 abbrev pub page_bytes : ℕ → Contents → List ℕ
 page_bytes k c = slice_range c.bytes (k * c.page) (k * c.page + c.page)

@@ -88,7 +88,8 @@ fresh page accessible len = record {
   colour = replicate (len / page) 0;
 }
 
--- What a region tells as it is made: zeros, so much within reach, no calls, and its part of the maker's plan.
+-- What a region tells as it is made: zeros, so much within reach, no page dirty, no calls, and its part of
+-- the maker's plan.
 abbrev pub made_region : RegionName → DecommitBehavior → Count → Count → MakerTold → Told
 made_region name behaviour accessible len maker = record {
   name = name;
@@ -96,6 +97,7 @@ made_region name behaviour accessible len maker = record {
   len = len.bytes;
   behaviour = behaviour;
   contents = if maker.tells then Some (fresh len.page accessible.bytes len.bytes) else None;
+  marks = replicate (len.bytes / len.page) false;
   plan = plan_for name maker;
   made = 0;
   calls = no_calls;

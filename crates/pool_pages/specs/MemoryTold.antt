@@ -15,6 +15,7 @@ memory_told name behaviour contents calls made = record {
   len = length contents.bytes;
   behaviour = behaviour;
   contents = Some contents;
+  marks = contents.dirty;
   plan = Some [];
   made = made;
   calls = calls;

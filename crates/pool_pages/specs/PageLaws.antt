@@ -1,6 +1,8 @@
 -- What each call on pages changes, page by page.
 use Rattle.std.specs.Prelude.{◌≡◌, ℕ, ◌+◌, ◌-◌, ◌*◌, ◌%◌, ◌<◌, ◌≤◌, List, length, min, replicate, true, false, slice_range}
-use Rattle.pool_pages.specs.Contents.{Contents, IsShaped, Page, page_at, IsIn, put, exposed, hidden, image_mapped, image_copied, erased, remapped, recoloured, decommitted, written, put_back}
+use Rattle.pool_pages.specs.Contents.{Contents, IsShaped, Page, page_at, IsIn, put, exposed, hidden, image_mapped, image_copied, erased, remapped, recoloured, decommitted, written, put_back, touched_marked}
+use Rattle.pool_pages.specs.Told.{PageCall, exposing, hiding, mapping, remapping, erasing, recolouring, decommitting}
+use Rattle.pool_types.specs.declared.decommit_behavior.DecommitBehavior.{DecommitBehavior}
 
 -- a range of whole pages of a region that is n bytes long
 pub record IsPages (n start len : ℕ) (c : Contents) : Type 0 where
@@ -88,3 +90,19 @@ pub record RestoresExactly (start len : ℕ) (old after : Contents) : Type 0 whe
 -- Putting bytes back to their origin changes only the pages that it touches, which become dirty.
 abbrev pub RestoreChangesItsPages : Type 0
 RestoreChangesItsPages = (n start len : ℕ) (c : Contents) → 0 < c.page → IsShaped c.page n c → start + len ≤ n → RestoresExactly start len c (put_back start len c)
+
+-- the call makes of the dirty marks what it makes of the contents' column of them
+abbrev pub MarksAlike : PageCall → Type 0
+MarksAlike call = (c : Contents) → (call.change c).dirty ≡ call.mark c.page c.dirty
+
+-- Each call on pages, and each write, makes of the dirty marks what it makes of the contents' column of them.
+pub record CallsMarkAlike : Type 0 where
+  pub expose : (start len : ℕ) → MarksAlike (exposing start len)
+  pub hide : (start len : ℕ) → MarksAlike (hiding start len)
+  pub map_image : (behaviour : DecommitBehavior) (start : ℕ) (image : List ℕ) → MarksAlike (mapping behaviour start image)
+  pub remap_zeros : (start len : ℕ) → MarksAlike (remapping start len)
+  pub erase : (start len : ℕ) → MarksAlike (erasing start len)
+  pub recolour : (start len colour : ℕ) → MarksAlike (recolouring start len colour)
+  pub decommit : (start len : ℕ) → MarksAlike (decommitting start len)
+  pub write : (start : ℕ) (new : List ℕ) (c : Contents) → (written start new c).dirty ≡ touched_marked start (length new) c.page c.dirty
+  pub restore : (start len : ℕ) (c : Contents) → start + len ≤ length c.origin → (put_back start len c).dirty ≡ touched_marked start len c.page c.dirty

@@ -1,5 +1,5 @@
 ghost use Rattle.std.specs.Prelude.{◌≡◌, ℕ, ◌+◌, ◌-◌, ◌*◌, ◌/◌, ◌%◌, ◌^◌, ◌<◌, ◌≤◌, List, length, replicate, slice_range, slice_index_or, slice_set, true, false, IfOk, Bool, IsTrue, ◌↔◌};
-ghost use Rattle.pool_pages.specs.Contents.{IsShaped, put, put_all, touched, image_mapped, image_copied, erased, remapped, recoloured, decommitted, written, put_back};
+ghost use Rattle.pool_pages.specs.Contents.{IsShaped, put, put_all, touched, image_mapped, image_copied, erased, remapped, recoloured, decommitted, written, put_back, touched_marked};
 ghost use Rattle.pool_pages.specs.Dense.{zeroed};
 ghost use Rattle.pool_types.specs.Count.{IsPageSize};
 ghost use Rattle.pool_pages.specs.MakerTold.{fresh};
@@ -183,7 +183,7 @@ impl DensePages {
     /// Whether page `k` is dirty.
     pub(crate) fn dirty(&self, k: usize) -> bool
         requires { k < length self.now.bytes / self.now.page }
-        ensures { result ≡ slice_index_or self.now.dirty k true }
+        ensures { result ≡ slice_index_or self.now.dirty k false }
     {
         self.dirty[k]
     }
@@ -337,6 +337,7 @@ impl DensePages {
     pub(crate) fn restore(&mut self, start: usize, len: usize)
         requires { start + len ≤ length self.old.bytes }
         ensures value { self.new ≡ put_back start len self.old }
+        ensures marks { self.new.dirty ≡ touched_marked start len self.old.page self.old.dirty }
         ensures len { length self.new.bytes ≡ length self.old.bytes }
         ensures shaped { IsShaped self.new.page (length self.new.bytes) self.new }
     {

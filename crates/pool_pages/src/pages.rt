@@ -1,7 +1,7 @@
-ghost use Rattle.std.specs.Prelude.{◌≡◌, ℕ, ◌+◌, ◌/◌, ◌<◌, ◌≤◌, true, List, length, replicate, slice_range, slice_index_or, is_ok, OnOk, OnErr, IfSome, IsTrue, ◌↔◌};
+ghost use Rattle.std.specs.Prelude.{◌≡◌, ℕ, ◌+◌, ◌/◌, ◌<◌, ◌≤◌, true, List, length, replicate, slice_range, slice_index_or, false, is_ok, OnOk, OnErr, IfSome, IsTrue, ◌↔◌};
 ghost use Rattle.pool_types.specs.Count.{count, IsPageSize};
 ghost use Rattle.pool_pages.specs.Contents.{CanReach, HasNoOtherImage};
-ghost use Rattle.pool_pages.specs.Told.{Told, IsRange, Faulted, succeeded, TellsShaped, FailsAsListed, overwritten, restored, passes, exposing, hiding, mapping, remapping, erasing, recolouring, decommitting};
+ghost use Rattle.pool_pages.specs.Told.{Told, IsRange, Faulted, succeeded, TellsShaped, TellsMarks, FailsAsListed, overwritten, restored, passes, exposing, hiding, mapping, remapping, erasing, recolouring, decommitting};
 
 use crate::image_data::ImageData;
 use pool_types::{DecommitBehavior, HostAlignedByteCount, PageSize};
@@ -36,9 +36,9 @@ pub struct PageFault;
 ///
 /// Each call changes exactly the pages of its range. A call that fails raises `faults`; after it each page
 /// of the range is as before or as the success would leave it. A call of length zero succeeds, changes
-/// nothing and isn't counted. No call takes memory. A region may tell contracts what its pages hold, and
-/// the numbers of its calls that fail: no more of its calls failed than these list among those made, as its length
-/// shows at any moment.
+/// nothing and isn't counted. No call takes memory. A region always tells contracts which of its pages are dirty. It
+/// may tell what its pages hold, and the numbers of its calls that fail: no more of its calls failed than these list
+/// among those made. That these fit together its length shows at any moment.
 pub trait Pages: Drop {
     ghost told: { Self → Told };
 
@@ -51,6 +51,7 @@ pub trait Pages: Drop {
     fn len(&self) -> HostAlignedByteCount
         ensures value { result ≡ count (told self.now).page (told self.now).len }
         ensures shaped { TellsShaped (told self.now) }
+        ensures marks { TellsMarks (told self.now) }
         ensures failures { FailsAsListed (told self.now) };
 
     /// How many calls have failed. Never falls.
@@ -71,7 +72,7 @@ pub trait Pages: Drop {
     /// Whether the page with this number may hold something else than what it goes back to.
     fn dirty(&self, page: usize) -> bool
         requires { page < (told self.now).len / (told self.now).page }
-        ensures { IfSome (told self.now).contents (λ c. result ≡ slice_index_or c.dirty page true) };
+        ensures { result ≡ slice_index_or (told self.now).marks page false };
 
     /// The pages can be reached; what they hold stays.
     fn expose(

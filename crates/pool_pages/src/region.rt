@@ -1,7 +1,7 @@
-ghost use Rattle.std.specs.Prelude.{◌≡◌, ℕ, ◌+◌, ◌/◌, ◌<◌, ◌≤◌, true, List, length, replicate, slice_range, slice_index_or, is_ok, OnOk, OnErr, IfSome, IsTrue, ◌↔◌};
+ghost use Rattle.std.specs.Prelude.{◌≡◌, ℕ, ◌+◌, ◌/◌, ◌<◌, ◌≤◌, true, List, length, replicate, slice_range, slice_index_or, false, is_ok, OnOk, OnErr, IfSome, IsTrue, ◌↔◌};
 ghost use Rattle.pool_types.specs.Count.{count, IsPageSize};
 ghost use Rattle.pool_pages.specs.Contents.{CanReach, HasNoOtherImage};
-ghost use Rattle.pool_pages.specs.Told.{Told, IsRange, Faulted, succeeded, TellsShaped, FailsAsListed, overwritten, restored, passes, exposing, hiding, mapping, remapping, erasing, recolouring, decommitting};
+ghost use Rattle.pool_pages.specs.Told.{Told, IsRange, Faulted, succeeded, TellsShaped, TellsMarks, FailsAsListed, overwritten, restored, passes, exposing, hiding, mapping, remapping, erasing, recolouring, decommitting};
 
 use crate::image_data::ImageData;
 use crate::pages::{PageCalls, PageFault, Pages, RegionName};
@@ -56,6 +56,7 @@ impl<P: Pages> PageRegion<P> {
     pub fn len(&self) -> HostAlignedByteCount
         ensures value { result ≡ count self.now.page self.now.len }
         ensures shaped { TellsShaped self.now }
+        ensures marks { TellsMarks self.now }
         ensures failures { FailsAsListed self.now }
     {
         self.pages.len()
@@ -90,7 +91,7 @@ impl<P: Pages> PageRegion<P> {
     /// Whether the page with this number may hold something else than what it goes back to.
     pub fn dirty(&self, page: usize) -> bool
         requires { page < self.now.len / self.now.page }
-        ensures { IfSome self.now.contents (λ c. result ≡ slice_index_or c.dirty page true) }
+        ensures { result ≡ slice_index_or self.now.marks page false }
     {
         self.pages.dirty(page)
     }

@@ -27,8 +27,8 @@ pub use Rattle.pool_pages.proofs.PageRuns.{mark_more}
 pub use Rattle.pool_pages.proofs.Puts.{get_or-put_above, get_or-put_below, get_or-put_in, get_or-range, length-put, length-range, put-put, range-put_above, range-put_below, range-put_in, same_at, same_by_pages}
 pub use Rattle.pool_pages.proofs.Shapes.{get_or-put_all_in, get_or-put_all_out, length-put_all}
 pub use Rattle.pool_pages.proofs.Small.{zeros_within}
-pub use Rattle.pool_pages.specs.Contents.{CanReach, Contents, IsShaped, Page, decommitted, page_at, page_origin, put, put_all, touched, written}
-pub use Rattle.pool_pages.specs.Told.{Faulted, IsPartly, IsRange, MayChangePartly, TellsShaped, Told, decommitting, overwritten, succeeded}
+pub use Rattle.pool_pages.specs.Contents.{CanReach, Contents, IsShaped, Page, decommitted, page_at, page_origin, put, put_all, touched, touched_marked, written}
+pub use Rattle.pool_pages.specs.Told.{Faulted, IsPartly, IsRange, MayChangePartly, TellsMarks, TellsShaped, Told, decommitting, overwritten, succeeded}
 pub use Rattle.pool_pages.specs.declared.pages.PageFault.{PageFault}
 pub use Rattle.pool_types.proofs.Multiples.{page_below, page_of}
 pub use Rattle.pool_types.specs.Count.{Count}

@@ -1,6 +1,6 @@
 -- What stays of a table's region as bytes of it are written.
 use Rattle.std.proofs.Common.{◌≡◌, ℕ, ◌+◌, ◌-◌, ◌*◌, ◌/◌, ◌%◌, ◌<◌, ◌≤◌, Bool, true, List, [], ◌++◌, length, take, drop, get_or, replicate, slice_range, Option, Some, None, refl, sym, ap, ◌∙◌, subst, arith, inl, inr, IfSome, option_map}
-use Rattle.pool_table.proofs.Imports.{mul-le-mul_left, mul-le-mul_right, div-mul-le_self, lt-mul-div-succ, cases_lt, cases_eq, length-append, length-replicate, get_or-replicate, same_lists, take-append-drop, le-div, Contents, IsShaped, CanReach, put, put_all, touched, written, Told, TellsShaped, overwritten, touched_some, touched_fit, length-put, get_or-put_below, get_or-put_in, get_or-put_above, put-put, range-put_above}
+use Rattle.pool_table.proofs.Imports.{mul-le-mul_left, mul-le-mul_right, div-mul-le_self, lt-mul-div-succ, cases_lt, cases_eq, length-append, length-replicate, get_or-replicate, same_lists, take-append-drop, le-div, Contents, IsShaped, CanReach, put, put_all, touched, touched_marked, written, Told, TellsMarks, TellsShaped, overwritten, touched_some, touched_fit, length-put, get_or-put_below, get_or-put_in, get_or-put_above, put-put, range-put_above}
 use Rattle.pool_table.specs.Elements.{width}
 use Rattle.pool_table.specs.Tables.{TableState, Rewrites, IsRoom, IsTable}
 
@@ -118,8 +118,16 @@ written_more at page len xs ys (Some c) some shaped fits =
     ap (λ (bs : List ℕ). C bs (put_all ((at + length xs) / c.page) (touched c.page (at + length xs) (length ys)) true (put_all (at / c.page) (touched c.page at (length xs)) true c.dirty))) bytes
     ∙ ap (C (put at (xs ++ ys) c.bytes)) (marks ∙ ap (λ (n : ℕ). put_all (at / c.page) (touched c.page at n) true c.dirty) count)
 
-pub rewrites_more : (at : ℕ) (xs ys : List ℕ) (a b c : Told) → 0 < a.page → TellsShaped a → Rewrites at xs a b → c ≡ overwritten (at + length xs) ys b → at + length xs + length ys ≤ a.len → Rewrites at (xs ++ ys) a c
-rewrites_more at xs ys a b c some shaped first second fits = second ∙ ap (overwritten (at + length xs) ys) first ∙ ap (λ (o : Option Contents). record a { contents = o }) (written_more at a.page a.len xs ys a.contents some shaped fits)
+pub rewrites_more : (at : ℕ) (xs ys : List ℕ) (a b c : Told) → 0 < a.page → TellsShaped a → TellsMarks a → Rewrites at xs a b → c ≡ overwritten (at + length xs) ys b → at + length xs + length ys ≤ a.len → Rewrites at (xs ++ ys) a c
+rewrites_more at xs ys a b c some shaped marked first second fits =
+    let R : Option Contents → List Bool → Told = λ o ms. record a { contents = o; marks = ms } in
+    let count : length xs + length ys ≡ length (xs ++ ys) = sym (length-append xs ys) in
+    let twice : List Bool = touched_marked (at + length xs) (length ys) a.page (touched_marked at (length xs) a.page a.marks) in
+    let once = touched_more a.page a.len at (length xs) (length ys) a.marks some marked.whole marked.count fits ∙ ap (λ (n : ℕ). touched_marked at n a.page a.marks) count in
+    second
+    ∙ ap (overwritten (at + length xs) ys) first
+    ∙ ap (λ (o : Option Contents). R o twice) (written_more at a.page a.len xs ys a.contents some shaped fits)
+    ∙ ap (R (option_map (written at (xs ++ ys)) a.contents)) once
 
 -- the region has its shape still
 pub shaped_as : (at : ℕ) (new : List ℕ) (old after : Told) → Rewrites at new old after → TellsShaped after → IfSome after.contents (IsShaped old.page old.len)

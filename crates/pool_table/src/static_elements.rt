@@ -269,6 +269,8 @@ fn write_words<P: Pages>(region: &mut P, at: usize, word: &[u8], count: usize)
     ensures words { Rewrites at (concat (replicate count word.now)) (P.told region.old) (P.told region.new) }
     ensures shaped { TellsShaped (P.told region.new) }
 {
+    // asked so that the prover knows its marks
+    let _len = region.len();
     let width = word.len();
     for i in 0..count {
         region.write(at + i * width, word);

@@ -1,4 +1,4 @@
-use Rattle.pool_pages.proofs.PageChanges.{expose_law, hide_law, map_law, copy_law, erase_law, remap_law, recolour_law, decommit_law, write_law, restore_law}
+use Rattle.pool_pages.proofs.PageChanges.{expose_law, hide_law, map_law, copy_law, erase_law, remap_law, recolour_law, decommit_law, write_law, restore_law, marks_law}
 use Rattle.pool_pages.proofs.page_laws.calls_change_their_pages.Goals as goal
 
 pub returns-clause-expose : goal.returns-clause-expose
@@ -30,3 +30,6 @@ returns-clause-write c = write_law
 
 pub returns-clause-restore : goal.returns-clause-restore
 returns-clause-restore c = restore_law
+
+pub returns-clause-marks : goal.returns-clause-marks
+returns-clause-marks c = marks_law

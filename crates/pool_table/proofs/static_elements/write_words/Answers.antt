@@ -25,7 +25,7 @@ loop-i-preserved g c =
     let W : ℕ → Type 0 = λ n. after ≡ overwritten (c.args.at + n) c.args.word.now here in
     let R : List ℕ → Type 0 = λ xs. Rewrites c.args.at xs first after in (
       subst R (copies_more c.loop-i.i c.args.word.now)
-          (rewrites_more c.args.at before c.args.word.now first here after c.requires.page c.requires.shaped c.loop-i.invariant.0 (subst W (sym long) c.write.ensures.written)
+          (rewrites_more c.args.at before c.args.word.now first here after c.requires.page c.requires.shaped c.len-len.ensures.marks c.loop-i.invariant.0 (subst W (sym long) c.write.ensures.written)
           (omega (arith, long, scaled c.loop-i.i c.args.count w c.loop-i-test.true, c.requires.inside))),
       c.write.ensures.shaped,
     )

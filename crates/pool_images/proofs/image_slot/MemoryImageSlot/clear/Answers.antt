@@ -24,3 +24,6 @@ invariant_of-self g c =
     let P : Told → Type 0 = λ t. Keeps i.size (record { region = t; base = i.base; accessible = i.accessible; static_size = i.static_size; image = i.image; dirty = false; colour = i.colour }) in
     let Q : Told → Type 0 = λ t. TellsShaped t in
     subst P (sym new) (cleared_keeps i.size s c.args.kept c.self.invariant (subst Q new c.restore.ensures.shaped))
+
+pub returns-clause-fits : goal.returns-clause-fits
+returns-clause-fits g c = (invariant_of-self g c).fits
