@@ -129,10 +129,10 @@ module _ (n : ℕ) (r : ByteRange) (s : Slot) (new : Told) (part : IsPart s.regi
   idle_after = part_told n r.start r.len s s.region.contents new.contents z.fits part.inside (idle n s z) fault.partly old_shape
 
   abbrev u : Told
-  u = record s.region { contents = new.contents; made = new.made; calls = new.calls; faults = new.faults }
+  u = record s.region { contents = new.contents; marks = new.marks; made = new.made; calls = new.calls; faults = new.faults }
 
   is_like : new ≡ u
-  is_like = fault.same ∙ ap (λ (x : Told). record s.region { contents = new.contents; made = x.made; calls = x.calls; faults = new.faults }) (sym fault.same)
+  is_like = fault.same ∙ ap (λ (x : Told). record s.region { contents = new.contents; marks = new.marks; made = x.made; calls = x.calls; faults = new.faults }) (sym fault.same)
 
   pub zeroed_faulted : CanBeZeroed n (record s { region = new })
   zeroed_faulted =

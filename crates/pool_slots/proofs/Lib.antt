@@ -13,6 +13,10 @@ pub mod StripedPlans
 pub mod PartsMade
 pub mod PartPlaces
 pub mod ByHand
+pub mod ByKinds
+pub mod KindLists
+pub mod KindPlaces
+pub mod KindChanges
 pub mod SlotChanges
 pub mod SlotFaults
 pub mod SlotFirst

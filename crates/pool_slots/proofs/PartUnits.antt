@@ -3,10 +3,11 @@ use Rattle.std.proofs.Common.{◌≡◌, ℕ, ◌+◌, true, false, List, [], �
 use Rattle.pool_slots.proofs.Imports.{cases_lt, get_or_past, MemoryInModule, Pick, probe_picks, out_less, total, UnitName, total_append}
 use Rattle.pool_slots.specs.Cells.{Cell, unmapped, unknown, previously_used, taken}
 use Rattle.pool_slots.specs.RegionCells.{away_by, region_of}
-use Rattle.pool_slots.specs.SlotQueues.{Queued}
+use Rattle.pool_slots.specs.SlotQueues.{Queued, by_kind}
 use Rattle.pool_slots.specs.PartUnits.{slot_units, units_of_slots, PicksCount, FreesCount, TakesCount, PutsCount, AppendsCount, QueueTakesCount}
 use Rattle.pool_slots.specs.declared.slot_name.SlotName.{SlotName}
 use Rattle.pool_slots.specs.declared.slot_name.RegionNumbers.{RegionNumbers}
+use Rattle.pool_slots.proofs.ByKinds.{rearranged}
 
 none_away : (w : UnitName → ℕ) (name : SlotName) (out : RegionNumbers) (held : Cell) → (held ≡ taken → ⊥) → total w (away_by name out held) ≡ 0
 none_away w name out (unmapped region) there = refl
@@ -31,8 +32,17 @@ units_append w (m ∷ ms) ns =
     let b = total_append w (slot_units m) (units_of_slots ms) in
     omega arith
 
+pub units_by_kind : (w : UnitName → ℕ) (ms : List Queued) → total w (units_of_slots (by_kind ms)) ≡ total w (units_of_slots ms)
+units_by_kind w =
+    rearranged (λ ms ns. total w (units_of_slots ns) ≡ total w (units_of_slots ms)) refl (λ m ms front back had.
+    (let a = units_append w front (m ∷ back) in
+    let b = units_append w front back in
+    let c = total_append w (slot_units m) (units_of_slots back) in
+    let d = total_append w (slot_units m) (units_of_slots ms) in
+    omega (arith, a, b, c, d, had)))
+
 pub appends_count : AppendsCount
-appends_count w q more = let a = units_append w q.slots more.slots in omega arith
+appends_count w q more = let a = units_append w q.slots more.slots in let b = units_by_kind w (q.slots ++ more.slots) in omega arith
 
 pub queue_takes_count : QueueTakesCount
 queue_takes_count w q spare none =

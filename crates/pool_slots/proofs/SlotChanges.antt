@@ -8,6 +8,7 @@ use Rattle.pool_slots.proofs.SlotFaults.{range_of}
 use Rattle.pool_slots.proofs.SlotNames.{slot_if, slot_self}
 use Rattle.pool_slots.specs.declared.queued_range.QueuedRange.{QueuedRange}
 use Rattle.pool_slots.specs.SlotQueues.{Queued, Queue, owner, is_of, ranges_of, holds, HasOwners, AreApart, same_slot, LeavesClean, IsReset, IsQueue, with_range, with_ranges, with_slot, after_append}
+use Rattle.pool_slots.proofs.ByKinds.{long_by_kind, each_by_kind, distinct_by_kind, owned_by_kind}
 use Rattle.pool_slots.proofs.Lists.{each_append, each_both}
 use Rattle.pool_slots.proofs.SlotLists.{AreOwned, ranges_append, ranges_here, ranges_none, none_unheld, unheld_each, distinct_append, apart_other_way, owned_more, owned_later}
 
@@ -38,9 +39,9 @@ pub queue_slot : (m : Queued) (q : Queue) → IsQueue q → length q.slots < q.s
 queue_slot m q is room free clean =
     record {
       range_room = is.range_room;
-      slot_room = omega (arith, length-append q.slots (m ∷ []), room);
-      distinct = distinct_append q.slots (m ∷ []) is.distinct (refl, tt) (apart_other_way (m ∷ []) q.slots (free, tt));
-      each = each_append (LeavesClean q.ranges) q.slots (m ∷ []) is.each (clean, tt);
+      slot_room = omega (arith, long_by_kind (q.slots ++ m ∷ []), length-append q.slots (m ∷ []), room);
+      distinct = distinct_by_kind (q.slots ++ m ∷ []) (distinct_append q.slots (m ∷ []) is.distinct (refl, tt) (apart_other_way (m ∷ []) q.slots (free, tt)));
+      each = each_by_kind (LeavesClean q.ranges) (q.slots ++ m ∷ []) (each_append (LeavesClean q.ranges) q.slots (m ∷ []) is.each (clean, tt));
     }
 
 -- two queues are joined
@@ -49,10 +50,10 @@ queue_joined q more is also ranges slots owned also_owned apart =
     let all : List QueuedRange = q.ranges ++ more.ranges in
     record {
       range_room = omega (arith, length-append q.ranges more.ranges, ranges);
-      slot_room = omega (arith, length-append q.slots more.slots, slots);
-      distinct = distinct_append q.slots more.slots is.distinct also.distinct apart;
+      slot_room = omega (arith, long_by_kind (q.slots ++ more.slots), length-append q.slots more.slots, slots);
+      distinct = distinct_by_kind (q.slots ++ more.slots) (distinct_append q.slots more.slots is.distinct also.distinct apart);
       each =
-          each_append (LeavesClean all) q.slots more.slots
+          each_by_kind (LeavesClean all) (q.slots ++ more.slots) (each_append (LeavesClean all) q.slots more.slots
           (each_both (LeavesClean q.ranges) (λ m. holds m.name more.slots ≡ false) (LeavesClean all) q.slots
           (λ m c other. clean_same q.ranges all m
           (ranges_append m.name q.ranges more.ranges
@@ -63,13 +64,13 @@ queue_joined q more is also ranges slots owned also_owned apart =
           (λ m c other. clean_same more.ranges all m
           (ranges_append m.name q.ranges more.ranges
           ∙ ap (λ l. l ++ ranges_of m.name more.ranges) (none_unheld m.name q.ranges q.slots owned other)) c)
-          also.each (apart_other_way q.slots more.slots apart));
+          also.each (apart_other_way q.slots more.slots apart)));
     }
 
 pub owned_joined : (q more : Queue) → HasOwners q → HasOwners more → HasOwners (after_append q more)
 owned_joined q more owned also_owned =
-    each_append (λ r. holds (owner r) (q.slots ++ more.slots) ≡ true) q.ranges more.ranges
-    (owned_more q.ranges q.slots more.slots owned) (owned_later more.ranges q.slots more.slots also_owned)
+    owned_by_kind (q.ranges ++ more.ranges) (q.slots ++ more.slots) (each_append (λ r. holds (owner r) (q.slots ++ more.slots) ≡ true) q.ranges more.ranges
+    (owned_more q.ranges q.slots more.slots owned) (owned_later more.ranges q.slots more.slots also_owned))
 
 -- the ranges that were just pushed for a slot
 own_ranges : (kind : QueueKind) (slot : ℕ) (rs : List ByteRange) → ranges_of (record { kind = slot_kind kind; slot = slot }) (map (range_of kind slot) rs) ≡ rs
@@ -105,5 +106,6 @@ own_owned kind m (r ∷ rs) ms is =
 -- the slot is pushed behind its ranges
 pub owned_pushed : (kind : QueueKind) (m : Queued) (rs : List ByteRange) (q : Queue) → m.name.kind ≡ slot_kind kind → HasOwners q → HasOwners (with_slot m (with_ranges kind m.name.slot rs q))
 owned_pushed kind m rs q is owned =
-    each_append (λ r. holds (owner r) (q.slots ++ m ∷ []) ≡ true) q.ranges (map (range_of kind m.name.slot) rs)
-    (owned_more q.ranges q.slots (m ∷ []) owned) (own_owned kind m rs q.slots is)
+    let mine : List QueuedRange = map (range_of kind m.name.slot) rs in
+    owned_by_kind (q.ranges ++ mine) (q.slots ++ m ∷ []) (each_append (λ r. holds (owner r) (q.slots ++ m ∷ []) ≡ true) q.ranges mine
+    (owned_more q.ranges q.slots (m ∷ []) owned) (own_owned kind m rs q.slots is))

@@ -68,33 +68,6 @@ settled_of ranges m none c =
 pub first_settled : (kind : SlotKind) (q : Queue) → IsQueue q → q.ranges ≡ [] → IfSome (first_of_kind kind q.slots) IsSettled
 first_settled kind q is none = first_is_one IsSettled kind q.slots (each_weaker (LeavesClean q.ranges) IsSettled q.slots (λ m c. settled_of q.ranges m none c) is.each)
 
--- the first slot of the kind, by its place
-pub first_at : (kind : SlotKind) (ms : List Queued) (i : ℕ) (d : Queued) → i < length ms → ((k : ℕ) → k < i → HoldsAt (λ m. same_kind kind m.name.kind ≡ false) ms k) → same_kind kind (get_or ms i d).name.kind ≡ true → (first_of_kind kind ms ≡ Some (get_or ms i d)) × (others_of_kind kind ms ≡ remove ms i)
-first_at kind [] i d inside before here = absurd (omega arith)
-first_at kind (m ∷ ms) zero d inside before here = (rw here refl, rw here refl)
-first_at kind (m ∷ ms) (suc i) d inside before here =
-    let not : same_kind kind m.name.kind ≡ false = before 0 (omega arith) m in
-    let rest = first_at kind ms i d (omega arith) (λ k below e. before (suc k) (omega arith) e) here in
-    (rw not rest.0, rw not (ap (λ (l : List Queued). m ∷ l) rest.1))
-
-pub kind_there : (kind : SlotKind) (ms : List Queued) (i : ℕ) → i < length ms → ((k : ℕ) → k < i → HoldsAt (λ m. same_kind kind m.name.kind ≡ false) ms k) → HoldsAt (λ m. same_kind kind m.name.kind ≡ true) ms i → is_some (first_of_kind kind ms) ≡ true
-kind_there kind [] i inside before here = absurd (omega arith)
-kind_there kind (m ∷ ms) i inside before here = ap (λ (o : Option Queued). is_some o) (first_at kind (m ∷ ms) i m inside before (here m)).0
-
-pub none_of_kind : (kind : SlotKind) (ms : List Queued) → ((k : ℕ) → k < length ms → HoldsAt (λ m. same_kind kind m.name.kind ≡ false) ms k) → (first_of_kind kind ms ≡ None) × (others_of_kind kind ms ≡ ms)
-none_of_kind kind [] none = (refl, refl)
-none_of_kind kind (m ∷ ms) none =
-    let not : same_kind kind m.name.kind ≡ false = none 0 (omega arith) m in
-    let rest = none_of_kind kind ms (λ k below e. none (suc k) (omega arith) e) in
-    (rw not rest.0, rw not (ap (λ (l : List Queued). m ∷ l) rest.1))
-
--- what a removal at that place answers and leaves
-pub taken_first : (kind : SlotKind) (ms new : List Queued) (i : ℕ) (r : Option Queued) → i < length ms → ((k : ℕ) → k < i → HoldsAt (λ m. same_kind kind m.name.kind ≡ false) ms k) → HoldsAt (λ m. same_kind kind m.name.kind ≡ true) ms i → IfSome r (λ y. y ≡ get_or ms i y) → OnSome r (new ≡ remove ms i) → IsSome r → (r ≡ first_of_kind kind ms) × (new ≡ others_of_kind kind ms)
-taken_first kind ms new i None inside before here value items some = absurd (true≢false (sym some))
-taken_first kind ms new i (Some y) inside before here value items some =
-    let first = first_at kind ms i y inside before (here y) in
-    (ap (λ (x : Queued). Some x) value ∙ sym first.0, items ∙ sym first.1)
-
 -- the first slot that is to be zeroed, by its place
 pub zeroed_at : (kind : SlotKind) (ms : List Queued) (i : ℕ) (d : Queued) → i < length ms → ((k : ℕ) → k < i → HoldsAt (λ m. is_to_zero kind m ≡ false) ms k) → is_to_zero kind (get_or ms i d) ≡ true → (list_any (is_to_zero kind) ms ≡ true) × (first_zeroed kind ms ≡ set ms i (zeroed (get_or ms i d)))
 zeroed_at kind [] i d inside before here = absurd (omega arith)

@@ -3,8 +3,8 @@ use Rattle.std.proofs.Common.{◌≡◌, ℕ, ◌<◌, Bool, true, false, List, 
 use Rattle.pool_slots.proofs.Imports.{list_any, cases_Bool, or_parts, or_left, true≢false, SlotKind}
 use Rattle.pool_hall.specs.declared.unit_name.SlotKind.TheVariants as of_slot
 use Rattle.pool_slots.specs.declared.slot_name.SlotName.{SlotName}
-use Rattle.pool_slots.specs.SlotQueues.{Queued, Queue, same_kind, first_of_kind, others_of_kind, is_to_zero, zeroed_by, zeroed, first_zeroed}
-use Rattle.pool_slots.specs.Flushes.{is_kind, of_kind, without_kind, zeroed_of, given_back}
+use Rattle.pool_slots.specs.SlotQueues.{Queued, Queue, same_kind, first_of_kind, others_of_kind, is_to_zero, zeroed_by, zeroed, first_zeroed, is_kind, of_kind}
+use Rattle.pool_slots.specs.Flushes.{without_kind, zeroed_of, given_back}
 use Rattle.pool_slots.proofs.SlotNames.{kind_is}
 
 pub kind_others : (kind : SlotKind) (ms : List Queued) → without_kind kind (others_of_kind kind ms) ≡ without_kind kind ms
@@ -129,7 +129,7 @@ zero_over kind old now new same kept none is =
     zero_same kind old now new same is ∙ ap (λ (l : List Queued). record old { slots = l }) slots
 
 -- zeroing keeps names
-name_by : (o : Option ℕ) (m : Queued) → (zeroed_by o m).name ≡ m.name
+pub name_by : (o : Option ℕ) (m : Queued) → (zeroed_by o m).name ≡ m.name
 name_by None m = refl
 name_by (Some n) m = refl
 

@@ -1,5 +1,6 @@
 -- Whether a list notes that one of its slots may be still to be zeroed by hand, as it changes.
-use Rattle.std.proofs.Common.{◌≡◌, ℕ, zero, suc, ◌<◌, ◌||◌, ◌&&◌, Bool, true, false, List, [], ◌∷◌, ◌++◌, length, get_or, refl, sym, ap, ◌∙◌, arith, set, Option, Some, None, Result, Ok, Err, OnOk, OnErr}
+use Rattle.std.proofs.Common.{◌≡◌, ℕ, zero, suc, ◌<◌, ◌≤◌, ◌||◌, ◌&&◌, Bool, true, false, List, [], ◌∷◌, ◌++◌, length, get_or, refl, sym, ap, ◌∙◌, subst, arith, set, Option, Some, None, Result, Ok, Err, OnOk, OnErr}
+use Rattle.std.specs.Option.{option_to_list}
 use Rattle.pool_slots.proofs.Imports.{AllByRecursion, list_any, or_parts, ByteRange, Slot, SlotKind}
 use Rattle.pool_slots.specs.SlotQueues.{Queued, AreNoted, IsLeftItem, same_kind, others_of_kind, is_to_zero, is_unzeroed, first_zeroed, zeroed, zeroed_by}
 use Rattle.pool_slots.proofs.Lists.{each_append}
@@ -30,9 +31,6 @@ noted_kept ms i y d a all inside keeps off = each_set ms i y (all off) (keeps (e
 
 pub noted_set : (ms : List Queued) (i : ℕ) (y : Queued) (a b c : Bool) → AreNoted a ms → b ≡ is_unzeroed y → c ≡ (a || b) → AreNoted c (set ms i y)
 noted_set ms i y a b c all here is off = let parts = or_parts a b (sym is ∙ off) in each_set ms i y (all parts.0) (sym here ∙ parts.1)
-
-pub noted_less : (kind : SlotKind) (ms : List Queued) (a : Bool) → AreNoted a ms → AreNoted a (others_of_kind kind ms)
-noted_less kind ms a all off = each_others Is kind ms (all off)
 
 -- once it is zeroed, it isn't to be zeroed any more
 zeroed_once : (by : Option ℕ) (m : Queued) → m.by_hand ≡ by → Is (zeroed_by by m)
@@ -68,3 +66,12 @@ set_there (m ∷ ms) (suc i) y d inside = set_there ms i y d (omega (arith, insi
 pub decommit_same : {T E : Type 0} (r : Result T E) (range : ByteRange) (m y : Queued) (s : Slot) → OnOk r (y ≡ record m { slot = s }) → OnErr r (IsLeftItem range m y) → is_unzeroed y ≡ is_unzeroed m
 decommit_same (Ok x) range m y s done left = ap (λ (z : Queued). is_unzeroed z) done
 decommit_same (Err e) range m y s done left = ap (λ (z : Queued). is_unzeroed z) left.same
+
+-- the first one less
+pub shorter : (o : Option Queued) (old new : List Queued) → old ≡ option_to_list o ++ new → length new ≤ length old
+shorter None old new is = omega (arith, ap (λ (l : List Queued). length l) is)
+shorter (Some m) old new is = omega (arith, ap (λ (l : List Queued). length l) is)
+
+pub noted_rest : (o : Option Queued) (old new : List Queued) (a : Bool) → old ≡ option_to_list o ++ new → AreNoted a old → AreNoted a new
+noted_rest None old new a is all off = subst (AllByRecursion Is) is (all off)
+noted_rest (Some m) old new a is all off = let both : AllByRecursion Is (m ∷ new) = subst (AllByRecursion Is) is (all off) in both.1

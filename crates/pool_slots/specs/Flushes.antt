@@ -1,10 +1,10 @@
 -- What a flush makes of the slots of a queue. The ranges are decommitted from the first to the last, up to the first that
 -- fails. Then the memories go back, then the tables, then the stacks.
-use Rattle.std.specs.Prelude.{◌≡◌, ◌<◌, ◌⊎◌, List, [], ◌∷◌, ◌++◌, length, map, filter, Bool, true, not, if◌then◌else◌}
+use Rattle.std.specs.Prelude.{◌≡◌, ◌<◌, ◌⊎◌, List, ◌++◌, length, map, filter, Bool, true, not, if◌then◌else◌}
 use Rattle.pool_slots.specs.Imports.{AllZip, SlotKind, Follows}
 use Rattle.pool_hall.specs.declared.unit_name.SlotKind.TheVariants as of_slot
 use Rattle.pool_slots.specs.declared.queued_range.QueuedRange.{QueuedRange}
-use Rattle.pool_slots.specs.SlotQueues.{Queued, Queue, same_kind, same_slot, is_of, ranges_of, front, first_slot, settle, settled, IsLeftBy, is_to_zero, zeroed}
+use Rattle.pool_slots.specs.SlotQueues.{Queued, Queue, same_slot, is_of, ranges_of, front, first_slot, settle, settled, IsLeftBy, is_to_zero, zeroed, is_kind, of_kind}
 use Rattle.pool_slots.specs.SlotOrders.{decommits}
 
 -- Where the slot's region tells its plan: the slot's own ranges among these were decommitted, each in its turn and no
@@ -38,14 +38,6 @@ pub record AreLost (q : Queue) (items : List Queued) : Type 0 where
 -- what the decommits of a flush leave: each slot that the queue held, in order, after all ranges, or after one failed
 abbrev pub IsFlushed : Queue → List Queued → Type 0
 IsFlushed q items = AreDecommitted q items ⊎ AreLost q items
-
--- The queued slot is of this kind.
-abbrev pub is_kind : SlotKind → Queued → Bool
-is_kind kind m = same_kind kind m.name.kind
-
--- The queued slots of a kind, in order.
-abbrev pub of_kind : SlotKind → List Queued → List Queued
-of_kind kind ms = filter (is_kind kind) ms
 
 -- The queued slots of the other kinds, in order.
 abbrev pub without_kind : SlotKind → List Queued → List Queued

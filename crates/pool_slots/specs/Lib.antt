@@ -6,6 +6,7 @@ pub mod HeapLists
 pub mod HeapUnits
 pub mod HeapsTold
 pub mod HeldSlots
+pub mod KindLists
 mod Imports
 pub mod Makings
 pub mod PartUnits

@@ -43,8 +43,9 @@ pub record QueuedList : Type 0 where
   pub items : List Queued
   pub room : ℕ
 
--- The ranges and the slots in the order in which they were pushed, and room for so many of each. How often the whole
--- queue was taken, and how many slots were ever pushed or appended, both modulo 2 ^ 64.
+-- The ranges in the order in which they were pushed, the slots kind by kind, those of a kind in the order in which they were
+-- pushed, and room for so many of each. How often the whole queue was taken, and how many slots were ever pushed or appended,
+-- both modulo 2 ^ 64.
 pub record Queue : Type 0 where
   pub ranges : List QueuedRange
   pub slots : List Queued
@@ -171,13 +172,26 @@ ForgetsNothing q = AllByRecursion (λ m. m.known ≡ true → IsCovered q.ranges
 abbrev pub with_range : QueuedRange → Queue → Queue
 with_range r q = record q { ranges = q.ranges ++ r ∷ [] }
 
--- The queue with one slot more; it counts the slots that were added to it.
-abbrev pub with_slot : Queued → Queue → Queue
-with_slot m q = record q { slots = q.slots ++ m ∷ []; appended = (q.appended + 1) % 2 ^ 64 }
+-- The queued slot is of this kind.
+abbrev pub is_kind : SlotKind → Queued → Bool
+is_kind kind m = same_kind kind m.name.kind
 
--- The queue with the ranges and slots of another behind its own; it counts the slots that came in.
+-- The queued slots of a kind, in order.
+abbrev pub of_kind : SlotKind → List Queued → List Queued
+of_kind kind ms = filter (is_kind kind) ms
+
+-- The slots kind by kind, those of a kind in order.
+abbrev pub by_kind : List Queued → List Queued
+by_kind ms = of_kind of_slot.Memory ms ++ (of_kind of_slot.Table ms ++ (of_kind of_slot.Stack ms ++ of_kind of_slot.Heap ms))
+
+-- The queue with one slot more, behind the last of its kind; it counts the slots that were added to it.
+abbrev pub with_slot : Queued → Queue → Queue
+with_slot m q = record q { slots = by_kind (q.slots ++ m ∷ []); appended = (q.appended + 1) % 2 ^ 64 }
+
+-- The queue with the ranges of another behind its own, and with the other's slots of each kind behind its own of that kind; it
+-- counts the slots that came in.
 abbrev pub after_append : Queue → Queue → Queue
-after_append q more = record q { ranges = q.ranges ++ more.ranges; slots = q.slots ++ more.slots; appended = (q.appended + length more.slots) % 2 ^ 64 }
+after_append q more = record q { ranges = q.ranges ++ more.ranges; slots = by_kind (q.slots ++ more.slots); appended = (q.appended + length more.slots) % 2 ^ 64 }
 
 -- The queue once it was taken whole: empty, and the take is counted.
 abbrev pub after_take : Queue → Queue

@@ -1,9 +1,9 @@
-ghost use Rattle.std.specs.Prelude.{◌≡◌, ◌+◌, ◌<◌, ◌≤◌, ◌==◌, ◌^◌, [], ◌∷◌, ◌++◌, length, ℕ, List, false, true, is_ok, is_some, IfOk, IfSome, OnOk, OnErr, MatchOption, slice_index_or};
+ghost use Rattle.std.specs.Prelude.{◌≡◌, ◌+◌, ◌<◌, ◌≤◌, ◌==◌, ◌^◌, [], ◌∷◌, ◌++◌, length, ℕ, List, false, true, is_ok, is_some, IfOk, IfSome, OnOk, OnErr, slice_index_or};
 ghost use Rattle.std.specs.List.{HoldsAt, list_any};
 ghost use Rattle.pool_images.specs.declared.ranges.ByteRange.{ByteRange};
 ghost use Rattle.pool_slots.specs.SlotNames.{slot_kind};
 ghost use Rattle.pool_slots.specs.QueueMerges.{CanMerge, fills, merged, merged_local};
-ghost use Rattle.pool_slots.specs.SlotQueues.{Queued, Queue, empty_queue, drained, same_slot, owner, holds, HasOwners, AreDistinct, AreApart, LeavesClean, IsGivenBack, IsReset, ForgetsNothing, with_range, with_ranges, with_slot, after_append, after_take, taken_into, IsSpareOf, after_run, after_run_of, IsFaulted, IsSettled, calls_held, first_slot, first_of_kind, others_of_kind, is_to_zero, first_zeroed};
+ghost use Rattle.pool_slots.specs.SlotQueues.{Queued, Queue, empty_queue, drained, owner, holds, HasOwners, AreDistinct, AreApart, LeavesClean, IsGivenBack, IsReset, ForgetsNothing, with_range, with_ranges, with_slot, after_append, after_take, taken_into, IsSpareOf, after_run, after_run_of, IsFaulted, IsSettled, calls_held, first_slot, first_of_kind, others_of_kind, is_to_zero, first_zeroed};
 ghost use Rattle.pool_slots.specs.SlotOrders.{run_of, first_of, AreInOrder};
 ghost use Rattle.pool_slots.specs.SlotSteps.{begins_with, after_first};
 
@@ -30,8 +30,6 @@ use std::mem;
 pub struct DecommitQueue<P: Pages> {
     ranges: RangeItems,
     slots: SlotItems<P>,
-    // Where the search for the slot of a run begins.
-    cursor: usize,
     takes: u64,
     appended: u64,
 }
@@ -56,7 +54,6 @@ impl<P: Pages> DecommitQueue<P> {
         Ok(DecommitQueue {
             ranges,
             slots,
-            cursor: 0,
             takes: 0,
             appended: 0,
         })
@@ -188,7 +185,8 @@ impl<P: Pages> DecommitQueue<P> {
         calls
     }
 
-    /// Moves the other queue's ranges and slots behind these. The other queue is empty then.
+    /// Moves the other queue's ranges behind these, and its slots of each kind behind those of that kind. The other queue is
+    /// empty then.
     pub fn append(&mut self, other: &mut DecommitQueue<P>)
         requires range_room { length self.old.ranges + length other.old.ranges ≤ self.old.range_room }
         requires slot_room { length self.old.slots + length other.old.slots ≤ self.old.slot_room }
@@ -244,8 +242,8 @@ impl<P: Pages> DecommitQueue<P> {
     /// Decommits the ranges at the front that are of one slot, in order. Ranges of no length make no page call. Where a
     /// decommit fails, the further ranges are dropped, and nothing is known of any slot that is held.
     ///
-    /// The slot is looked for from that of the run before on, so that a flush goes through the slots once where the
-    /// runs stand in the order of the slots.
+    /// The slot is looked for from that of the run before on its kind, so that a flush goes through the slots once where the
+    /// runs on a kind stand in the order of its slots.
     pub fn decommit_run(&mut self) -> Result<(), PageFault>
         requires some { 0 < length self.old.ranges }
         requires owners { HasOwners self.old }
@@ -255,8 +253,7 @@ impl<P: Pages> DecommitQueue<P> {
         ensures owners { HasOwners self.new }
     {
         let slot = self.first_slot();
-        let at = self.place_of(slot);
-        self.begin_at(at);
+        let at = self.slots.place_of(slot);
         self.decommit_all_of(slot, at)
     }
 
@@ -268,12 +265,6 @@ impl<P: Pages> DecommitQueue<P> {
             unreachable!()
         };
         owner(first)
-    }
-
-    fn begin_at(&mut self, at: usize)
-        ensures { self.new ≡ self.old }
-    {
-        self.cursor = at;
     }
 
     // Decommits the ranges at the front that are of the slot at this place.
@@ -291,37 +282,6 @@ impl<P: Pages> DecommitQueue<P> {
             self.decommit_first(at)?;
         }
         Ok(())
-    }
-
-    // The place of the slot with this name.
-    fn place_of(&self, slot: SlotName) -> usize
-        requires { holds slot self.now.slots ≡ true }
-        ensures inside { result < length self.now.slots }
-        ensures index { HoldsAt (λ m. m.name ≡ slot) self.now.slots result }
-    {
-        let len = self.slots.len();
-        let from = self.cursor.min(len);
-        match self.place_within(slot, from, len) {
-            Some(at) => at,
-            None => match self.place_within(slot, 0, from) {
-                Some(at) => at,
-                None => unreachable!(),
-            },
-        }
-    }
-
-    // The place of the slot with this name, among some.
-    #[tactic(auto, using(crate::proofs::SlotNames::slot_at_last))]
-    fn place_within(&self, slot: SlotName, from: usize, to: usize) -> Option<usize>
-        requires { to ≤ length self.now.slots }
-        ensures { MatchOption result ((k : ℕ) → from ≤ k → k < to → HoldsAt (λ m. same_slot slot m.name ≡ false) self.now.slots k) (λ at. (at < to) × HoldsAt (λ m. m.name ≡ slot) self.now.slots at) }
-    {
-        for at in from..to {
-            if same_slot(slot, self.slots.get(at).name()) {
-                return Some(at);
-            }
-        }
-        None
     }
 
     // Decommits the first range, which is of the slot at this place.
@@ -380,7 +340,6 @@ impl<P: Pages> DecommitQueue<P> {
         ensures others { self.new ≡ record self.old { slots = others_of_kind kind self.old.slots } }
         ensures settled { IfSome result IsSettled }
     {
-        self.cursor = 0;
         self.slots.take_first(kind)
     }
 }

@@ -1,8 +1,8 @@
 ghost use Rattle.std.specs.Prelude.{◌≡◌, ◌<◌, List, [], map, length, nat_lt, false, true};
 ghost use Rattle.std.specs.List.{list_any};
 ghost use Rattle.pool_hall.specs.declared.unit_name.SlotKind.TheVariants.{Heap};
-ghost use Rattle.pool_slots.specs.SlotQueues.{Queued, HasOwners, drained};
-ghost use Rattle.pool_slots.specs.Flushes.{IsFlushed, CanTakeBack, WentBack, is_kind, zeroed_of};
+ghost use Rattle.pool_slots.specs.SlotQueues.{Queued, HasOwners, drained, is_kind};
+ghost use Rattle.pool_slots.specs.Flushes.{IsFlushed, CanTakeBack, WentBack, zeroed_of};
 
 use crate::decommit_queue::DecommitQueue;
 use crate::queued_slot::HeldSlot;
@@ -75,8 +75,8 @@ impl<P: Pages> DecommitQueue<P> {
         match self.pop(SlotKind::Heap) {
             Some(item) => match item.held {
                 HeldSlot::Memory(_) => unreachable!(),
-                HeldSlot::Table(_, _, _) => unreachable!(),
-                HeldSlot::Stack(_, _, _) => unreachable!(),
+                HeldSlot::Table(_) => unreachable!(),
+                HeldSlot::Stack(_) => unreachable!(),
             },
             None => {}
         }

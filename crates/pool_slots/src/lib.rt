@@ -41,6 +41,7 @@ mod region_cell;
 // The decommit queue
 mod decommit_queue;
 mod flush;
+mod kind_items;
 mod queued_range;
 mod queued_slot;
 mod range_items;
@@ -74,7 +75,7 @@ pub use plain_slot::{PlainSlot, zeroed_slots_read_zeros};
 pub use plan::{Allocator, Home, Plan, slots_are_at_home};
 pub use plan_maker::PlanSettings;
 pub use queued_range::{QueueKind, QueuedRange};
-pub use queued_slot::{HeldSlot, QueuedSlot};
+pub use queued_slot::{HeldSlot, PlainHeld, QueuedSlot};
 pub use region_cell::{RegionCell, StackCell, TableCell};
 pub use slab::{SlabConstraints, SlabLayout, calculate, settings_speak_of_layouts};
 pub use slot_items::SlotItems;

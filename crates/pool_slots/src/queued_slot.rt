@@ -4,9 +4,11 @@ ghost use Rattle.pool_pages.specs.Told.{Faulted, TellsShaped, succeeded, decommi
 ghost use Rattle.pool_images.specs.Orders.{Follows};
 ghost use Rattle.pool_images.specs.Slots.{IsPart, IsSlot, CallFaulted, size_of};
 ghost use Rattle.pool_slots.specs.SlotQueues.{decommitted_at, plain_slot, CanBeZeroed, IsLeftSlot, IsLeftItem, zeroed_slot, is_to_zero, is_unzeroed, zeroed, forgotten, forgotten_slot};
+ghost use Rattle.pool_slots.specs.SlotNames.{slot_kind};
 ghost use Rattle.pool_slots.specs.SlotOrders.{decommits};
 ghost use Rattle.pool_slots.specs.HeldSlots.{held_slot, held_kind, by_hand_of};
 
+use crate::queued_range::QueueKind;
 use crate::slot_name::{RegionNumbers, SlotName, same_kind};
 use pool_images::{ByteRange, MemoryImageSlot};
 use pool_index::SlotKind;
@@ -19,11 +21,20 @@ use std::marker::Model;
 pub enum HeldSlot<P: Pages> {
     /// The slot of a memory, with the image that is mapped in it.
     Memory(MemoryImageSlot<P>),
-    /// The region of a table, which begins at this byte of it, and how many bytes from there on are zeroed by hand where a
-    /// decommit fails, unless it isn't zeroed at all.
-    Table(PageRegion<P>, HostAlignedByteCount, Option<usize>),
-    /// The region of a stack, likewise.
-    Stack(PageRegion<P>, HostAlignedByteCount, Option<usize>),
+    /// The region of a table.
+    Table(PlainHeld<P>),
+    /// The region of a stack.
+    Stack(PlainHeld<P>),
+}
+
+/// What a queue holds of the slot of a table or a stack.
+#[derive(Drop)]
+pub struct PlainHeld<P: Pages> {
+    pub region: PageRegion<P>,
+    /// The byte of the region that the slot begins at.
+    pub base: HostAlignedByteCount,
+    /// How many bytes from there on are zeroed by hand where a decommit fails, unless it isn't zeroed at all.
+    pub by_hand: Option<usize>,
 }
 
 /// A slot on its way back to its pool.
@@ -67,14 +78,21 @@ impl<P: Pages> QueuedSlot<P> {
         }
     }
 
+    // What the slot is for.
+    pub(crate) fn queue_kind(&self) -> QueueKind
+        ensures { slot_kind result ≡ self.now.name.kind }
+    {
+        self.held.queue_kind()
+    }
+
     /// The calls made so far on the slot's region.
     pub fn page_calls(&self) -> PageCalls
         ensures { result ≡ self.now.slot.region.calls }
     {
         match &self.held {
             HeldSlot::Memory(slot) => slot.region().calls(),
-            HeldSlot::Table(region, _, _) => region.calls(),
-            HeldSlot::Stack(region, _, _) => region.calls(),
+            HeldSlot::Table(held) => held.region.calls(),
+            HeldSlot::Stack(held) => held.region.calls(),
         }
     }
 
@@ -108,8 +126,8 @@ impl<P: Pages> QueuedSlot<P> {
     {
         match &self.held {
             HeldSlot::Memory(_) => false,
-            HeldSlot::Table(_, _, by_hand) => by_hand.is_some(),
-            HeldSlot::Stack(_, _, by_hand) => by_hand.is_some(),
+            HeldSlot::Table(held) => held.by_hand.is_some(),
+            HeldSlot::Stack(held) => held.by_hand.is_some(),
         }
     }
 
@@ -137,10 +155,17 @@ impl<P: Pages> HeldSlot<P> {
     pub fn kind(&self) -> SlotKind
         ensures { result ≡ held_kind self.now }
     {
+        self.queue_kind().slot_kind()
+    }
+
+    // What the slot is for.
+    fn queue_kind(&self) -> QueueKind
+        ensures { slot_kind result ≡ held_kind self.now }
+    {
         match self {
-            HeldSlot::Memory(_) => SlotKind::Memory,
-            HeldSlot::Table(_, _, _) => SlotKind::Table,
-            HeldSlot::Stack(_, _, _) => SlotKind::Stack,
+            HeldSlot::Memory(_) => QueueKind::Memory,
+            HeldSlot::Table(_) => QueueKind::Table,
+            HeldSlot::Stack(_) => QueueKind::Stack,
         }
     }
 }
@@ -168,8 +193,8 @@ fn decommit_held<P: Pages>(held: &mut HeldSlot<P>, range: ByteRange) -> Result<(
 {
     match held {
         HeldSlot::Memory(slot) => decommit_image(slot, range),
-        HeldSlot::Table(region, base, _) => decommit_plain(region, *base, range),
-        HeldSlot::Stack(region, base, _) => decommit_plain(region, *base, range),
+        HeldSlot::Table(held) => decommit_plain(&mut held.region, held.base, range),
+        HeldSlot::Stack(held) => decommit_plain(&mut held.region, held.base, range),
     }
 }
 
@@ -248,8 +273,8 @@ fn zero_held<P: Pages>(held: &mut HeldSlot<P>) -> bool
 {
     match held {
         HeldSlot::Memory(_) => false,
-        HeldSlot::Table(region, base, by_hand) => zero_plain(region, *base, *by_hand),
-        HeldSlot::Stack(region, base, by_hand) => zero_plain(region, *base, *by_hand),
+        HeldSlot::Table(held) => zero_plain(&mut held.region, held.base, held.by_hand),
+        HeldSlot::Stack(held) => zero_plain(&mut held.region, held.base, held.by_hand),
     }
 }
 

@@ -1,50 +1,52 @@
-ghost use Rattle.std.specs.Prelude.{◌≡◌, ◌+◌, ◌<◌, ◌≤◌, ◌==◌, [], ◌∷◌, ◌++◌, length, map, slice_index_or, slice_set, false, true, ℕ, ◌||◌, is_ok, is_some, IfOk, IfSome, OnOk, OnErr, MatchOption};
+ghost use Rattle.std.specs.Prelude.{◌≡◌, ◌+◌, ◌<◌, ◌≤◌, ◌==◌, [], ◌∷◌, ◌++◌, length, map, slice_index_or, slice_set, true, is_ok, is_some, IfOk, IfSome, OnOk, OnErr};
 ghost use Rattle.std.specs.List.{AllByRecursion, HoldsAt, list_any};
 ghost use Rattle.pool_images.specs.Orders.{Follows};
 ghost use Rattle.pool_images.specs.Slots.{IsPart, IsSlot, size_of};
-ghost use Rattle.pool_slots.specs.SlotQueues.{decommitted_at, Queued, CanBeZeroed, same_kind, first_of_kind, others_of_kind, forgotten, IsLeftItem, is_to_zero, AreNoted, first_zeroed, zeroed};
+ghost use Rattle.pool_slots.specs.SlotQueues.{decommitted_at, Queued, CanBeZeroed, holds, by_kind, first_of_kind, others_of_kind, forgotten, IsLeftItem, is_to_zero, first_zeroed};
 ghost use Rattle.pool_slots.specs.SlotOrders.{decommits};
 
+use crate::kind_items::KindItems;
+use crate::queued_range::QueueKind;
 use crate::queued_slot::QueuedSlot;
-use crate::slot_name::same_kind;
+use crate::slot_name::SlotName;
 use pool_images::ByteRange;
 use pool_index::SlotKind;
 use pool_pages::{PageFault, Pages};
 use std::alloc::{AllocError, Global};
-use std::collections::VecDeque;
 use std::marker::Model;
 
-/// Slots in order, with room for so many. What is pushed within the room takes no memory. Where no decommit failed, the slots
-/// aren't looked through for one that is to be zeroed by hand.
+/// Slots kind by kind, those of a kind in order, with room for so many. What is pushed within the room takes no memory: each
+/// kind has a list with room for all. The first of a kind is found and taken out without a look at another slot.
 #[derive(Drop)]
 pub struct SlotItems<P: Pages> {
-    list: VecDeque<QueuedSlot<P>>,
-    room: usize,
-    // Whether a slot may be held that is to be zeroed by hand. Unless it is noted so, none is.
-    noted: bool,
+    memories: KindItems<P>,
+    tables: KindItems<P>,
+    stacks: KindItems<P>,
 }
 
 impl<P: Pages> Model for SlotItems<P> {
-    ghost use Rattle.std.specs.Prelude.{◌≤◌, length};
-    ghost use Rattle.std.specs.VecDeque.{deque_capacity};
-    ghost use Rattle.pool_slots.specs.SlotQueues.{QueuedList, AreNoted};
+    ghost use Rattle.std.specs.Prelude.{◌++◌};
+    ghost use Rattle.pool_slots.specs.SlotQueues.{QueuedList};
+    ghost use Rattle.pool_slots.specs.KindLists.{AreKindLists};
 
     ghost Value = { QueuedList };
 
-    ghost view = { λ l. record { items = l.list.items; room = l.room } };
+    ghost view = { λ l. record { items = l.memories.items ++ (l.tables.items ++ l.stacks.items); room = l.memories.room } };
 
-    ghost invariant = { λ l. (length l.list.items ≤ l.room) × (l.room ≤ deque_capacity l.list) × AreNoted l.noted l.list.items };
+    ghost invariant = { λ l. AreKindLists l.memories l.tables l.stacks };
 }
 
 impl<P: Pages> SlotItems<P> {
     pub fn new(alloc: Global, room: usize) -> Result<Self, AllocError>
         ensures { IfOk result (λ l. l ≡ record { items = []; room = room }) }
     {
-        let list = VecDeque::with_capacity(alloc, room)?;
+        let memories = KindItems::new(alloc, room)?;
+        let tables = KindItems::new(alloc, room)?;
+        let stacks = KindItems::new(alloc, room)?;
         Ok(SlotItems {
-            list,
-            room,
-            noted: false,
+            memories,
+            tables,
+            stacks,
         })
     }
 
@@ -52,35 +54,40 @@ impl<P: Pages> SlotItems<P> {
         ensures value { result ≡ length self.now.items }
         ensures within { length self.now.items ≤ self.now.room }
     {
-        self.list.len()
+        self.memories.len() + self.tables.len() + self.stacks.len()
     }
 
     pub fn is_empty(&self) -> bool
         ensures { result ≡ (length self.now.items == 0) }
     {
-        self.list.is_empty()
+        self.memories.is_empty() && self.tables.is_empty() && self.stacks.is_empty()
     }
 
     pub fn get(&self, at: usize) -> &QueuedSlot<P>
         requires { at < length self.now.items }
         ensures { result.now ≡ slice_index_or self.now.items at result.now }
     {
-        &self.list[at]
+        let memories = self.memories.len();
+        let tables = self.tables.len();
+        if at < memories {
+            self.memories.get(at)
+        } else if at - memories < tables {
+            self.tables.get(at - memories)
+        } else {
+            self.stacks.get(at - memories - tables)
+        }
     }
 
+    /// Adds a slot behind the last of its kind.
     pub fn push(&mut self, item: QueuedSlot<P>)
         requires { length self.old.items < self.old.room }
-        ensures { self.new ≡ record self.old { items = self.old.items ++ item ∷ [] } }
+        ensures { self.new ≡ record self.old { items = by_kind (self.old.items ++ item ∷ []) } }
     {
-        self.noted = either(self.may_be_unzeroed(), item.is_unzeroed());
-        self.list.push_back_reserved(item);
-    }
-
-    // Whether a slot may be held that is to be zeroed by hand: none is in an empty list.
-    fn may_be_unzeroed(&self) -> bool
-        ensures { AreNoted result self.now.items }
-    {
-        self.noted && !self.list.is_empty()
+        match item.queue_kind() {
+            QueueKind::Memory => self.memories.push(item),
+            QueueKind::Table => self.tables.push(item),
+            QueueKind::Stack => self.stacks.push(item),
+        }
     }
 
     /// Takes out the first slot of a kind. The others keep their order.
@@ -88,10 +95,11 @@ impl<P: Pages> SlotItems<P> {
         ensures value { result ≡ first_of_kind kind self.old.items }
         ensures others { self.new ≡ record self.old { items = others_of_kind kind self.old.items } }
     {
-        let len = self.len();
-        match self.place_of_kind(kind, len) {
-            Some(at) => self.list.remove(at),
-            None => None,
+        match kind {
+            SlotKind::Memory => self.memories.pop_front(),
+            SlotKind::Table => self.tables.pop_front(),
+            SlotKind::Stack => self.stacks.pop_front(),
+            SlotKind::Heap => None,
         }
     }
 
@@ -99,45 +107,39 @@ impl<P: Pages> SlotItems<P> {
     pub fn holds_kind(&self, kind: SlotKind) -> bool
         ensures { result ≡ is_some (first_of_kind kind self.now.items) }
     {
-        let len = self.len();
-        match self.place_of_kind(kind, len) {
-            Some(_) => true,
-            None => false,
+        match kind {
+            SlotKind::Memory => !self.memories.is_empty(),
+            SlotKind::Table => !self.tables.is_empty(),
+            SlotKind::Stack => !self.stacks.is_empty(),
+            SlotKind::Heap => false,
         }
     }
 
-    // The place of the first slot of a kind, among the first ones.
-    fn place_of_kind(&self, kind: SlotKind, to: usize) -> Option<usize>
-        requires { to ≤ length self.now.items }
-        ensures { MatchOption result ((k : ℕ) → k < to → HoldsAt (λ m. same_kind kind m.name.kind ≡ false) self.now.items k) (λ at. (at < to) × ((k : ℕ) → k < at → HoldsAt (λ m. same_kind kind m.name.kind ≡ false) self.now.items k) × HoldsAt (λ m. same_kind kind m.name.kind ≡ true) self.now.items at) }
-    {
-        for at in 0..to {
-            if self.is_of_kind(at, kind) {
-                return Some(at);
-            }
-        }
-        None
-    }
-
-    // Whether the slot at a place is of this kind.
-    fn is_of_kind(&self, at: usize, kind: SlotKind) -> bool
-        requires { at < length self.now.items }
-        ensures { HoldsAt (λ m. result ≡ same_kind kind m.name.kind) self.now.items at }
-    {
-        same_kind(kind, self.list[at].name().kind)
-    }
-
-    /// Moves all of the other list behind these.
+    /// Moves all of the other list in, kind by kind, those of a kind behind these.
     pub fn append(&mut self, other: &mut SlotItems<P>)
         requires { length self.old.items + length other.old.items ≤ self.old.room }
-        ensures value { self.new ≡ record self.old { items = self.old.items ++ other.old.items } }
+        ensures value { self.new ≡ record self.old { items = by_kind (self.old.items ++ other.old.items) } }
         ensures other { other.new ≡ record other.old { items = [] } }
     {
-        self.noted = either(self.may_be_unzeroed(), other.may_be_unzeroed());
-        other.noted = false;
-        let Ok(()) = self.list.append(&mut other.list) else {
-            unreachable!()
-        };
+        self.memories.append(&mut other.memories);
+        self.tables.append(&mut other.tables);
+        self.stacks.append(&mut other.stacks);
+    }
+
+    // The place of the slot with this name.
+    pub(crate) fn place_of(&self, slot: SlotName) -> usize
+        requires { holds slot self.now.items ≡ true }
+        ensures inside { result < length self.now.items }
+        ensures index { HoldsAt (λ m. m.name ≡ slot) self.now.items result }
+    {
+        let memories = self.memories.len();
+        let tables = self.tables.len();
+        match slot.kind {
+            SlotKind::Memory => self.memories.place_of(slot),
+            SlotKind::Table => memories + self.tables.place_of(slot),
+            SlotKind::Stack => memories + tables + self.stacks.place_of(slot),
+            SlotKind::Heap => unreachable!(),
+        }
     }
 
     // Decommits a range of the slot at a place.
@@ -148,27 +150,24 @@ impl<P: Pages> SlotItems<P> {
         ensures err { OnErr result (HoldsAt (λ m. (n : Queued) × IsLeftItem range m n × (self.new ≡ record self.old { items = slice_set self.old.items at n })) self.old.items at) }
         ensures order { HoldsAt (λ m. HoldsAt (λ n. Follows (decommits m.slot.base.bytes (range ∷ [])) (is_ok result) m.slot.region n.slot.region) self.new.items at) self.old.items at }
     {
-        let item = &mut self.list[at];
-        item.decommit(range)
+        let memories = self.memories.len();
+        let tables = self.tables.len();
+        if at < memories {
+            self.memories.decommit(at, range)
+        } else if at - memories < tables {
+            self.tables.decommit(at - memories, range)
+        } else {
+            self.stacks.decommit(at - memories - tables, range)
+        }
     }
 
     // Nothing is known of any slot from now on.
     pub(crate) fn forget(&mut self)
         ensures { self.new ≡ record self.old { items = map forgotten self.old.items } }
     {
-        for at in 0..self.list.len() {
-            self.forget_at(at);
-        }
-    }
-
-    // Nothing is known of the slot at a place from now on.
-    fn forget_at(&mut self, at: usize)
-        requires { at < length self.old.items }
-        ensures { HoldsAt (λ m. self.new ≡ record self.old { items = slice_set self.old.items at (forgotten m) }) self.old.items at }
-    {
-        let item = &mut self.list[at];
-        item.forget();
-        self.noted = either(self.noted, item.is_unzeroed());
+        self.memories.forget();
+        self.tables.forget();
+        self.stacks.forget();
     }
 
     /// Zeroes by hand the first slot of a kind that is still to be zeroed. Answers whether there was one.
@@ -177,63 +176,11 @@ impl<P: Pages> SlotItems<P> {
         ensures value { result ≡ list_any (is_to_zero kind) self.old.items }
         ensures zeroed { self.new ≡ record self.old { items = first_zeroed kind self.old.items } }
     {
-        if self.may_be_unzeroed() {
-            self.look_and_zero(kind)
-        } else {
-            false
+        match kind {
+            SlotKind::Memory => self.memories.zero_first(kind),
+            SlotKind::Table => self.tables.zero_first(kind),
+            SlotKind::Stack => self.stacks.zero_first(kind),
+            SlotKind::Heap => false,
         }
     }
-
-    // Looks for the first slot of a kind that is still to be zeroed by hand, and zeroes it.
-    fn look_and_zero(&mut self, kind: SlotKind) -> bool
-        requires { AllByRecursion (λ m. IfSome m.by_hand (λ n. CanBeZeroed n m.slot)) self.old.items }
-        ensures value { result ≡ list_any (is_to_zero kind) self.old.items }
-        ensures zeroed { self.new ≡ record self.old { items = first_zeroed kind self.old.items } }
-    {
-        let len = self.len();
-        match self.place_to_zero(kind, len) {
-            Some(at) => {
-                self.zero_at(at);
-                true
-            }
-            None => false,
-        }
-    }
-
-    // The place of the first slot of a kind that is still to be zeroed, among the first ones.
-    fn place_to_zero(&self, kind: SlotKind, to: usize) -> Option<usize>
-        requires { to ≤ length self.now.items }
-        ensures { MatchOption result ((k : ℕ) → k < to → HoldsAt (λ m. is_to_zero kind m ≡ false) self.now.items k) (λ at. (at < to) × ((k : ℕ) → k < at → HoldsAt (λ m. is_to_zero kind m ≡ false) self.now.items k) × HoldsAt (λ m. is_to_zero kind m ≡ true) self.now.items at) }
-    {
-        for at in 0..to {
-            if self.is_to_zero(at, kind) {
-                return Some(at);
-            }
-        }
-        None
-    }
-
-    // Whether the slot at a place is of this kind and still to be zeroed.
-    fn is_to_zero(&self, at: usize, kind: SlotKind) -> bool
-        requires { at < length self.now.items }
-        ensures { HoldsAt (λ m. result ≡ is_to_zero kind m) self.now.items at }
-    {
-        self.list[at].is_to_zero(kind)
-    }
-
-    // Zeroes by hand the slot at a place.
-    fn zero_at(&mut self, at: usize)
-        requires inside { at < length self.old.items }
-        requires can { HoldsAt (λ m. IfSome m.by_hand (λ n. CanBeZeroed n m.slot)) self.old.items at }
-        ensures { HoldsAt (λ m. self.new ≡ record self.old { items = slice_set self.old.items at (zeroed m) }) self.old.items at }
-    {
-        let item = &mut self.list[at];
-        item.zero();
-    }
-}
-
-fn either(one: bool, other: bool) -> bool
-    ensures { result ≡ (one || other) }
-{
-    one || other
 }

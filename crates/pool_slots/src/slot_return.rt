@@ -1,8 +1,8 @@
 ghost use Rattle.std.specs.Prelude.{◌≡◌, List, []};
 ghost use Rattle.pool_hall.specs.declared.unit_name.SlotKind.{SlotKind};
 ghost use Rattle.pool_hall.specs.declared.unit_name.SlotKind.TheVariants.{Memory, Table, Stack};
-ghost use Rattle.pool_slots.specs.SlotQueues.{Queued};
-ghost use Rattle.pool_slots.specs.Flushes.{of_kind, without_kind};
+ghost use Rattle.pool_slots.specs.SlotQueues.{Queued, of_kind};
+ghost use Rattle.pool_slots.specs.Flushes.{without_kind};
 
 use crate::decommit_queue::DecommitQueue;
 use pool_pages::Pages;

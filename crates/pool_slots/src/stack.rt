@@ -5,7 +5,7 @@ ghost use Rattle.pool_slots.specs.SlotQueues.{IsGivenBack, plain_slot};
 ghost use Rattle.pool_slots.specs.HeldSlots.{stack_item};
 
 use crate::plain_slot::PlainSlot;
-use crate::queued_slot::{HeldSlot, QueuedSlot};
+use crate::queued_slot::{HeldSlot, PlainHeld, QueuedSlot};
 use crate::slot_name::RegionNumbers;
 use pool_images::Ranges;
 use pool_pages::{PageCalls, Pages};
@@ -117,7 +117,11 @@ impl<P: Pages> Stack<P> {
         let (region, base) = self.slot.into_parts();
         QueuedSlot {
             slot: self.index,
-            held: HeldSlot::Stack(region, base, by_hand),
+            held: HeldSlot::Stack(PlainHeld {
+                region,
+                base,
+                by_hand,
+            }),
             known: self.zeroing,
             bytes,
             numbers,

@@ -8,13 +8,12 @@ use Rattle.pool_slots.proofs.decommit_queue.DecommitQueue.decommit_run.Goals as 
 pub returns-clause-ok : goal.returns-clause-ok
 returns-clause-ok g c =
     on_ok_weaker c.decommit_all_of.result
-    (λ e. e ∙ ap (λ (q : Queue). after_run_of c.first_slot-slot.result q) c.begin_at.ensures ∙ ap (λ (n : SlotName). after_run_of n c.args.self.now) c.first_slot-slot.ensures)
+    (λ e. e ∙ ap (λ (n : SlotName). after_run_of n c.args.self.now) c.first_slot-slot.ensures)
     c.decommit_all_of.ensures.ok
 
 pub returns-clause-order : goal.returns-clause-order
 returns-clause-order g c =
     let q : Queue = c.args.self.now in
     let end : List Queued = c.decommit_all_of.new.self.slots in
-    let Q : Queue → Type 0 = λ p. AreInOrder c.first_slot-slot.result (run_of c.first_slot-slot.result p.ranges) (is_ok c.decommit_all_of.result) p.slots end in
     let S : SlotName → Type 0 = λ k. AreInOrder k (run_of k q.ranges) (is_ok c.decommit_all_of.result) q.slots end in
-    subst S c.first_slot-slot.ensures (subst Q c.begin_at.ensures c.decommit_all_of.ensures.order)
+    subst S c.first_slot-slot.ensures c.decommit_all_of.ensures.order

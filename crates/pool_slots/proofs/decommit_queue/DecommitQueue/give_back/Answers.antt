@@ -1,8 +1,8 @@
 use Rattle.std.proofs.Common.{◌≡◌, false, List, [], sym, ap, ◌∙◌, subst, map}
 use Rattle.std.specs.List.{list_any}
 use Rattle.pool_hall.specs.declared.unit_name.SlotKind.TheVariants as of_slot
-use Rattle.pool_slots.specs.SlotQueues.{Queued, Queue}
-use Rattle.pool_slots.specs.Flushes.{is_kind, of_kind, without_kind, zeroed_of, given_back}
+use Rattle.pool_slots.specs.SlotQueues.{Queued, Queue, is_kind, of_kind}
+use Rattle.pool_slots.specs.Flushes.{without_kind, zeroed_of, given_back}
 use Rattle.pool_slots.proofs.SlotReturns.{after_memories, after_tables, tables_back, stacks_back, nothing_left, slots_twice}
 use Rattle.pool_slots.proofs.decommit_queue.DecommitQueue.give_back.Goals as goal
 

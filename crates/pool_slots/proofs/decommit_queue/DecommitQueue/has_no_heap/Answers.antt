@@ -1,8 +1,7 @@
-use Rattle.std.proofs.Common.{◌≡◌, false, true, refl, List, sym, ap, ◌∙◌, Some, None, Option}
-use Rattle.pool_slots.proofs.Imports.{true≢false, SlotKind}
+use Rattle.std.proofs.Common.{◌≡◌, refl, List, sym, ap, ◌∙◌}
+use Rattle.pool_slots.proofs.Imports.{true≢false}
 use Rattle.pool_hall.specs.declared.unit_name.SlotKind.TheVariants as of_slot
-use Rattle.pool_slots.specs.SlotQueues.{Queued, Queue, first_of_kind, same_kind}
-use Rattle.pool_slots.specs.HeldSlots.{held_kind}
+use Rattle.pool_slots.specs.SlotQueues.{Queued, Queue}
 use Rattle.pool_slots.proofs.SlotReturns.{kind_right, kind_over}
 use Rattle.pool_slots.proofs.decommit_queue.DecommitQueue.has_no_heap.Goals as goal
 

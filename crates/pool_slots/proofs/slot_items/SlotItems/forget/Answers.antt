@@ -1,12 +1,12 @@
-use Rattle.std.proofs.Common.{ℕ, ◌<◌, List, length, ◌∙◌, arith}
-use Rattle.pool_slots.specs.SlotQueues.{Queued}
-use Rattle.pool_slots.proofs.SlotFaults.{forgotten_more}
+use Rattle.pool_hall.specs.declared.unit_name.SlotKind.TheVariants as of_slot
+use Rattle.pool_slots.specs.SlotQueues.{QueuedList}
+use Rattle.pool_slots.proofs.KindChanges.{still_listed, forgotten_listed}
 use Rattle.pool_slots.proofs.slot_items.SlotItems.forget.Goals as goal
 
-pub loop-at-preserved : goal.loop-at-preserved
-loop-at-preserved g c =
-    let xs : List Queued = c.args.self.now.items in
-    let i : ℕ = c.loop-at.at in
-    let inside : i < length xs = omega (arith, c.loop-at.invariant.all, c.loop-at-test.true) in
-    let more = forgotten_more xs c.loop-at.self.items c.loop-at.self.room i c.forget_at.new.self inside c.loop-at.invariant.items c.forget_at.ensures in
-    record { items = more.0; room = more.1 ∙ c.loop-at.invariant.room; all = c.loop-at.invariant.all }
+pub invariant_of-self : goal.invariant_of-self
+invariant_of-self g c =
+    let m : QueuedList = c.self.inside.memories in
+    let t : QueuedList = c.self.inside.tables in
+    let s : QueuedList = c.self.inside.stacks in
+    still_listed m t s c.forget.new.self c.forget-2.new.self c.forget-3.new.self c.self.invariant
+    (forgotten_listed of_slot.Memory m c.forget.new.self c.forget.ensures) (forgotten_listed of_slot.Table t c.forget-2.new.self c.forget-2.ensures) (forgotten_listed of_slot.Stack s c.forget-3.new.self c.forget-3.ensures)

@@ -1,10 +1,37 @@
-use Rattle.std.proofs.Common.{ℕ, ◌<◌, List, Option, length, sym, ap, is_some}
-use Rattle.pool_slots.specs.SlotQueues.{Queued}
-use Rattle.pool_slots.proofs.SlotPops.{kind_there, none_of_kind}
+use Rattle.std.proofs.Common.{◌≡◌, ◌++◌, Bool, false, not, Option, sym, ap, ◌∙◌, subst, is_some}
+use Rattle.pool_slots.proofs.Imports.{SlotKind}
+use Rattle.pool_slots.specs.SlotQueues.{Queued, QueuedList, first_of_kind}
+use Rattle.pool_slots.proofs.KindLists.{kinds_of, memory_held, table_held, stack_held, no_heap_popped}
 use Rattle.pool_slots.proofs.slot_items.SlotItems.holds_kind.Goals as goal
 
-pub returns-in-Some : goal.returns-in-Some
-returns-in-Some g c = sym (kind_there c.args.kind c.args.self.now.items _ (rw c.len-len.ensures.value at c.in-Some.ensures.0) c.in-Some.ensures.1 c.in-Some.ensures.2)
+pub returns-in-Memory : goal.returns-in-Memory
+returns-in-Memory g c =
+    let m : QueuedList = c.self.inside.memories in
+    let t : QueuedList = c.self.inside.tables in
+    let s : QueuedList = c.self.inside.stacks in
+    let H : SlotKind → Type 0 = λ k. not c.is_empty.result ≡ is_some (first_of_kind k (m.items ++ (t.items ++ s.items))) in
+    rw (← c.self.view_is) (subst H (sym c.in-Memory.is) (ap (λ (b : Bool). not b) c.is_empty.ensures ∙ sym (memory_held m.items t.items s.items (kinds_of m t s c.self.invariant))))
 
-pub returns-in-None : goal.returns-in-None
-returns-in-None g c = sym (ap (λ (o : Option Queued). is_some o) (none_of_kind c.args.kind c.args.self.now.items (λ k below. c.in-None.ensures k (rw c.len-len.ensures.value below))).0)
+pub returns-in-Table : goal.returns-in-Table
+returns-in-Table g c =
+    let m : QueuedList = c.self.inside.memories in
+    let t : QueuedList = c.self.inside.tables in
+    let s : QueuedList = c.self.inside.stacks in
+    let H : SlotKind → Type 0 = λ k. not c.is_empty-in-Table.result ≡ is_some (first_of_kind k (m.items ++ (t.items ++ s.items))) in
+    rw (← c.self.view_is) (subst H (sym c.in-Table.is) (ap (λ (b : Bool). not b) c.is_empty-in-Table.ensures ∙ sym (table_held m.items t.items s.items (kinds_of m t s c.self.invariant))))
+
+pub returns-in-Stack : goal.returns-in-Stack
+returns-in-Stack g c =
+    let m : QueuedList = c.self.inside.memories in
+    let t : QueuedList = c.self.inside.tables in
+    let s : QueuedList = c.self.inside.stacks in
+    let H : SlotKind → Type 0 = λ k. not c.is_empty-in-Stack.result ≡ is_some (first_of_kind k (m.items ++ (t.items ++ s.items))) in
+    rw (← c.self.view_is) (subst H (sym c.in-Stack.is) (ap (λ (b : Bool). not b) c.is_empty-in-Stack.ensures ∙ sym (stack_held m.items t.items s.items (kinds_of m t s c.self.invariant))))
+
+pub returns-in-Heap : goal.returns-in-Heap
+returns-in-Heap g c =
+    let m : QueuedList = c.self.inside.memories in
+    let t : QueuedList = c.self.inside.tables in
+    let s : QueuedList = c.self.inside.stacks in
+    let H : SlotKind → Type 0 = λ k. false ≡ is_some (first_of_kind k (m.items ++ (t.items ++ s.items))) in
+    rw (← c.self.view_is) (subst H (sym c.in-Heap.is) (ap (λ (o : Option Queued). is_some o) (sym (no_heap_popped m.items t.items s.items (kinds_of m t s c.self.invariant)).0)))

@@ -1,21 +1,34 @@
-use Rattle.std.proofs.Common.{◌≡◌, ℕ, ◌+◌, ◌<◌, ◌++◌, ◌∷◌, [], Bool, false, List, length, get_or, set, sym, ap, ◌∙◌, subst, arith, IfSome, is_ok}
-use Rattle.pool_slots.proofs.Imports.{get_or_read, length-append, Follows}
-use Rattle.pool_slots.specs.SlotQueues.{Queued, QueuedList, AreNoted, CanBeZeroed, forgotten, decommitted_at, is_unzeroed}
-use Rattle.pool_slots.specs.SlotOrders.{decommits}
-use Rattle.pool_slots.proofs.Unzeroed.{noted_more, noted_joined, noted_kept, noted_set, noted_less, zeroed_is, none_zeroed, set_long, set_there, decommit_same}
+use Rattle.std.proofs.Common.{◌≡◌, ◌<◌, ◌++◌, length, sym, ap, ◌∙◌}
+use Rattle.pool_hall.specs.declared.unit_name.SlotKind.TheVariants as of_slot
+use Rattle.pool_slots.specs.SlotNames.{slot_kind}
+use Rattle.pool_slots.specs.SlotQueues.{QueuedList}
+use Rattle.pool_slots.specs.declared.queued_range.QueueKind.{QueueKind}
+use Rattle.pool_slots.proofs.KindChanges.{memory_pushed, table_pushed, stack_pushed}
 use Rattle.pool_slots.proofs.slot_items.SlotItems.push.Goals as goal
 
-pub invariant_of-self : goal.invariant_of-self
-invariant_of-self g c =
-    let ms : List Queued = c.self.inside.list.items in
-    let m : Queued = c.args.item in
-    let list : ms ≡ c.args.self.now.items = ap (λ (l : QueuedList). l.items) c.self.view_is in
-    let room : c.self.inside.room ≡ c.args.self.now.room = ap (λ (l : QueuedList). l.room) c.self.view_is in
-    let more : c.push_back_reserved.new.self.items ≡ ms ++ m ∷ [] = c.push_back_reserved.ensures.items in
-    let long : length c.push_back_reserved.new.self.items ≡ length ms + 1 = ap (λ (l : List Queued). length l) more ∙ length-append ms (m ∷ []) in
-    let had : length ms ≡ length c.args.self.now.items = ap (λ (l : List Queued). length l) list in (
-      omega (arith, long, had, room, c.requires),
-      omega (arith, c.self.invariant.1, c.push_back_reserved.ensures.capacity),
-      subst (λ (l : List Queued). AreNoted c.either-self-inside.result l) (sym more)
-          (noted_more ms m c.may_be_unzeroed.result c.is_unzeroed.result c.either-self-inside.result (subst (λ (l : List Queued). AreNoted c.may_be_unzeroed.result l) (sym list) c.may_be_unzeroed.ensures) c.is_unzeroed.ensures c.either-self-inside.ensures),
-    )
+pub returns-in-Memory : goal.returns-in-Memory
+returns-in-Memory g c =
+    let m : QueuedList = c.self.inside.memories in
+    let t : QueuedList = c.self.inside.tables in
+    let s : QueuedList = c.self.inside.stacks in
+    let kind : c.args.item.name.kind ≡ of_slot.Memory = sym c.queue_kind.ensures ∙ ap (λ (k : QueueKind). slot_kind k) c.in-Memory.is in
+    let room : length (m.items ++ (t.items ++ s.items)) < m.room = rw (← c.self.view_is) at c.requires in
+    rw (← c.self.view_is) (memory_pushed m t s c.args.item c.push.new.self c.self.invariant kind room c.push.ensures).1
+
+pub returns-in-Table : goal.returns-in-Table
+returns-in-Table g c =
+    let m : QueuedList = c.self.inside.memories in
+    let t : QueuedList = c.self.inside.tables in
+    let s : QueuedList = c.self.inside.stacks in
+    let kind : c.args.item.name.kind ≡ of_slot.Table = sym c.queue_kind.ensures ∙ ap (λ (k : QueueKind). slot_kind k) c.in-Table.is in
+    let room : length (m.items ++ (t.items ++ s.items)) < m.room = rw (← c.self.view_is) at c.requires in
+    rw (← c.self.view_is) (table_pushed m t s c.args.item c.push-in-Table.new.self c.self.invariant kind room c.push-in-Table.ensures).1
+
+pub returns-in-Stack : goal.returns-in-Stack
+returns-in-Stack g c =
+    let m : QueuedList = c.self.inside.memories in
+    let t : QueuedList = c.self.inside.tables in
+    let s : QueuedList = c.self.inside.stacks in
+    let kind : c.args.item.name.kind ≡ of_slot.Stack = sym c.queue_kind.ensures ∙ ap (λ (k : QueueKind). slot_kind k) c.in-Stack.is in
+    let room : length (m.items ++ (t.items ++ s.items)) < m.room = rw (← c.self.view_is) at c.requires in
+    rw (← c.self.view_is) (stack_pushed m t s c.args.item c.push-in-Stack.new.self c.self.invariant kind room c.push-in-Stack.ensures).1

@@ -1,67 +1,70 @@
-use Rattle.std.proofs.Common.{◌≡◌, ℕ, ◌<◌, List, length, sym, ap, subst, IfSome, IsSome, OnSome, remove, slice_index_or, arith, ◌∙◌}
-use Rattle.pool_slots.specs.SlotQueues.{Queued, QueuedList, AreNoted, others_of_kind}
-use Rattle.pool_slots.proofs.SlotPops.{fewer_others, taken_first, none_of_kind}
-use Rattle.pool_slots.proofs.Unzeroed.{noted_less}
+use Rattle.std.proofs.Common.{◌≡◌, ◌++◌, List, Option, None, sym, ap, subst}
+use Rattle.pool_slots.proofs.Imports.{SlotKind}
+use Rattle.pool_slots.specs.SlotQueues.{Queued, QueuedList, first_of_kind, others_of_kind}
+use Rattle.pool_slots.proofs.KindLists.{kinds_of, no_heap_popped}
+use Rattle.pool_slots.proofs.KindChanges.{all_slots, popped_memory, popped_table, popped_stack}
 use Rattle.pool_slots.proofs.slot_items.SlotItems.take_first.Goals as goal
 
-pub returns-in-Some-clause-value : goal.returns-in-Some-clause-value
-returns-in-Some-clause-value g c =
-    let ms : List Queued = c.args.self.now.items in
-    let place : ℕ = c.in-Some.at in
-    let list : c.self.inside.list.items ≡ ms = ap (λ (l : QueuedList). l.items) c.self.view_is in
-    let below : place < c.len-len.result = c.in-Some.ensures.0 in
-    let inside : place < length ms = rw c.len-len.ensures.value at below in
-    let V : List Queued → Type 0 = λ l. IfSome c.remove.result (λ y. y ≡ slice_index_or l place y) in
-    let I : List Queued → Type 0 = λ l. OnSome c.remove.result (c.remove.new.self.items ≡ remove l place) in
-    let L : List Queued → Type 0 = λ l. place < length l in
-    let N : ℕ → Type 0 = λ n. place < n in
-    let some : IsSome c.remove.result = c.remove.ensures.variant.1 (subst N (sym c.self.inside.list.ok.0) (subst L (sym list) inside)) in
-    (taken_first c.args.kind ms c.remove.new.self.items place c.remove.result inside c.in-Some.ensures.1 c.in-Some.ensures.2 (subst V list c.remove.ensures.value) (subst I list c.remove.ensures.items) some).0
+pub returns-in-Memory-clause-value : goal.returns-in-Memory-clause-value
+returns-in-Memory-clause-value g c =
+    let m : QueuedList = c.self.inside.memories in
+    let t : QueuedList = c.self.inside.tables in
+    let s : QueuedList = c.self.inside.stacks in
+    let F : SlotKind → Type 0 = λ k. c.pop_front.result ≡ first_of_kind k (m.items ++ (t.items ++ s.items)) in
+    rw (← c.self.view_is) (subst F (sym c.in-Memory.is) (popped_memory c.pop_front.result m t s c.pop_front.new.self c.self.invariant c.pop_front.ensures.items c.pop_front.ensures.variant c.pop_front.ensures.room).0)
 
-pub returns-in-Some-clause-others : goal.returns-in-Some-clause-others
-returns-in-Some-clause-others g c =
-    let ms : List Queued = c.args.self.now.items in
-    let place : ℕ = c.in-Some.at in
-    let list : c.self.inside.list.items ≡ ms = ap (λ (l : QueuedList). l.items) c.self.view_is in
-    let room : c.self.inside.room ≡ c.args.self.now.room = ap (λ (l : QueuedList). l.room) c.self.view_is in
-    let below : place < c.len-len.result = c.in-Some.ensures.0 in
-    let inside : place < length ms = rw c.len-len.ensures.value at below in
-    let V : List Queued → Type 0 = λ l. IfSome c.remove.result (λ y. y ≡ slice_index_or l place y) in
-    let I : List Queued → Type 0 = λ l. OnSome c.remove.result (c.remove.new.self.items ≡ remove l place) in
-    let L : List Queued → Type 0 = λ l. place < length l in
-    let N : ℕ → Type 0 = λ n. place < n in
-    let some : IsSome c.remove.result = c.remove.ensures.variant.1 (subst N (sym c.self.inside.list.ok.0) (subst L (sym list) inside)) in
-    let taken = taken_first c.args.kind ms c.remove.new.self.items place c.remove.result inside c.in-Some.ensures.1 c.in-Some.ensures.2 (subst V list c.remove.ensures.value) (subst I list c.remove.ensures.items) some in
-    λ k. record { items = taken.1 k; room = room k }
+pub returns-in-Memory-clause-others : goal.returns-in-Memory-clause-others
+returns-in-Memory-clause-others g c =
+    let m : QueuedList = c.self.inside.memories in
+    let t : QueuedList = c.self.inside.tables in
+    let s : QueuedList = c.self.inside.stacks in
+    let F : SlotKind → Type 0 = λ k. all_slots c.pop_front.new.self t s ≡ record { items = others_of_kind k (m.items ++ (t.items ++ s.items)); room = m.room } in
+    rw (← c.self.view_is) (subst F (sym c.in-Memory.is) (popped_memory c.pop_front.result m t s c.pop_front.new.self c.self.invariant c.pop_front.ensures.items c.pop_front.ensures.variant c.pop_front.ensures.room).1)
 
-pub returns-in-None-clause-value : goal.returns-in-None-clause-value
-returns-in-None-clause-value g c =
-    let ms : List Queued = c.args.self.now.items in
-    sym (none_of_kind c.args.kind ms (λ k below. c.in-None.ensures k (rw c.len-len.ensures.value below))).0
+pub returns-in-Table-clause-value : goal.returns-in-Table-clause-value
+returns-in-Table-clause-value g c =
+    let m : QueuedList = c.self.inside.memories in
+    let t : QueuedList = c.self.inside.tables in
+    let s : QueuedList = c.self.inside.stacks in
+    let F : SlotKind → Type 0 = λ k. c.pop_front-in-Table.result ≡ first_of_kind k (m.items ++ (t.items ++ s.items)) in
+    rw (← c.self.view_is) (subst F (sym c.in-Table.is) (popped_table c.pop_front-in-Table.result m t s c.pop_front-in-Table.new.self c.self.invariant c.pop_front-in-Table.ensures.items c.pop_front-in-Table.ensures.variant).0)
 
-pub returns-in-None-clause-others : goal.returns-in-None-clause-others
-returns-in-None-clause-others g c =
-    let ms : List Queued = c.args.self.now.items in
-    let none = none_of_kind c.args.kind ms (λ k below. c.in-None.ensures k (rw c.len-len.ensures.value below)) in
-    λ k. record { items = sym none.1 k; room = c.args.self.now.room }
+pub returns-in-Table-clause-others : goal.returns-in-Table-clause-others
+returns-in-Table-clause-others g c =
+    let m : QueuedList = c.self.inside.memories in
+    let t : QueuedList = c.self.inside.tables in
+    let s : QueuedList = c.self.inside.stacks in
+    let F : SlotKind → Type 0 = λ k. all_slots m c.pop_front-in-Table.new.self s ≡ record { items = others_of_kind k (m.items ++ (t.items ++ s.items)); room = m.room } in
+    rw (← c.self.view_is) (subst F (sym c.in-Table.is) (popped_table c.pop_front-in-Table.result m t s c.pop_front-in-Table.new.self c.self.invariant c.pop_front-in-Table.ensures.items c.pop_front-in-Table.ensures.variant).1)
 
-pub invariant_of-self : goal.invariant_of-self
-invariant_of-self g c =
-    let ms : List Queued = c.args.self.now.items in
-    let place : ℕ = c.in-Some.at in
-    let list : c.self.inside.list.items ≡ ms = ap (λ (l : QueuedList). l.items) c.self.view_is in
-    let room : c.self.inside.room ≡ c.args.self.now.room = ap (λ (l : QueuedList). l.room) c.self.view_is in
-    let below : place < c.len-len.result = c.in-Some.ensures.0 in
-    let inside : place < length ms = rw c.len-len.ensures.value at below in
-    let V : List Queued → Type 0 = λ l. IfSome c.remove.result (λ y. y ≡ slice_index_or l place y) in
-    let I : List Queued → Type 0 = λ l. OnSome c.remove.result (c.remove.new.self.items ≡ remove l place) in
-    let L : List Queued → Type 0 = λ l. place < length l in
-    let N : ℕ → Type 0 = λ n. place < n in
-    let some : IsSome c.remove.result = c.remove.ensures.variant.1 (subst N (sym c.self.inside.list.ok.0) (subst L (sym list) inside)) in
-    let taken = taken_first c.args.kind ms c.remove.new.self.items place c.remove.result inside c.in-Some.ensures.1 c.in-Some.ensures.2 (subst V list c.remove.ensures.value) (subst I list c.remove.ensures.items) some in
-    let long : length c.self.inside.list.items ≡ length ms = ap (λ (l : List Queued). length l) list in
-    let left : length c.remove.new.self.items ≡ length (others_of_kind c.args.kind ms) = ap (λ (l : List Queued). length l) taken.1 in (
-      omega (arith, left, fewer_others c.args.kind ms, long, c.self.invariant.0),
-      omega (arith, c.self.invariant.1, c.remove.ensures.capacity),
-      subst (λ (l : List Queued). AreNoted c.self.inside.noted l) (sym taken.1) (noted_less c.args.kind ms c.self.inside.noted (subst (λ (l : List Queued). AreNoted c.self.inside.noted l) list c.self.invariant.2)),
-    )
+pub returns-in-Stack-clause-value : goal.returns-in-Stack-clause-value
+returns-in-Stack-clause-value g c =
+    let m : QueuedList = c.self.inside.memories in
+    let t : QueuedList = c.self.inside.tables in
+    let s : QueuedList = c.self.inside.stacks in
+    let F : SlotKind → Type 0 = λ k. c.pop_front-in-Stack.result ≡ first_of_kind k (m.items ++ (t.items ++ s.items)) in
+    rw (← c.self.view_is) (subst F (sym c.in-Stack.is) (popped_stack c.pop_front-in-Stack.result m t s c.pop_front-in-Stack.new.self c.self.invariant c.pop_front-in-Stack.ensures.items c.pop_front-in-Stack.ensures.variant).0)
+
+pub returns-in-Stack-clause-others : goal.returns-in-Stack-clause-others
+returns-in-Stack-clause-others g c =
+    let m : QueuedList = c.self.inside.memories in
+    let t : QueuedList = c.self.inside.tables in
+    let s : QueuedList = c.self.inside.stacks in
+    let F : SlotKind → Type 0 = λ k. all_slots m t c.pop_front-in-Stack.new.self ≡ record { items = others_of_kind k (m.items ++ (t.items ++ s.items)); room = m.room } in
+    rw (← c.self.view_is) (subst F (sym c.in-Stack.is) (popped_stack c.pop_front-in-Stack.result m t s c.pop_front-in-Stack.new.self c.self.invariant c.pop_front-in-Stack.ensures.items c.pop_front-in-Stack.ensures.variant).1)
+
+pub returns-in-Heap-clause-value : goal.returns-in-Heap-clause-value
+returns-in-Heap-clause-value g c =
+    let m : QueuedList = c.self.inside.memories in
+    let t : QueuedList = c.self.inside.tables in
+    let s : QueuedList = c.self.inside.stacks in
+    let F : SlotKind → Type 0 = λ k. ◌≡◌ {A = Option Queued} None (first_of_kind k (m.items ++ (t.items ++ s.items))) in
+    rw (← c.self.view_is) (subst F (sym c.in-Heap.is) (sym (no_heap_popped m.items t.items s.items (kinds_of m t s c.self.invariant)).0))
+
+pub returns-in-Heap-clause-others : goal.returns-in-Heap-clause-others
+returns-in-Heap-clause-others g c =
+    let m : QueuedList = c.self.inside.memories in
+    let t : QueuedList = c.self.inside.tables in
+    let s : QueuedList = c.self.inside.stacks in
+    let F : SlotKind → Type 0 = λ k. all_slots m t s ≡ record { items = others_of_kind k (m.items ++ (t.items ++ s.items)); room = m.room } in
+    rw (← c.self.view_is) (subst F (sym c.in-Heap.is) (ap (λ (l : List Queued). record { items = l; room = m.room }) (sym (no_heap_popped m.items t.items s.items (kinds_of m t s c.self.invariant)).1)))

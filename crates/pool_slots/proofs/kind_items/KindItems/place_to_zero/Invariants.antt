@@ -1,7 +1,7 @@
 use Rattle.std.proofs.Common.{◌≡◌, ℕ, ◌<◌, false}
 use Rattle.std.specs.List.{HoldsAt}
 use Rattle.pool_slots.specs.SlotQueues.{is_to_zero}
-use Rattle.pool_slots.proofs.slot_items.SlotItems.place_to_zero.Given as goal
+use Rattle.pool_slots.proofs.kind_items.KindItems.place_to_zero.Given as goal
 
 -- none of the slots so far is to be zeroed
 abbrev pub invariant-loop-at : goal.invariant-loop-at

@@ -1,7 +1,7 @@
 use Rattle.std.proofs.Common.{◌<◌, List, length, sym}
 use Rattle.pool_slots.specs.SlotQueues.{Queued}
 use Rattle.pool_slots.proofs.SlotPops.{zeroed_first, none_to_zero}
-use Rattle.pool_slots.proofs.slot_items.SlotItems.look_and_zero.Goals as goal
+use Rattle.pool_slots.proofs.kind_items.KindItems.look_and_zero.Goals as goal
 
 pub returns-in-Some-clause-value : goal.returns-in-Some-clause-value
 returns-in-Some-clause-value g c =

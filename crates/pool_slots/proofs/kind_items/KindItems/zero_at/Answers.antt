@@ -1,9 +1,7 @@
-use Rattle.std.proofs.Common.{◌≡◌, ℕ, ◌<◌, ◌++◌, ◌∷◌, [], Bool, false, List, length, get_or, set, sym, ap, ◌∙◌, subst, arith, IfSome, is_ok}
-use Rattle.pool_slots.proofs.Imports.{get_or_read, length-append, Follows}
-use Rattle.pool_slots.specs.SlotQueues.{Queued, QueuedList, AreNoted, CanBeZeroed, forgotten, decommitted_at, is_unzeroed}
-use Rattle.pool_slots.specs.SlotOrders.{decommits}
-use Rattle.pool_slots.proofs.Unzeroed.{noted_more, noted_joined, noted_kept, noted_set, noted_less, zeroed_is, none_zeroed, set_long, set_there, decommit_same}
-use Rattle.pool_slots.proofs.slot_items.SlotItems.zero_at.Goals as goal
+use Rattle.std.proofs.Common.{◌≡◌, ◌<◌, List, length, get_or, sym, ap, ◌∙◌, subst, arith, IfSome}
+use Rattle.pool_slots.specs.SlotQueues.{Queued, QueuedList, CanBeZeroed, is_unzeroed}
+use Rattle.pool_slots.proofs.Unzeroed.{noted_kept, zeroed_is, set_long}
+use Rattle.pool_slots.proofs.kind_items.KindItems.zero_at.Goals as goal
 
 pub invariant_of-self : goal.invariant_of-self
 invariant_of-self g c =

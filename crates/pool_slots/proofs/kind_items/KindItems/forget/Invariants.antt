@@ -1,6 +1,6 @@
 use Rattle.std.proofs.Common.{◌≡◌, ◌++◌, length, take, drop, map}
 use Rattle.pool_slots.specs.SlotQueues.{forgotten}
-use Rattle.pool_slots.proofs.slot_items.SlotItems.forget.Given as goal
+use Rattle.pool_slots.proofs.kind_items.KindItems.forget.Given as goal
 
 -- the first ones are forgotten
 abbrev pub invariant-loop-at : goal.invariant-loop-at
