@@ -52,6 +52,10 @@ module _ {P H : Type 0} where
   pub flushes_to : (step : FlushStep) (c : PoolCore P H) (f : Frame P H) (a : After P H) → flush_step f.local f.freed.items ≡ step → FlushesTo step c f a → FlushesTo (flush_step f.local f.freed.items) c f a
   flushes_to step c f a is so = let F : FlushStep → Type 0 = λ x. FlushesTo x c f a in subst F (sym is) so
 
+  -- the same of a frame that is equal
+  pub flushes_at : (c : PoolCore P H) (f e : Frame P H) (a : After P H) → f ≡ e → FlushesTo (flush_step f.local f.freed.items) c f a → FlushesTo (flush_step e.local e.freed.items) c e a
+  flushes_at c f e a same so = let F : Frame P H → Type 0 = λ x. FlushesTo (flush_step x.local x.freed.items) c x a in subst F same so
+
   pub settles_to : (c : PoolCore P H) (f : Frame P H) (a : After P H) → length f.local.ranges ≤ 0 → SettlesTo (settled_step (kind_settled f.local.slots f.freed.items) f.local.slots) c f a → FlushesTo (flush_step f.local f.freed.items) c f a
   settles_to c f a none so =
       let kind : SlotKind = kind_settled f.local.slots f.freed.items in

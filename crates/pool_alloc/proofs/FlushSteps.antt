@@ -1,6 +1,6 @@
 -- What a flush does, and what each part of it leaves.
 use Rattle.std.proofs.Common.{◌≡◌, ◌≢◌, ℕ, zero, suc, ◌+◌, ◌*◌, ◌<◌, ◌≤◌, Bool, true, false, List, [], ◌∷◌, ◌++◌, length, refl, sym, ap, ◌∙◌, subst, inl, inr, arith, ◌⊎◌, Option, None, Some, map, true≢false, All, ◌==◌, nat_lt, filter, min, sum_by, if◌then◌else◌, is_some, ◌&&◌, ◌||◌, not}
-use Rattle.pool_alloc.proofs.Imports.{zeroed_long, one_at_most, memory_kind, table_kind, stack_kind, SlotKind, SlotName, shard_below, AllByRecursion, AllZip, list_any, Home, Allocator, allocators_of, have_number, has_number, home_among, home_in, home_of, eq-eqb, ne_eqb, eqb-true, lt-ltb, cases_eq, cases_lt, cases_Bool, and_parts, length_all_zip, All-weaker, All-head, All-tail, All-append, sum_by-cons, sum_by_push, MakerTold, one_if, Queue, Queued, after_append, after_run, first_slot, IsLeftBy, first_of_kind, first_zeroed, is_to_zero, others_of_kind, same_kind, zeroed_by, change_at, is_of, front, same_slot, zeroed, QueuedRange, Plan, decommitted_all}
+use Rattle.pool_alloc.proofs.Imports.{zeroed_long, all_by_kind, one_at_most, memory_kind, table_kind, stack_kind, SlotKind, SlotName, shard_below, AllByRecursion, AllZip, list_any, Home, Allocator, allocators_of, have_number, has_number, home_among, home_in, home_of, eq-eqb, ne_eqb, eqb-true, lt-ltb, cases_eq, cases_lt, cases_Bool, and_parts, length_all_zip, All-weaker, All-head, All-tail, All-append, sum_by-cons, sum_by_push, MakerTold, one_if, Queue, Queued, after_append, after_run, first_slot, IsLeftBy, first_of_kind, first_zeroed, is_to_zero, others_of_kind, same_kind, zeroed_by, change_at, is_of, front, same_slot, zeroed, QueuedRange, Plan, decommitted_all}
 use Rattle.pool_alloc.proofs.PoolParts.{sound_queue}
 use Rattle.pool_alloc.proofs.Held.{right_is_out}
 use Rattle.pool_alloc.proofs.FreedSlots.{first_of}
@@ -369,5 +369,5 @@ module _ {P H : Type 0} where
 
   pub few_in_both : (maker : MakerTold) (i : ℕ) (c : PoolCore P H) (f : Frame P H) → CanStep maker c f → IsQueuePlace c.plan i → length (after_append (queue_at i c) f.local).slots ≤ (sizes_of c.settings c.plan).slots
   few_in_both maker i c f can place =
-      few_of maker c (after_append (queue_at i c) f.local).slots can.core (All-append (IsQueuedOf maker c.settings) (queue_at i c).slots f.local.slots (sound_queue maker i c can.core place).regions can.frame.queue.regions)
+      few_of maker c (after_append (queue_at i c) f.local).slots can.core (all_by_kind (IsQueuedOf maker c.settings) ((queue_at i c).slots ++ f.local.slots) (All-append (IsQueuedOf maker c.settings) (queue_at i c).slots f.local.slots (sound_queue maker i c can.core place).regions can.frame.queue.regions))
       (λ name. omega (arith, queued_joined (right_to name) (queue_at i c).slots f.local.slots, can.fits.once (right_to name), queue_kept maker (right_to name) i c can.core place))

@@ -68,12 +68,13 @@ pub use Rattle.pool_pages.specs.MakerTold.{MakerTold, Planned, fresh, made_regio
 pub use Rattle.pool_pages.specs.Told.{PageCall, TellsShaped, Told, decommitting, erasing, hiding, recolouring, remapping, succeeded}
 pub use Rattle.pool_pages.specs.declared.pages.PageCalls.{PageCalls}
 pub use Rattle.pool_slots.proofs.AwayOnce.{away_once, cell_at, home_there, list_at, shard_of_kind}
+pub use Rattle.pool_slots.proofs.ByKinds.{all_by_kind, long_by_kind, one_by_kind}
 pub use Rattle.pool_slots.proofs.Fresh.{same_calls}
 pub use Rattle.pool_slots.proofs.FreshColours.{regions_fresh}
 pub use Rattle.pool_slots.proofs.HeapUnits.{none_at_first, returns_count as heap_returns_count, takes_count as heap_takes_count, units_of_out_slots}
 pub use Rattle.pool_slots.proofs.ListUnits.{away_follows, away_parts, kept_follows, kept_parts, read_at}
 pub use Rattle.pool_slots.proofs.Lists.{each_both, each_weaker}
-pub use Rattle.pool_slots.proofs.PartUnits.{puts_count, takes_count, units_append}
+pub use Rattle.pool_slots.proofs.PartUnits.{puts_count, takes_count, units_append, units_by_kind}
 pub use Rattle.pool_slots.proofs.PartsMade.{made_shard_of}
 pub use Rattle.pool_slots.proofs.PlainSlots.{bottom_plain, bottom_reset_done, bottom_unused, clean_slots_read_zeros, empty_held, top_done, top_plain}
 pub use Rattle.pool_slots.proofs.PlanSizes.{shard_below}
@@ -103,7 +104,7 @@ pub use Rattle.pool_slots.specs.PlansMade.{places_planned}
 pub use Rattle.pool_slots.specs.RegionCells.{CellState, IsAwaited, IsRegionOf, away_by, cell_away, cell_emptied, cell_filled, cell_numbers, region_of as unit_region, right_to as unit_right}
 pub use Rattle.pool_slots.specs.Slabs.{has_room, settings_slab, stripe_count}
 pub use Rattle.pool_slots.specs.SlotNames.{of_kind, slot_kind}
-pub use Rattle.pool_slots.specs.SlotQueues.{AreApart, AreDistinct, CanBeZeroed, HasOwners, IsFaulted, IsGivenBack, IsLeftBy, IsQueue, IsReset, IsSettled, IsSlotLeft, IsSpareOf, LeavesClean, Queue, Queued, after_append, after_run, after_run_of, after_take, behind, change_at, drained, empty_queue, first_of_kind, first_slot, first_zeroed, forgotten_slot, front, holds, is_of, is_to_zero, others_of_kind, owner, plain_slot, same_kind, same_slot, taken_into, with_ranges, with_slot, zeroed, zeroed_by, zeroed_slot}
+pub use Rattle.pool_slots.specs.SlotQueues.{AreApart, AreDistinct, CanBeZeroed, HasOwners, IsFaulted, IsGivenBack, IsLeftBy, IsQueue, IsReset, IsSettled, IsSlotLeft, IsSpareOf, LeavesClean, Queue, Queued, after_append, after_run, after_run_of, after_take, behind, by_kind, change_at, drained, empty_queue, first_of_kind, first_slot, first_zeroed, forgotten_slot, front, holds, is_of, is_to_zero, others_of_kind, owner, plain_slot, same_kind, same_slot, taken_into, with_ranges, with_slot, zeroed, zeroed_by, zeroed_slot}
 pub use Rattle.pool_slots.specs.SlotSteps.{after_first_of}
 pub use Rattle.pool_slots.specs.StripedPlans.{IsStripedPlanOf, divided, stripe_allocator}
 pub use Rattle.pool_slots.specs.TableSizes.{data_size}

@@ -1,6 +1,6 @@
 -- Local and shared queues stay what they are as ranges and slots come and go.
 use Rattle.std.proofs.Common.{◌≡◌, ℕ, ◌+◌, ◌^◌, ◌*◌, ◌<◌, ◌≤◌, Bool, true, false, List, [], ◌∷◌, ◌++◌, length, refl, sym, ap, ◌∙◌, subst, arith, All, None, Option, Some, map, IfSome, inl, inr}
-use Rattle.pool_alloc.proofs.Imports.{IsGivenBack, AllByRecursion, length-append, length-map, or_left, cases_Bool, All-nil, All-cons, All-append, All-same, length_all_zip, All-head, All-tail, MakerTold, DecommitBehavior, Zero, RestoreOriginalMapping, ByteRange, Slot, IsSlot, IsClean, IsPart, size_of, kept_bytes, left_ranges, reset_slot, decommitted_all, identity, kept_at_most, SlotName, QueuedRange, Queue, Queued, behind, is_of, empty_queue, AreDistinct, AreApart, LeavesClean, IsReset, IsLeftBy, holds, owner, with_slot, after_take, taken_into, drained, after_append, first_slot, after_run, CanBeZeroed, first_zeroed, is_to_zero, others_of_kind, same_kind, zeroed, zeroed_by, zeroed_slot, leaves_clean, queue_joined, owned_joined, slot_self, faulted_owned, SlotKind, stack_kind, QueueKind, slot_kind, can_zero, queue_popped, queue_zeroed, told_same}
+use Rattle.pool_alloc.proofs.Imports.{IsGivenBack, AllByRecursion, by_kind, all_by_kind, long_by_kind, one_by_kind, length-append, length-map, or_left, cases_Bool, All-nil, All-cons, All-append, All-same, length_all_zip, All-head, All-tail, MakerTold, DecommitBehavior, Zero, RestoreOriginalMapping, ByteRange, Slot, IsSlot, IsClean, IsPart, size_of, kept_bytes, left_ranges, reset_slot, decommitted_all, identity, kept_at_most, SlotName, QueuedRange, Queue, Queued, behind, is_of, empty_queue, AreDistinct, AreApart, LeavesClean, IsReset, IsLeftBy, holds, owner, with_slot, after_take, taken_into, drained, after_append, first_slot, after_run, CanBeZeroed, first_zeroed, is_to_zero, others_of_kind, same_kind, zeroed, zeroed_by, zeroed_slot, leaves_clean, queue_joined, owned_joined, slot_self, faulted_owned, SlotKind, stack_kind, QueueKind, slot_kind, can_zero, queue_popped, queue_zeroed, told_same}
 use Rattle.pool_alloc.specs.Leases.{memory_slot}
 use Rattle.pool_slots.specs.declared.queued_range.QueueKind.TheVariants.{Memory}
 use Rattle.pool_alloc.specs.Answers.{Decommits, Resets}
@@ -71,7 +71,7 @@ joined_local maker s q more shared local apart one short =
       owners = owned_joined q more shared.owners local.owners;
       range_room = shared.range_room;
       slot_room = shared.slot_room;
-      regions = All-append (IsQueuedOf maker s) q.slots more.slots shared.regions local.regions;
+      regions = all_by_kind (IsQueuedOf maker s) (q.slots ++ more.slots) (All-append (IsQueuedOf maker s) q.slots more.slots shared.regions local.regions);
       ranged = All-append (MayBeRanged s) q.ranges more.ranges shared.ranged local.ranged;
       queue = queue_joined q more shared.queue local.queue (omega (arith, shared.range_room, shared.short)) (omega (arith, shared.slot_room, shared.short, shared.slots)) shared.owners local.owners apart;
       grouped = grouped_joined q more shared.grouped local.grouped;
@@ -82,11 +82,11 @@ joined_shared maker s q more shared local known one some short =
     record {
       owners = local.owners;
       short = omega (arith, short);
-      slots = rw (length-append q.slots more.slots, length-append q.ranges more.ranges) (omega (arith, shared.slots));
+      slots = rw (long_by_kind (q.slots ++ more.slots), length-append q.slots more.slots, length-append q.ranges more.ranges) (omega (arith, shared.slots));
       range_room = local.range_room;
       slot_room = local.slot_room;
       regions = local.regions;
-      known = All-append IsGivenBack q.slots more.slots shared.known known;
+      known = all_by_kind IsGivenBack (q.slots ++ more.slots) (All-append IsGivenBack q.slots more.slots shared.known known);
       ranged = local.ranged;
       queue = local.queue;
       grouped = local.grouped;
@@ -247,7 +247,7 @@ reset_local maker s kind ranges i m q named settings local none no_slots few of 
     let listed : List QueuedRange = ranges_listed kind i ranges in
     let q' : Queue = with_slot m (record q { ranges = q.ranges ++ listed }) in
     let first : q.ranges ++ listed ≡ listed = ap (λ (rs : List QueuedRange). rs ++ listed) none in
-    let only : q.slots ++ m ∷ [] ≡ m ∷ [] = ap (λ (ms : List Queued). ms ++ m ∷ []) no_slots in
+    let only : by_kind (q.slots ++ m ∷ []) ≡ m ∷ [] = ap (λ (ms : List Queued). by_kind (ms ++ m ∷ [])) no_slots ∙ one_by_kind m in
     let L : List QueuedRange → Type 0 = λ rs. LeavesClean rs m in
     record {
       queue = one_slot_local maker s kind ranges i m q' named local.range_room local.slot_room settings.batch.0 few of ranged first only (subst L (sym first) leaves);

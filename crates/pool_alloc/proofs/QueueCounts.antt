@@ -1,6 +1,6 @@
 -- What queues, leases and freed slots have, and what their counts say of the numbers in them.
 use Rattle.std.proofs.Common.{◌≡◌, ℕ, ◌+◌, ◌≤◌, Bool, true, false, List, [], ◌∷◌, ◌++◌, refl, sym, ap, ◌∙◌, inl, inr, arith, map, filter, sum_by, if◌then◌else◌, not}
-use Rattle.pool_alloc.proofs.Imports.{units_append, RegionNumbers, AllZip, or_from, sum_by-cons, sum_by_push, sum_by-filter_both, Queue, Queued, holds, AreApart, after_run, IsLeftBy, IsFaulted, first_slot, slot_not, slot_cases, SlotName}
+use Rattle.pool_alloc.proofs.Imports.{units_append, units_by_kind, by_kind, RegionNumbers, AllZip, or_from, sum_by-cons, sum_by_push, sum_by-filter_both, Queue, Queued, holds, AreApart, after_run, IsLeftBy, IsFaulted, first_slot, slot_not, slot_cases, SlotName}
 use Rattle.pool_alloc.specs.Leases.{Lease, memory_slot}
 use Rattle.pool_alloc.specs.Places.{Thing, right_to, region_of, slot_count, both_count, queued_count, leased_count, tables_count, freed_count}
 use Rattle.pool_alloc.specs.TableLeases.{LeasedTable, table_slot}
@@ -47,9 +47,9 @@ tables_first t l ls = sum_by-cons (table_one t) l ls
 pub freed_first : (t : Thing) (x : FreedSlot) (xs : List FreedSlot) → freed_count t (x ∷ xs) ≡ slot_count t x.name + freed_count t xs
 freed_first t x xs = sum_by-cons (λ (y : FreedSlot). slot_count t y.name) x xs
 
--- one more at the end
-pub queued_last : (t : Thing) (ms : List Queued) (m : Queued) → queued_count t (ms ++ m ∷ []) ≡ queued_count t ms + both_count t m.name m.numbers
-queued_last t ms m = omega (arith, units_append t ms (m ∷ []))
+-- one more, behind the last of its kind
+pub queued_last : (t : Thing) (ms : List Queued) (m : Queued) → queued_count t (by_kind (ms ++ m ∷ [])) ≡ queued_count t ms + both_count t m.name m.numbers
+queued_last t ms m = omega (arith, units_by_kind t (ms ++ m ∷ []), units_append t ms (m ∷ []))
 
 pub leased_last : (t : Thing) (ls : List Lease) (l : Lease) → leased_count t (ls ++ l ∷ []) ≡ leased_count t ls + leased_one t l
 leased_last t ls l = sum_by_push (leased_one t) ls l
@@ -61,8 +61,8 @@ pub freed_last : (t : Thing) (xs : List FreedSlot) (x : FreedSlot) → freed_cou
 freed_last t xs x = sum_by_push (λ (y : FreedSlot). slot_count t y.name) xs x
 
 -- two queues' slots
-pub queued_joined : (t : Thing) (ms ns : List Queued) → queued_count t (ms ++ ns) ≡ queued_count t ms + queued_count t ns
-queued_joined t ms ns = units_append t ms ns
+pub queued_joined : (t : Thing) (ms ns : List Queued) → queued_count t (by_kind (ms ++ ns)) ≡ queued_count t ms + queued_count t ns
+queued_joined t ms ns = units_by_kind t (ms ++ ns) ∙ units_append t ms ns
 
 -- those that pass a test, and the others
 pub freed_parted : (t : Thing) (p : FreedSlot → Bool) (xs : List FreedSlot) → freed_count t (filter p xs) + freed_count t (filter (λ x. not (p x)) xs) ≡ freed_count t xs

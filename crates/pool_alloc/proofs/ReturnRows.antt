@@ -1,6 +1,6 @@
 -- The rows of a give-back, and of a flush.
 use Rattle.std.proofs.Common.{map, ◌≡◌, ℕ, ◌+◌, ◌-◌, ◌%◌, ◌^◌, ◌<◌, ◌≤◌, Bool, true, false, List, [], ◌∷◌, ◌++◌, length, refl, sym, ap, subst, ◌∙◌, arith, All, inl, Option, None, Some, ◌==◌, ◌||◌, ◌&&◌, not, nat_le, nat_lt, filter, if◌then◌else◌, IfSome}
-use Rattle.pool_alloc.proofs.Imports.{of_kind, Plan, leb-false, or_parts, length_push, length-append, All-head, All-nil, All-push, All-filter, All-weaker, All-tail, length-filter_both, MakerTold, DecommitBehavior, Zero, RestoreOriginalMapping, Slot, forgotten, left_ranges, reset_slot, ByteRange, ShardState, image_slot_of, CellState, cell_filled, Queue, Queued, LeavesClean, empty_queue, taken_into, drained, after_append, IsSettled, first_of_kind, first_zeroed, is_to_zero, others_of_kind, plain_slot, SlotKind, memory_kind, home_of, cell_place, AllByRecursion, list_any, SlotName, Told, StackState, above_bottom, stack_kept, stack_ranges, stack_zeroed, stack_item, leaves_clean, first_settled, zeroed_long}
+use Rattle.pool_alloc.proofs.Imports.{of_kind, long_by_kind, Plan, leb-false, or_parts, length_push, length-append, All-head, All-nil, All-push, All-filter, All-weaker, All-tail, length-filter_both, MakerTold, DecommitBehavior, Zero, RestoreOriginalMapping, Slot, forgotten, left_ranges, reset_slot, ByteRange, ShardState, image_slot_of, CellState, cell_filled, Queue, Queued, LeavesClean, empty_queue, taken_into, drained, after_append, IsSettled, first_of_kind, first_zeroed, is_to_zero, others_of_kind, plain_slot, SlotKind, memory_kind, home_of, cell_place, AllByRecursion, list_any, SlotName, Told, StackState, above_bottom, stack_kept, stack_ranges, stack_zeroed, stack_item, leaves_clean, first_settled, zeroed_long}
 use Rattle.pool_alloc.proofs.Below.{queued_cells}
 use Rattle.pool_alloc.proofs.PlanPlaces.{IsShardPlace, IsQueuePlace, apart_places, queue_no_cell, tried_is_queue}
 use Rattle.pool_alloc.specs.PartyTold.{PartyTold}
@@ -258,7 +258,7 @@ module _ {P H : Type 0} (maker : MakerTold) (old new : PartyTold) where
       let shape = can.frame.shape in
       let shared : IsShared maker c.settings q = sound_queue maker i c can.core below in
       let both : IsLocal maker c.settings whole = joined_local maker c.settings q f.local shared can.frame.queue (local_is_apart maker i c e can.core can.fits below) shape.2 shape.4 in
-      let slots : length whole.slots ≡ length q.slots + length f.local.slots = length-append q.slots f.local.slots in
+      let slots : length whole.slots ≡ length q.slots + length f.local.slots = long_by_kind (q.slots ++ f.local.slots) ∙ length-append q.slots f.local.slots in
       let has : Frame P H = record f { phase = Idle; local = taken_into (drained f.local) whole } in
       record {
         kept = kept_part maker old new c e (with_queue i (drained whole) c) has

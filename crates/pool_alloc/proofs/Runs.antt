@@ -1,6 +1,6 @@
 -- How many runs of ranges of one slot there are once ranges come and go, and that the ranges of each slot lie together.
 use Rattle.std.proofs.Common.{◌≡◌, ℕ, ◌+◌, ◌<◌, ◌≤◌, Bool, true, false, List, [], ◌∷◌, ◌++◌, length, refl, sym, ap, subst, inl, inr, arith, map, if◌then◌else◌}
-use Rattle.pool_alloc.proofs.Imports.{cases_Bool, length-append, ByteRange, QueueKind, QueuedRange, SlotName, behind, Queue, owner, is_of, first_slot, after_append, slot_kind, slot_is, slot_self}
+use Rattle.pool_alloc.proofs.Imports.{cases_Bool, long_by_kind, length-append, ByteRange, QueueKind, QueuedRange, SlotName, behind, Queue, owner, is_of, first_slot, after_append, slot_kind, slot_is, slot_self}
 use Rattle.pool_alloc.specs.Answers.{Decommits}
 use Rattle.pool_alloc.proofs.SlotIdentity.{length_after_run}
 use Rattle.pool_alloc.specs.RangeRuns.{runs_after, runs, IsGrouped}
@@ -52,7 +52,7 @@ one_run kind slot (r ∷ rs) = omega (arith, one_run_after kind slot rs)
 
 -- So the ranges of each slot lie together in a queue to which another was appended,
 pub grouped_joined : (q more : Queue) → IsGrouped q → IsGrouped more → IsGrouped (after_append q more)
-grouped_joined q more first second = omega (arith, runs_joined q.ranges more.ranges, length-append q.slots more.slots)
+grouped_joined q more first second = omega (arith, runs_joined q.ranges more.ranges, long_by_kind (q.slots ++ more.slots), length-append q.slots more.slots)
 
 -- in one after a run of ranges was decommitted, or that failed,
 pub grouped_decommitted : (fault : Bool) (old new : Queue) → Decommits fault old new → IsGrouped old → IsGrouped new

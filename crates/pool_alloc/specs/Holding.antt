@@ -1,12 +1,13 @@
 -- What the next step has in hand.
 use Rattle.std.specs.Prelude.{Bool, true, false}
 use Rattle.pool_alloc.specs.declared.frame.Phase.{Phase}
-use Rattle.pool_alloc.specs.declared.frame.Phase.TheVariants.{Empty, Instantiate, MakeMemory, MakeTable, CountObject, PutBack, UncountObject, UncountHeap, PutHeap, FreeHeap, Reset, Purge, Release}
+use Rattle.pool_alloc.specs.declared.frame.Phase.TheVariants.{Empty, Instantiate, MakeMemory, MakeTable, CountObject, CountHeap, PutBack, UncountObject, UncountHeap, PutHeap, FreeHeap, Reset, Purge, Release}
 
 module _ {P H : Type 0} where
-  -- an object of the call, or the memory of a heap
+  -- an object of the call, or a heap or its memory
   abbrev pub holds_object : Phase P H → Bool
   holds_object (CountObject object) = true
+  holds_object (CountHeap lease) = true
   holds_object (UncountObject object) = true
   holds_object (UncountHeap lease memory) = true
   holds_object (PutHeap lease memory) = true

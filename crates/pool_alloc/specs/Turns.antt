@@ -75,6 +75,10 @@ module _ {P H : Type 0} where
   abbrev pub failing : AllocError → Frame P H → Frame P H
   failing e f = record f { ending = refused e }
 
+  -- the frame while a step of its call is made, which leaves the next phase
+  abbrev pub resting : Frame P H → Frame P H
+  resting f = record f { phase = Idle }
+
   -- a step more was made, and this is the next
   abbrev pub gone_to : Phase P H → Frame P H → Frame P H
   gone_to phase f = record f { phase = phase; step_count = (f.step_count + 1) % 2 ^ 64 }

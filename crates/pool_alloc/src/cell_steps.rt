@@ -1,4 +1,4 @@
-ghost use Rattle.std.specs.Prelude.{◌≡◌, ◌<◌, length, true, false, List, if◌then◌else◌};
+ghost use Rattle.std.specs.Prelude.{◌≡◌, ◌<◌, length, true, false, List, if◌then◌else◌, None};
 ghost use Rattle.pool_images.specs.Slots.{IsClean};
 ghost use Rattle.pool_slots.specs.Cells.{is_taken, unmapped, unknown, previously_used, IsCleanOnceUsed};
 ghost use Rattle.pool_slots.specs.RegionCells.{CellState, IsAwaited};
@@ -25,10 +25,10 @@ pub(crate) fn take_region<P: Pages, H: GcHeap>(
     settings: &Settings,
     frame: &mut Frame<P, H>,
     name: SlotName,
-) -> Option<Outcome<P, H>>
+)
     requires there { is_taken cell.old.holds ≡ false }
     requires fresh { (region : _) → cell.old.holds ≡ unmapped region → CanUnmap settings.now name region }
-    ensures { ◌≡◌ {A = PartAfter CellState P H} (record { part = cell.new; frame = frame.new; outcome = result }) (part_after (take_region_on settings.now name cell.old frame.old)) }
+    ensures { ◌≡◌ {A = PartAfter CellState P H} (record { part = cell.new; frame = frame.new; outcome = None }) (part_after (take_region_on settings.now name cell.old frame.old)) }
 {
     let (held, numbers) = cell.take();
     let at = TakenSlot { name, numbers };
@@ -84,10 +84,10 @@ pub(crate) fn put_back<P: Pages, H: GcHeap>(
     frame: &mut Frame<P, H>,
     name: SlotName,
     held: ImageSlot<P>,
-) -> Option<Outcome<P, H>>
+)
     requires clean { IsCleanOnceUsed (cell_of held) }
     requires own { IsAwaited (cell_of held) cell.old }
-    ensures { ◌≡◌ {A = PartAfter CellState P H} (record { part = cell.new; frame = frame.new; outcome = result }) (part_after (put_back_on name (cell_of held) cell.old frame.old)) }
+    ensures { ◌≡◌ {A = PartAfter CellState P H} (record { part = cell.new; frame = frame.new; outcome = None }) (part_after (put_back_on name (cell_of held) cell.old frame.old)) }
 {
     cell.put(held);
     frame.go(Phase::FreeOne(name))
@@ -99,17 +99,19 @@ pub(crate) fn put_region<P: Pages, H: GcHeap>(
     alloc: Global,
     frame: &mut Frame<P, H>,
     item: QueuedSlot<P>,
-) -> Option<Outcome<P, H>>
+    outcome: &mut Option<Outcome<P, H>>,
+)
     requires settled { IsSettled item }
     requires own { IsAwaited (cell_returned item) cell.old }
     requires room { length frame.old.freed.items < frame.old.freed.room }
-    ensures { ◌≡◌ {A = PartAfter CellState P H} (record { part = cell.new; frame = frame.new; outcome = result }) (part_after (region_put item cell.old frame.old)) }
+    requires unanswered { outcome.old ≡ None }
+    ensures { ◌≡◌ {A = PartAfter CellState P H} (record { part = cell.new; frame = frame.new; outcome = outcome.new }) (part_after (region_put item cell.old frame.old)) }
 {
     let name = item.name();
     let bytes = item.bytes;
     cell.put(cell_returned(item));
     frame.freed.push(FreedSlot { name, bytes });
-    frame.flush(alloc)
+    frame.flush(alloc, outcome)
 }
 
 // What a region's cell holds once its memory, its table or its stack is given back.
@@ -121,8 +123,8 @@ fn cell_returned<P: Pages>(item: QueuedSlot<P>) -> ImageSlot<P>
     let known = item.known;
     match item.held {
         HeldSlot::Memory(slot) => slot_returned(known, slot),
-        HeldSlot::Table(region, _, _) => ImageSlot::Unmapped(region),
-        HeldSlot::Stack(region, _, _) => ImageSlot::Unmapped(region),
+        HeldSlot::Table(held) => ImageSlot::Unmapped(held.region),
+        HeldSlot::Stack(held) => ImageSlot::Unmapped(held.region),
     }
 }
 

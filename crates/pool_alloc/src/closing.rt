@@ -21,7 +21,6 @@ use pool_index::SlotKind;
 use pool_pages::Pages;
 use pool_slots::{DecommitQueue, GcHeap, PoolPart};
 use std::alloc::Global;
-use std::mem;
 
 impl<P: Pages, H: GcHeap> PoolCore<P, H> {
     /// Ends the pool: flushes all queues, and finds every slot free. Each slot that was given out has to be back in a
@@ -94,19 +93,30 @@ impl<P: Pages, H: GcHeap> PoolCore<P, H> {
         ensures fewer { steps_left self.new frame.new + 1 ≤ steps_left self.old frame.old }
         ensures plan { self.new.plan ≡ self.old.plan }
     {
-        drop_outcome(self.flush_on(alloc, frame));
+        let mut outcome = None;
+        self.flush_on(alloc, frame, &mut outcome);
+        drop_outcome(outcome);
     }
 
     // The same as a step of the call that is under way. It asks nobody, whoever that would be.
-    fn flush_on(&mut self, alloc: Global, frame: &mut Frame<P, H>) -> Option<Outcome<P, H>>
+    fn flush_on(
+        &mut self,
+        alloc: Global,
+        frame: &mut Frame<P, H>,
+        outcome: &mut Option<Outcome<P, H>>,
+    )
         requires can { CanStepAt frame.old.phase self.old frame.old }
         requires closing { IsClosingAt frame.old.phase }
         requires busy { is_idle frame.old.phase ≡ false }
-        ensures { (told : PartyTold) → StepsTo told told self.old frame.old (record { core = self.new; frame = frame.new; outcome = result }) }
+        requires unanswered { outcome.old ≡ None }
+        ensures { (told : PartyTold) → StepsTo told told self.old frame.old (record { core = self.new; frame = frame.new; outcome = outcome.new }) }
     {
-        match mem::replace(&mut frame.phase, Phase::Idle) {
-            Phase::Flush => self.flush(alloc, frame),
-            Phase::UncountInstance => self.uncount_instance(frame),
+        match frame.phase {
+            Phase::Flush => {
+                frame.rest();
+                self.flush(alloc, frame, outcome)
+            }
+            Phase::UncountInstance => self.uncount_instance(frame, outcome),
             _ => unreachable!(),
         }
     }
@@ -130,7 +140,7 @@ impl<P: Pages, H: GcHeap> PoolCore<P, H> {
         } else {
             Phase::Flush
         };
-        let _none = frame.go(phase);
+        frame.go(phase);
     }
 }
 

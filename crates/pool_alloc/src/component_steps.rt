@@ -1,7 +1,7 @@
-ghost use Rattle.std.specs.Prelude.{◌≡◌, ◌+◌, ◌<◌, ◌^◌};
+ghost use Rattle.std.specs.Prelude.{◌≡◌, ◌+◌, ◌<◌, ◌^◌, None};
 ghost use Rattle.pool_types.specs.declared.unsupported.Unsupported.{Unsupported};
 ghost use Rattle.pool_alloc.specs.Rows.{validate_component_row, count_component_row, uncount_component_row};
-ghost use Rattle.pool_alloc.specs.Turns.{After, stepped};
+ghost use Rattle.pool_alloc.specs.Turns.{After, stepped, resting};
 
 use crate::frame::{Frame, Grant, Outcome, Phase};
 use crate::frame_turns::answer_of;
@@ -18,26 +18,35 @@ impl<P: Pages, H: GcHeap> PoolCore<P, H> {
         &mut self,
         frame: &mut Frame<P, H>,
         info: &ComponentInfo,
-    ) -> Option<Outcome<P, H>>
-        ensures { ◌≡◌ {A = After P H} (record { core = self.new; frame = frame.new; outcome = result }) (stepped (validate_component_row info.now self.old frame.old)) }
+        outcome: &mut Option<Outcome<P, H>>,
+    )
+        requires unanswered { outcome.old ≡ None }
+        ensures { ◌≡◌ {A = After P H} (record { core = self.new; frame = frame.new; outcome = outcome.new }) (stepped (validate_component_row info.now self.old (resting frame.old))) }
     {
+        frame.rest();
         match component_refused(&self.settings, info) {
-            Some(rule) => self.refuse_at_once(frame, AllocError::Unsupported(rule)),
+            Some(rule) => self.refuse_at_once(frame, AllocError::Unsupported(rule), outcome),
             None => frame.go(Phase::CountComponent),
         }
     }
 
     // Counts the component, also where there are too many.
     #[inline(never)]
-    pub(crate) fn count_component(&mut self, frame: &mut Frame<P, H>) -> Option<Outcome<P, H>>
-        requires { self.old.counters.component_instances + 1 < 2 ^ 64 }
-        ensures { ◌≡◌ {A = After P H} (record { core = self.new; frame = frame.new; outcome = result }) (stepped (count_component_row self.old frame.old)) }
+    pub(crate) fn count_component(
+        &mut self,
+        frame: &mut Frame<P, H>,
+        outcome: &mut Option<Outcome<P, H>>,
+    )
+        requires can { self.old.counters.component_instances + 1 < 2 ^ 64 }
+        requires unanswered { outcome.old ≡ None }
+        ensures { ◌≡◌ {A = After P H} (record { core = self.new; frame = frame.new; outcome = outcome.new }) (stepped (count_component_row self.old (resting frame.old))) }
     {
+        frame.rest();
         let count = self.counters.component_instances;
         let limit = self.settings.max_component_instances;
         self.counters.component_instances = count + 1;
         if count < limit {
-            return frame.end(Outcome::Granted(Grant::Component));
+            return frame.end(Outcome::Granted(Grant::Component), outcome);
         }
         frame.fail(AllocError::Limit(PoolConcurrencyLimitError {
             limit: limit as usize,
@@ -47,11 +56,17 @@ impl<P: Pages, H: GcHeap> PoolCore<P, H> {
     }
 
     #[inline(never)]
-    pub(crate) fn uncount_component(&mut self, frame: &mut Frame<P, H>) -> Option<Outcome<P, H>>
-        requires { 0 < self.old.counters.component_instances }
-        ensures { ◌≡◌ {A = After P H} (record { core = self.new; frame = frame.new; outcome = result }) (stepped (uncount_component_row self.old frame.old)) }
+    pub(crate) fn uncount_component(
+        &mut self,
+        frame: &mut Frame<P, H>,
+        outcome: &mut Option<Outcome<P, H>>,
+    )
+        requires can { 0 < self.old.counters.component_instances }
+        requires unanswered { outcome.old ≡ None }
+        ensures { ◌≡◌ {A = After P H} (record { core = self.new; frame = frame.new; outcome = outcome.new }) (stepped (uncount_component_row self.old (resting frame.old))) }
     {
+        frame.rest();
         self.counters.component_instances -= 1;
-        frame.end(answer_of(frame.ending))
+        frame.end(answer_of(frame.ending), outcome)
     }
 }

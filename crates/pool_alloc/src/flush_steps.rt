@@ -1,4 +1,4 @@
-ghost use Rattle.std.specs.Prelude.{◌≡◌, ◌<◌, ◌≤◌, ◌^◌, [], ◌∷◌, length, List, Bool};
+ghost use Rattle.std.specs.Prelude.{◌≡◌, ◌<◌, ◌≤◌, ◌^◌, [], ◌∷◌, length, List, Bool, None};
 ghost use Rattle.pool_slots.specs.RegionCells.{IsAwaited};
 ghost use Rattle.pool_slots.specs.SlotQueues.{Queue, HasOwners, IsSettled};
 ghost use Rattle.pool_alloc.specs.Answers.{FlushTold, FlushPlanned, Decommits, FollowsRun};
@@ -8,7 +8,7 @@ ghost use Rattle.pool_slots.specs.Plans.{cell_place};
 ghost use Rattle.pool_slots.specs.QueueMerges.{CanMerge};
 ghost use Rattle.pool_slots.specs.Parts.{IsAt, IsShardPart, IsCellPart};
 ghost use Rattle.pool_alloc.specs.Steps.{StepGiven, cell_returned, IsQueuePart, shard_at, cell_named, queue_at, first_shard, queue_tried};
-ghost use Rattle.pool_alloc.specs.Turns.{After, stepped};
+ghost use Rattle.pool_alloc.specs.Turns.{After, stepped, resting};
 
 use crate::frame::{Frame, FreedSlot, Outcome};
 use crate::freeing::first_shard;
@@ -23,28 +23,41 @@ use std::alloc::Global;
 impl<P: Pages, H: GcHeap> PoolCore<P, H> {
     // Appends the local queue to the home queue.
     #[inline(never)]
-    pub(crate) fn merge(&mut self, alloc: Global, frame: &mut Frame<P, H>) -> Option<Outcome<P, H>>
+    pub(crate) fn merge(
+        &mut self,
+        alloc: Global,
+        frame: &mut Frame<P, H>,
+        outcome: &mut Option<Outcome<P, H>>,
+    )
         requires tries { CanTryQueue self.old.plan }
         requires queue { IsAt IsQueuePart (queue_tried 0 self.old.plan frame.old) self.old.parts }
         requires can { CanMerge (queue_at (queue_tried 0 self.old.plan frame.old) self.old) frame.old.local }
-        ensures { ◌≡◌ {A = After P H} (record { core = self.new; frame = frame.new; outcome = result }) (stepped (in_queue (queue_tried 0 self.old.plan frame.old) self.old (merge_on self.old.settings (queue_at (queue_tried 0 self.old.plan frame.old) self.old) frame.old))) }
+        requires unanswered { outcome.old ≡ None }
+        ensures { ◌≡◌ {A = After P H} (record { core = self.new; frame = frame.new; outcome = outcome.new }) (stepped (in_queue (queue_tried 0 self.old.plan frame.old) self.old (merge_on self.old.settings (queue_at (queue_tried 0 self.old.plan frame.old) self.old) (resting frame.old)))) }
     {
+        frame.rest();
         let place = self.plan.queue_tried(frame.home, 0);
         let part = self.parts.at(place);
-        part_steps::merge(part, &self.settings, alloc, frame)
+        part_steps::merge(part, &self.settings, alloc, frame, outcome)
     }
 
     // The next part of a flush.
     #[inline(never)]
-    pub(crate) fn flush(&mut self, alloc: Global, frame: &mut Frame<P, H>) -> Option<Outcome<P, H>>
-        requires { CanFlush (flush_step frame.old.local frame.old.freed.items) self.old frame.old }
-        ensures { (g : StepGiven H) × FlushTold (flush_step frame.old.local frame.old.freed.items) g frame.old.local × FlushPlanned (flush_step frame.old.local frame.old.freed.items) g frame.old.local × (◌≡◌ {A = After P H} (record { core = self.new; frame = frame.new; outcome = result }) (stepped (flush_row (flush_step frame.old.local frame.old.freed.items) g.queue self.old frame.old))) }
+    pub(crate) fn flush(
+        &mut self,
+        alloc: Global,
+        frame: &mut Frame<P, H>,
+        outcome: &mut Option<Outcome<P, H>>,
+    )
+        requires can { CanFlush (flush_step frame.old.local frame.old.freed.items) self.old frame.old }
+        requires unanswered { outcome.old ≡ None }
+        ensures { (g : StepGiven H) × FlushTold (flush_step frame.old.local frame.old.freed.items) g frame.old.local × FlushPlanned (flush_step frame.old.local frame.old.freed.items) g frame.old.local × (◌≡◌ {A = After P H} (record { core = self.new; frame = frame.new; outcome = outcome.new }) (stepped (flush_row (flush_step frame.old.local frame.old.freed.items) g.queue self.old frame.old))) }
     {
         if frame.local.raw_len() > 0 {
-            return self.decommit(alloc, frame);
+            return self.decommit(alloc, frame, outcome);
         }
         let kind = kind_settled(&frame.local, &frame.freed);
-        self.settle(alloc, frame, kind)
+        self.settle(alloc, frame, kind, outcome)
     }
 
     // The same where no ranges are left: the slots of one kind are zeroed where that has to be, put back and freed.
@@ -53,15 +66,17 @@ impl<P: Pages, H: GcHeap> PoolCore<P, H> {
         alloc: Global,
         frame: &mut Frame<P, H>,
         kind: SlotKind,
-    ) -> Option<Outcome<P, H>>
+        outcome: &mut Option<Outcome<P, H>>,
+    )
         requires none { frame.old.local.ranges ≡ [] }
         requires can { CanFlush (settled_step kind frame.old.local.slots) self.old frame.old }
-        ensures { SettlesTo (settled_step kind frame.old.local.slots) self.old frame.old (record { core = self.new; frame = frame.new; outcome = result }) }
+        requires unanswered { outcome.old ≡ None }
+        ensures { SettlesTo (settled_step kind frame.old.local.slots) self.old frame.old (record { core = self.new; frame = frame.new; outcome = outcome.new }) }
     {
         if frame.local.zero_next(kind) {
-            return frame.flush(alloc);
+            return frame.flush(alloc, outcome);
         }
-        self.put_next(alloc, frame, kind)
+        self.put_next(alloc, frame, kind, outcome)
     }
 
     // Where none of them is to be zeroed.
@@ -70,25 +85,33 @@ impl<P: Pages, H: GcHeap> PoolCore<P, H> {
         alloc: Global,
         frame: &mut Frame<P, H>,
         kind: SlotKind,
-    ) -> Option<Outcome<P, H>>
+        outcome: &mut Option<Outcome<P, H>>,
+    )
         requires none { frame.old.local.ranges ≡ [] }
         requires can { CanFlush (put_step kind frame.old.local.slots) self.old frame.old }
-        ensures { SettlesTo (put_step kind frame.old.local.slots) self.old frame.old (record { core = self.new; frame = frame.new; outcome = result }) }
+        requires unanswered { outcome.old ≡ None }
+        ensures { SettlesTo (put_step kind frame.old.local.slots) self.old frame.old (record { core = self.new; frame = frame.new; outcome = outcome.new }) }
     {
         match frame.local.pop(kind) {
-            Some(item) => self.put_region(alloc, frame, item),
-            None => self.free(alloc, frame),
+            Some(item) => self.put_region(alloc, frame, item, outcome),
+            None => self.free(alloc, frame, outcome),
         }
     }
 
     // Decommits the next ranges of one slot.
-    fn decommit(&mut self, alloc: Global, frame: &mut Frame<P, H>) -> Option<Outcome<P, H>>
+    fn decommit(
+        &mut self,
+        alloc: Global,
+        frame: &mut Frame<P, H>,
+        outcome: &mut Option<Outcome<P, H>>,
+    )
         requires some { 0 < length frame.old.local.ranges }
         requires owners { HasOwners frame.old.local }
-        ensures { (fault : Bool) × (queue : Queue) × Decommits fault frame.old.local queue × FollowsRun fault frame.old.local queue × (◌≡◌ {A = After P H} (record { core = self.new; frame = frame.new; outcome = result }) (stepped (decommit_row queue self.old frame.old))) }
+        requires unanswered { outcome.old ≡ None }
+        ensures { (fault : Bool) × (queue : Queue) × Decommits fault frame.old.local queue × FollowsRun fault frame.old.local queue × (◌≡◌ {A = After P H} (record { core = self.new; frame = frame.new; outcome = outcome.new }) (stepped (decommit_row queue self.old frame.old))) }
     {
         let _fault = frame.local.decommit_run().is_err();
-        frame.flush(alloc)
+        frame.flush(alloc, outcome)
     }
 
     // Puts a region back into its cell that was in the local queue.
@@ -97,28 +120,31 @@ impl<P: Pages, H: GcHeap> PoolCore<P, H> {
         alloc: Global,
         frame: &mut Frame<P, H>,
         item: QueuedSlot<P>,
-    ) -> Option<Outcome<P, H>>
+        outcome: &mut Option<Outcome<P, H>>,
+    )
         requires place { CanPlace self.old.plan item.name }
         requires cell { IsAt IsCellPart (cell_place self.old.plan item.name) self.old.parts }
         requires settled { IsSettled item }
         requires own { IsAwaited (cell_returned item) (cell_named item.name self.old) }
         requires room { length frame.old.freed.items < frame.old.freed.room }
-        ensures { ◌≡◌ {A = After P H} (record { core = self.new; frame = frame.new; outcome = result }) (stepped (in_cell item.name self.old (region_put item (cell_named item.name self.old) frame.old))) }
+        requires unanswered { outcome.old ≡ None }
+        ensures { ◌≡◌ {A = After P H} (record { core = self.new; frame = frame.new; outcome = outcome.new }) (stepped (in_cell item.name self.old (region_put item (cell_named item.name self.old) frame.old))) }
     {
         let place = self.plan.cell_place(item.name());
         let part = self.parts.at(place);
-        part_steps::put_region(part, alloc, frame, item)
+        part_steps::put_region(part, alloc, frame, item, outcome)
     }
 
     // Frees the slots of the first shard that has some of them.
-    fn free(&mut self, alloc: Global, frame: &mut Frame<P, H>) -> Option<Outcome<P, H>>
+    fn free(&mut self, alloc: Global, frame: &mut Frame<P, H>, outcome: &mut Option<Outcome<P, H>>)
         requires shard { IsAt IsShardPart (first_shard self.old.plan frame.old.freed.items) self.old.parts }
         requires can { CanFree self.old.plan frame.old.freed.items (shard_at (first_shard self.old.plan frame.old.freed.items) self.old) }
-        ensures { ◌≡◌ {A = After P H} (record { core = self.new; frame = frame.new; outcome = result }) (stepped (free_row self.old frame.old)) }
+        requires unanswered { outcome.old ≡ None }
+        ensures { ◌≡◌ {A = After P H} (record { core = self.new; frame = frame.new; outcome = outcome.new }) (stepped (free_row self.old frame.old)) }
     {
         let place = first_shard(&self.plan, &frame.freed);
         let part = self.parts.at(place);
-        part_steps::free(part, &self.plan, alloc, frame, place)
+        part_steps::free(part, &self.plan, alloc, frame, place, outcome)
     }
 }
 

@@ -76,7 +76,7 @@ impl<P: Pages, H: GcHeap> Frame<P, H> {
                 self.asked = Asked::Nothing;
                 self.objects = lease;
                 self.ending = Ending::Returned;
-                let _none = self.return_next();
+                self.return_next(&mut None);
                 self.step_count = 0;
             }
             Grant::Component => {

@@ -9,7 +9,7 @@ ghost use Rattle.pool_alloc.specs.PartyTold.{MakesHeap};
 ghost use Rattle.pool_alloc.specs.Refusals.{heap_refused};
 ghost use Rattle.pool_alloc.specs.Rows.{test_heap_row, heaps_tested, heap_next, take_heap_on, make_heap_row, count_heap_row, uncount_heap_row, put_heap_on, free_heap_on, in_heaps, in_shard};
 ghost use Rattle.pool_alloc.specs.Steps.{IsHeapAsked, heaps_at, shard_at};
-ghost use Rattle.pool_alloc.specs.Turns.{After, goes, stepped};
+ghost use Rattle.pool_alloc.specs.Turns.{After, goes, stepped, resting};
 
 use crate::frame::{Asked, Frame, Grant, Object, Outcome, Phase, TakenSlot};
 use crate::freeing::home;
@@ -34,16 +34,19 @@ impl<P: Pages, H: GcHeap> PoolCore<P, H> {
         &mut self,
         alloc: Global,
         frame: &mut Frame<P, H>,
-    ) -> Option<Outcome<P, H>>
-        requires { IsHeapAsked frame.old.asked }
-        ensures { (wants : Bool) × (◌≡◌ {A = After P H} (record { core = self.new; frame = frame.new; outcome = result }) (stepped (test_heap_row wants self.old frame.old))) }
+        outcome: &mut Option<Outcome<P, H>>,
+    )
+        requires can { IsHeapAsked frame.old.asked }
+        requires unanswered { outcome.old ≡ None }
+        ensures { (wants : Bool) × (◌≡◌ {A = After P H} (record { core = self.new; frame = frame.new; outcome = outcome.new }) (stepped (test_heap_row wants self.old (resting frame.old)))) }
     {
+        frame.rest();
         if !self.settings.tunables.tunables.collector {
-            return self.refuse_at_once(frame, AllocError::HeapsDisabled);
+            return self.refuse_at_once(frame, AllocError::HeapsDisabled, outcome);
         }
         match self.heap_refused(frame) {
-            Some(rule) => self.refuse_at_once(frame, AllocError::Unsupported(rule)),
-            None => self.reserve_grants(alloc, frame, Phase::Pick(0)),
+            Some(rule) => self.refuse_at_once(frame, AllocError::Unsupported(rule), outcome),
+            None => self.reserve_grants(alloc, frame, Phase::Pick(0), outcome),
         }
     }
 
@@ -60,14 +63,11 @@ impl<P: Pages, H: GcHeap> PoolCore<P, H> {
 
     // Takes the heap of a slot, where it has one. The slot notes the memory that was granted for it.
     #[inline(never)]
-    pub(crate) fn take_heap(
-        &mut self,
-        frame: &mut Frame<P, H>,
-        name: SlotName,
-    ) -> Option<Outcome<P, H>>
+    pub(crate) fn take_heap(&mut self, frame: &mut Frame<P, H>, name: SlotName)
         requires { CanTakeHeapOf name.slot self.old }
-        ensures { ◌≡◌ {A = After P H} (record { core = self.new; frame = frame.new; outcome = result }) (stepped (in_heaps self.old (take_heap_on name (heaps_at self.old) frame.old))) }
+        ensures { ◌≡◌ {A = After P H} (record { core = self.new; frame = frame.new; outcome = None }) (stepped (in_heaps self.old (take_heap_on name (heaps_at self.old) (resting frame.old)))) }
     {
+        frame.rest();
         let memory = first_index(&frame.objects);
         let part = self.parts.at(self.plan.heap_list);
         let heap = take_heap_in(part, name.slot, memory);
@@ -86,9 +86,10 @@ impl<P: Pages, H: GcHeap> PoolCore<P, H> {
         frame: &mut Frame<P, H>,
         at: TakenSlot,
         heaps: &mut K,
-    ) -> Option<Outcome<P, H>>
-        ensures { (answer : Result H Fault) × MakesHeap answer (K.told heaps.old) (K.told heaps.new) × (◌≡◌ {A = After P H} (record { core = self.new; frame = frame.new; outcome = result }) (stepped (make_heap_row answer at self.old frame.old))) }
+    )
+        ensures { (answer : Result H Fault) × MakesHeap answer (K.told heaps.old) (K.told heaps.new) × (◌≡◌ {A = After P H} (record { core = self.new; frame = frame.new; outcome = None }) (stepped (make_heap_row answer at self.old (resting frame.old)))) }
     {
+        frame.rest();
         let phase = match heaps.new_gc_heap(alloc) {
             Ok(heap) => heap_next(at, Some(heap)),
             Err(fault) => {
@@ -106,15 +107,17 @@ impl<P: Pages, H: GcHeap> PoolCore<P, H> {
         alloc: Global,
         frame: &mut Frame<P, H>,
         lease: HeapLease<H>,
-    ) -> Option<Outcome<P, H>>
+        outcome: &mut Option<Outcome<P, H>>,
+    )
         requires count { self.old.counters.gc_heaps + 1 < 2 ^ 64 }
         requires memory { 0 < length frame.old.objects.memories.items }
-        ensures { ◌≡◌ {A = After P H} (record { core = self.new; frame = frame.new; outcome = result }) (stepped (count_heap_row lease self.old frame.old)) }
+        requires unanswered { outcome.old ≡ None }
+        ensures { ◌≡◌ {A = After P H} (record { core = self.new; frame = frame.new; outcome = outcome.new }) (stepped (count_heap_row lease self.old frame.old)) }
     {
         self.counters.gc_heaps += 1;
         let memory = frame.objects.memories.remove_first();
         frame.objects = InstanceLease::none(alloc);
-        frame.end(Outcome::Granted(Grant::Heap(lease, memory)))
+        frame.end(Outcome::Granted(Grant::Heap(lease, memory)), outcome)
     }
 
     // The heap is no grant any more.
@@ -124,9 +127,9 @@ impl<P: Pages, H: GcHeap> PoolCore<P, H> {
         frame: &mut Frame<P, H>,
         lease: HeapLease<H>,
         memory: MemoryLease<P>,
-    ) -> Option<Outcome<P, H>>
+    )
         requires { 0 < self.old.counters.gc_heaps }
-        ensures { ◌≡◌ {A = After P H} (record { core = self.new; frame = frame.new; outcome = result }) (stepped (uncount_heap_row lease memory self.old frame.old)) }
+        ensures { ◌≡◌ {A = After P H} (record { core = self.new; frame = frame.new; outcome = None }) (stepped (uncount_heap_row lease memory self.old frame.old)) }
     {
         self.counters.gc_heaps -= 1;
         frame.go(Phase::PutHeap(lease, memory))
@@ -139,9 +142,9 @@ impl<P: Pages, H: GcHeap> PoolCore<P, H> {
         frame: &mut Frame<P, H>,
         lease: HeapLease<H>,
         memory: MemoryLease<P>,
-    ) -> Option<Outcome<P, H>>
+    )
         requires { CanPutHeapOf lease.index self.old }
-        ensures { ◌≡◌ {A = After P H} (record { core = self.new; frame = frame.new; outcome = result }) (stepped (in_heaps self.old (put_heap_on lease.index (Some lease.heap) (Phase.FreeHeap (heap_slot lease.index) memory) (heaps_at self.old) frame.old))) }
+        ensures { ◌≡◌ {A = After P H} (record { core = self.new; frame = frame.new; outcome = None }) (stepped (in_heaps self.old (put_heap_on lease.index (Some lease.heap) (Phase.FreeHeap (heap_slot lease.index) memory) (heaps_at self.old) frame.old))) }
     {
         let slot = lease.index().0;
         let part = self.parts.at(self.plan.heap_list);
@@ -151,14 +154,11 @@ impl<P: Pages, H: GcHeap> PoolCore<P, H> {
 
     // Puts a slot back for which no heap could be made.
     #[inline(never)]
-    pub(crate) fn put_no_heap(
-        &mut self,
-        frame: &mut Frame<P, H>,
-        at: TakenSlot,
-    ) -> Option<Outcome<P, H>>
+    pub(crate) fn put_no_heap(&mut self, frame: &mut Frame<P, H>, at: TakenSlot)
         requires { CanPutHeapOf at.name.slot self.old }
-        ensures { ◌≡◌ {A = After P H} (record { core = self.new; frame = frame.new; outcome = result }) (stepped (in_heaps self.old (put_heap_on at.name.slot None (Phase.FreeOne at.name) (heaps_at self.old) frame.old))) }
+        ensures { ◌≡◌ {A = After P H} (record { core = self.new; frame = frame.new; outcome = None }) (stepped (in_heaps self.old (put_heap_on at.name.slot None (Phase.FreeOne at.name) (heaps_at self.old) (resting frame.old)))) }
     {
+        frame.rest();
         let part = self.parts.at(self.plan.heap_list);
         put_heap_in(part, at.name.slot, None);
         frame.go(Phase::FreeOne(at.name))
@@ -171,9 +171,9 @@ impl<P: Pages, H: GcHeap> PoolCore<P, H> {
         frame: &mut Frame<P, H>,
         name: SlotName,
         memory: MemoryLease<P>,
-    ) -> Option<Outcome<P, H>>
+    )
         requires { CanFreeOf name self.old }
-        ensures { ◌≡◌ {A = After P H} (record { core = self.new; frame = frame.new; outcome = result }) (stepped (in_shard (home_of self.old.plan name).place self.old (free_heap_on self.old.plan name memory (shard_at (home_of self.old.plan name).place self.old) frame.old))) }
+        ensures { ◌≡◌ {A = After P H} (record { core = self.new; frame = frame.new; outcome = None }) (stepped (in_shard (home_of self.old.plan name).place self.old (free_heap_on self.old.plan name memory (shard_at (home_of self.old.plan name).place self.old) frame.old))) }
     {
         let home = home(&self.plan, name);
         let part = self.parts.at(home.place);

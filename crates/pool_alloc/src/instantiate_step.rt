@@ -40,11 +40,11 @@ impl<P: Pages, H: GcHeap> PoolCore<P, H> {
         frame: &mut Frame<P, H>,
         at: TakenSlot,
         held: MemoryImageSlot<P>,
-    ) -> Option<Outcome<P, H>>
+    )
         requires next { HasNext frame.old.asked (length frame.old.objects.memories.items) }
         requires clean { IsClean held }
         requires can { IfAllocated frame.old (CanBegin held (image_wanted frame.old)) }
-        ensures { (fault : Bool) × (after : Slot) × IfAllocated frame.old (λ decl. InstantiatesFor self.old.settings decl fault (image_wanted frame.old) held after) × IfAllocated frame.old (λ decl. FollowsPlanFor self.old.settings decl fault (image_wanted frame.old) held after) × (◌≡◌ {A = After P H} (record { core = self.new; frame = frame.new; outcome = result }) (stepped (instantiate_row fault after at self.old frame.old))) }
+        ensures { (fault : Bool) × (after : Slot) × IfAllocated frame.old (λ decl. InstantiatesFor self.old.settings decl fault (image_wanted frame.old) held after) × IfAllocated frame.old (λ decl. FollowsPlanFor self.old.settings decl fault (image_wanted frame.old) held after) × (◌≡◌ {A = After P H} (record { core = self.new; frame = frame.new; outcome = None }) (stepped (instantiate_row fault after at self.old frame.old))) }
     {
         let mut held = held;
         let fault = self.begin(frame, &mut held);
@@ -100,8 +100,8 @@ fn begun<P: Pages, H: GcHeap>(
     fault: bool,
     at: TakenSlot,
     held: MemoryImageSlot<P>,
-) -> Option<Outcome<P, H>>
-    ensures { (c : PoolCore P H) → ◌≡◌ {A = After P H} (record { core = c; frame = frame.new; outcome = result }) (stepped (instantiate_row fault held at c frame.old)) }
+)
+    ensures { (c : PoolCore P H) → ◌≡◌ {A = After P H} (record { core = c; frame = frame.new; outcome = None }) (stepped (instantiate_row fault held at c frame.old)) }
 {
     let mut held = held;
     if fault {

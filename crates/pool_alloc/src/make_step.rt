@@ -37,10 +37,10 @@ impl<P: Pages, H: GcHeap> PoolCore<P, H> {
         at: TakenSlot,
         held: MemoryImageSlot<P>,
         limiter: &mut L,
-    ) -> Option<Outcome<P, H>>
+    )
         requires next { HasNext frame.old.asked (length frame.old.objects.memories.items) }
         requires can { IfAllocated frame.old (CanMake self.old.settings held) }
-        ensures { (answer : Result Bool LimiterError) × IfAllocated frame.old (AsksForMemory answer (L.told limiter.old) (L.told limiter.new)) × IfAllocated frame.old (λ decl. Exchanged L.leads (may_grow (minimum_question decl.ty) answer ∷ []) limiter.old limiter.new) × (◌≡◌ {A = After P H} (record { core = self.new; frame = frame.new; outcome = result }) (stepped (make_memory_row answer at held self.old frame.old))) }
+        ensures { (answer : Result Bool LimiterError) × IfAllocated frame.old (AsksForMemory answer (L.told limiter.old) (L.told limiter.new)) × IfAllocated frame.old (λ decl. Exchanged L.leads (may_grow (minimum_question decl.ty) answer ∷ []) limiter.old limiter.new) × (◌≡◌ {A = After P H} (record { core = self.new; frame = frame.new; outcome = None }) (stepped (make_memory_row answer at held self.old frame.old))) }
     {
         let making = self.make(frame, held, limiter);
         was_made(frame, at, making)
@@ -96,12 +96,8 @@ fn make_memory<P: Pages, L: ResourceLimiter>(
 }
 
 // What comes after a making.
-fn was_made<P: Pages, H: GcHeap>(
-    frame: &mut Frame<P, H>,
-    at: TakenSlot,
-    making: Making<P>,
-) -> Option<Outcome<P, H>>
-    ensures { (c : PoolCore P H) → ◌≡◌ {A = After P H} (record { core = c; frame = frame.new; outcome = result }) (stepped (made_by at making c frame.old)) }
+fn was_made<P: Pages, H: GcHeap>(frame: &mut Frame<P, H>, at: TakenSlot, making: Making<P>)
+    ensures { (c : PoolCore P H) → ◌≡◌ {A = After P H} (record { core = c; frame = frame.new; outcome = None }) (stepped (made_by at making c frame.old)) }
 {
     let phase = match making {
         Ok(memory) => Phase::CountObject(Object::Memory(MemoryLease {

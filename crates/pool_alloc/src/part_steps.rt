@@ -1,4 +1,4 @@
-ghost use Rattle.std.specs.Prelude.{◌≡◌, ◌+◌, ◌<◌, ◌≤◌, ◌^◌, false, All, length, IsSome, if◌then◌else◌};
+ghost use Rattle.std.specs.Prelude.{◌≡◌, ◌+◌, ◌<◌, ◌≤◌, ◌^◌, false, All, length, IsSome, if◌then◌else◌, None};
 ghost use Rattle.pool_index.specs.Shard.{use_of, resident_bytes};
 ghost use Rattle.pool_slots.specs.Cells.{is_taken, unmapped, IsCleanOnceUsed};
 ghost use Rattle.pool_slots.specs.CellOf.{cell_of};
@@ -31,15 +31,17 @@ pub(crate) fn pick<P: Pages, H: GcHeap>(
     plan: &Plan,
     frame: &mut Frame<P, H>,
     tried: u32,
-) -> Option<Outcome<P, H>>
+    outcome: &mut Option<Outcome<P, H>>,
+)
     requires shard { IsShardPart part.old }
     requires plan { HasAllocators plan.now frame.old.stripe }
     requires tries { CanTryShard plan.now (allocator_for plan.now frame.old) tried }
     requires few { length frame.old.objects.memories.items < 2 ^ 32 }
-    ensures { ◌≡◌ {A = PartAfter (PoolPart P H) P H} (record { part = part.new; frame = frame.new; outcome = result }) (part_after (lifted (λ x. PoolPart.Shard x) (pick_on plan.now tried (shard_in part.old) frame.old))) }
+    requires unanswered { outcome.old ≡ None }
+    ensures { ◌≡◌ {A = PartAfter (PoolPart P H) P H} (record { part = part.new; frame = frame.new; outcome = outcome.new }) (part_after (lifted (λ x. PoolPart.Shard x) (pick_on plan.now tried (shard_in part.old) frame.old))) }
 {
     match part {
-        PoolPart::Shard(shard) => shard_steps::pick(shard, plan, frame, tried),
+        PoolPart::Shard(shard) => shard_steps::pick(shard, plan, frame, tried, outcome),
         _ => unreachable!(),
     }
 }
@@ -50,14 +52,16 @@ pub(crate) fn free_one<P: Pages, H: GcHeap>(
     alloc: Global,
     frame: &mut Frame<P, H>,
     name: SlotName,
-) -> Option<Outcome<P, H>>
+    outcome: &mut Option<Outcome<P, H>>,
+)
     requires shard { IsShardPart part.old }
     requires home { HasHome plan.now name }
     requires used { IsSome (use_of (shard_in part.old) (home_of plan.now name).local.0) }
-    ensures { ◌≡◌ {A = PartAfter (PoolPart P H) P H} (record { part = part.new; frame = frame.new; outcome = result }) (part_after (lifted (λ x. PoolPart.Shard x) (free_one_on plan.now name (shard_in part.old) frame.old))) }
+    requires unanswered { outcome.old ≡ None }
+    ensures { ◌≡◌ {A = PartAfter (PoolPart P H) P H} (record { part = part.new; frame = frame.new; outcome = outcome.new }) (part_after (lifted (λ x. PoolPart.Shard x) (free_one_on plan.now name (shard_in part.old) frame.old))) }
 {
     match part {
-        PoolPart::Shard(shard) => shard_steps::free_one(shard, plan, alloc, frame, name),
+        PoolPart::Shard(shard) => shard_steps::free_one(shard, plan, alloc, frame, name, outcome),
         _ => unreachable!(),
     }
 }
@@ -68,14 +72,16 @@ pub(crate) fn free<P: Pages, H: GcHeap>(
     alloc: Global,
     frame: &mut Frame<P, H>,
     place: u32,
-) -> Option<Outcome<P, H>>
+    outcome: &mut Option<Outcome<P, H>>,
+)
     requires shard { IsShardPart part.old }
     requires used { AreUsedInTurn plan.now (freed_of plan.now place frame.old.freed.items) (shard_in part.old) }
     requires each { All (CanBeFreed plan.now) frame.old.freed.items }
-    ensures { ◌≡◌ {A = PartAfter (PoolPart P H) P H} (record { part = part.new; frame = frame.new; outcome = result }) (part_after (lifted (λ x. PoolPart.Shard x) (free_on plan.now place (shard_in part.old) frame.old))) }
+    requires unanswered { outcome.old ≡ None }
+    ensures { ◌≡◌ {A = PartAfter (PoolPart P H) P H} (record { part = part.new; frame = frame.new; outcome = outcome.new }) (part_after (lifted (λ x. PoolPart.Shard x) (free_on plan.now place (shard_in part.old) frame.old))) }
 {
     match part {
-        PoolPart::Shard(shard) => shard_steps::free(shard, plan, alloc, frame, place),
+        PoolPart::Shard(shard) => shard_steps::free(shard, plan, alloc, frame, place, outcome),
         _ => unreachable!(),
     }
 }
@@ -85,11 +91,11 @@ pub(crate) fn take_region<P: Pages, H: GcHeap>(
     settings: &Settings,
     frame: &mut Frame<P, H>,
     name: SlotName,
-) -> Option<Outcome<P, H>>
+)
     requires cell { IsCellPart part.old }
     requires there { is_taken (cell_of_part part.old).holds ≡ false }
     requires fresh { (region : _) → (cell_of_part part.old).holds ≡ unmapped region → CanUnmap settings.now name region }
-    ensures { ◌≡◌ {A = PartAfter (PoolPart P H) P H} (record { part = part.new; frame = frame.new; outcome = result }) (part_after (lifted (λ x. part_holding x part.old) (take_region_on settings.now name (cell_of_part part.old) frame.old))) }
+    ensures { ◌≡◌ {A = PartAfter (PoolPart P H) P H} (record { part = part.new; frame = frame.new; outcome = None }) (part_after (lifted (λ x. part_holding x part.old) (take_region_on settings.now name (cell_of_part part.old) frame.old))) }
 {
     match part {
         PoolPart::Memory(cell) => cell_steps::take_region(cell, settings, frame, name),
@@ -104,11 +110,11 @@ pub(crate) fn put_back<P: Pages, H: GcHeap>(
     frame: &mut Frame<P, H>,
     name: SlotName,
     held: ImageSlot<P>,
-) -> Option<Outcome<P, H>>
+)
     requires cell { IsCellPart part.old }
     requires clean { IsCleanOnceUsed (cell_of held) }
     requires own { IsAwaited (cell_of held) (cell_of_part part.old) }
-    ensures { ◌≡◌ {A = PartAfter (PoolPart P H) P H} (record { part = part.new; frame = frame.new; outcome = result }) (part_after (lifted (λ x. part_holding x part.old) (put_back_on name (cell_of held) (cell_of_part part.old) frame.old))) }
+    ensures { ◌≡◌ {A = PartAfter (PoolPart P H) P H} (record { part = part.new; frame = frame.new; outcome = None }) (part_after (lifted (λ x. part_holding x part.old) (put_back_on name (cell_of held) (cell_of_part part.old) frame.old))) }
 {
     match part {
         PoolPart::Memory(cell) => cell_steps::put_back(cell, frame, name, held),
@@ -123,17 +129,19 @@ pub(crate) fn put_region<P: Pages, H: GcHeap>(
     alloc: Global,
     frame: &mut Frame<P, H>,
     item: QueuedSlot<P>,
-) -> Option<Outcome<P, H>>
+    outcome: &mut Option<Outcome<P, H>>,
+)
     requires cell { IsCellPart part.old }
     requires settled { IsSettled item }
     requires own { IsAwaited (cell_returned item) (cell_of_part part.old) }
     requires room { length frame.old.freed.items < frame.old.freed.room }
-    ensures { ◌≡◌ {A = PartAfter (PoolPart P H) P H} (record { part = part.new; frame = frame.new; outcome = result }) (part_after (lifted (λ x. part_holding x part.old) (region_put item (cell_of_part part.old) frame.old))) }
+    requires unanswered { outcome.old ≡ None }
+    ensures { ◌≡◌ {A = PartAfter (PoolPart P H) P H} (record { part = part.new; frame = frame.new; outcome = outcome.new }) (part_after (lifted (λ x. part_holding x part.old) (region_put item (cell_of_part part.old) frame.old))) }
 {
     match part {
-        PoolPart::Memory(cell) => cell_steps::put_region(cell, alloc, frame, item),
-        PoolPart::Table(cell) => cell_steps::put_region(cell, alloc, frame, item),
-        PoolPart::Stack(cell) => cell_steps::put_region(cell, alloc, frame, item),
+        PoolPart::Memory(cell) => cell_steps::put_region(cell, alloc, frame, item, outcome),
+        PoolPart::Table(cell) => cell_steps::put_region(cell, alloc, frame, item, outcome),
+        PoolPart::Stack(cell) => cell_steps::put_region(cell, alloc, frame, item, outcome),
         _ => unreachable!(),
     }
 }
@@ -143,15 +151,17 @@ pub(crate) fn take_queue<P: Pages, H: GcHeap>(
     plan: &Plan,
     alloc: Global,
     frame: &mut Frame<P, H>,
-) -> Option<Outcome<P, H>>
+    outcome: &mut Option<Outcome<P, H>>,
+)
     requires queue { IsQueuePart part.old }
     requires spare { IsSpareOf (queue_in part.old) frame.old.local }
     requires taken { frame.old.queues + 1 < 2 ^ 32 }
     requires plan { HasAllocators plan.now frame.old.stripe }
-    ensures { ◌≡◌ {A = PartAfter (PoolPart P H) P H} (record { part = part.new; frame = frame.new; outcome = result }) (part_after (lifted (λ x. PoolPart.Queue x) (take_queue_on plan.now (queue_in part.old) frame.old))) }
+    requires unanswered { outcome.old ≡ None }
+    ensures { ◌≡◌ {A = PartAfter (PoolPart P H) P H} (record { part = part.new; frame = frame.new; outcome = outcome.new }) (part_after (lifted (λ x. PoolPart.Queue x) (take_queue_on plan.now (queue_in part.old) frame.old))) }
 {
     match part {
-        PoolPart::Queue(queue) => queue_steps::take_queue(queue, plan, alloc, frame),
+        PoolPart::Queue(queue) => queue_steps::take_queue(queue, plan, alloc, frame, outcome),
         _ => unreachable!(),
     }
 }
@@ -161,13 +171,15 @@ pub(crate) fn merge<P: Pages, H: GcHeap>(
     settings: &Settings,
     alloc: Global,
     frame: &mut Frame<P, H>,
-) -> Option<Outcome<P, H>>
+    outcome: &mut Option<Outcome<P, H>>,
+)
     requires queue { IsQueuePart part.old }
     requires can { CanMerge (queue_in part.old) frame.old.local }
-    ensures { ◌≡◌ {A = PartAfter (PoolPart P H) P H} (record { part = part.new; frame = frame.new; outcome = result }) (part_after (lifted (λ x. PoolPart.Queue x) (merge_on settings.now (queue_in part.old) frame.old))) }
+    requires unanswered { outcome.old ≡ None }
+    ensures { ◌≡◌ {A = PartAfter (PoolPart P H) P H} (record { part = part.new; frame = frame.new; outcome = outcome.new }) (part_after (lifted (λ x. PoolPart.Queue x) (merge_on settings.now (queue_in part.old) frame.old))) }
 {
     match part {
-        PoolPart::Queue(queue) => queue_steps::merge(queue, settings, alloc, frame),
+        PoolPart::Queue(queue) => queue_steps::merge(queue, settings, alloc, frame, outcome),
         _ => unreachable!(),
     }
 }

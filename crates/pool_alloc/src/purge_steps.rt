@@ -1,4 +1,4 @@
-ghost use Rattle.std.specs.Prelude.{◌≡◌, ◌+◌, ◌<◌, nat_lt, not, false, Bool, if◌then◌else◌};
+ghost use Rattle.std.specs.Prelude.{◌≡◌, ◌+◌, ◌<◌, nat_lt, not, false, Bool, if◌then◌else◌, None};
 ghost use Rattle.pool_images.specs.Orders.{Follows, wiping, removing};
 ghost use Rattle.pool_images.specs.Slots.{Slot, IsClean};
 ghost use Rattle.pool_slots.specs.Cells.{is_taken};
@@ -27,16 +27,18 @@ impl<P: Pages, H: GcHeap> PoolCore<P, H> {
         frame: &mut Frame<P, H>,
         cursor: PurgeCursor,
         step: PurgeStep<P>,
-    ) -> Option<Outcome<P, H>>
-        requires { CanPurge cursor step self.old }
-        ensures { (g : StepGiven H) × PurgeTold g step × PurgePlanned g step × (◌≡◌ {A = After P H} (record { core = self.new; frame = frame.new; outcome = result }) (stepped (purge_row g cursor step self.old frame.old))) }
+        outcome: &mut Option<Outcome<P, H>>,
+    )
+        requires can { CanPurge cursor step self.old }
+        requires unanswered { outcome.old ≡ None }
+        ensures { (g : StepGiven H) × PurgeTold g step × PurgePlanned g step × (◌≡◌ {A = After P H} (record { core = self.new; frame = frame.new; outcome = outcome.new }) (stepped (purge_row g cursor step self.old frame.old))) }
     {
         match step {
-            PurgeStep::Pick(tried) => self.pick_affine(frame, cursor, tried),
+            PurgeStep::Pick(tried) => self.pick_affine(frame, cursor, tried, outcome),
             PurgeStep::TakeRegion(name) => self.take_affine(frame, cursor, name),
             PurgeStep::Forget(at, held) => forget(frame, cursor, at, held),
             PurgeStep::PutRegion(at, held) => self.put_affine(frame, cursor, at, held),
-            PurgeStep::Free(name) => self.free_affine(frame, cursor, name),
+            PurgeStep::Free(name) => self.free_affine(frame, cursor, name, outcome),
         }
     }
 
@@ -46,18 +48,20 @@ impl<P: Pages, H: GcHeap> PoolCore<P, H> {
         frame: &mut Frame<P, H>,
         cursor: PurgeCursor,
         tried: u32,
-    ) -> Option<Outcome<P, H>>
-        requires { CanPurge cursor (PurgeStep.Pick tried) self.old }
-        ensures { (g : StepGiven H) → ◌≡◌ {A = After P H} (record { core = self.new; frame = frame.new; outcome = result }) (stepped (purge_row g cursor (PurgeStep.Pick tried) self.old frame.old)) }
+        outcome: &mut Option<Outcome<P, H>>,
+    )
+        requires can { CanPurge cursor (PurgeStep.Pick tried) self.old }
+        requires unanswered { outcome.old ≡ None }
+        ensures { (g : StepGiven H) → ◌≡◌ {A = After P H} (record { core = self.new; frame = frame.new; outcome = outcome.new }) (stepped (purge_row g cursor (PurgeStep.Pick tried) self.old frame.old)) }
     {
         if !self.has_turns() {
-            return frame.end(Outcome::Purged(cursor.purged));
+            return frame.end(Outcome::Purged(cursor.purged), outcome);
         }
         let place = cursor.allocator(&self.plan).first_place + tried;
         let part = self.parts.at(place);
         match part_calls::pick_affine_in(part, cursor.wanted()) {
             Some(slot) => found(frame, cursor, slot),
-            None => missed(&self.settings, &self.plan, frame, cursor, tried),
+            None => missed(&self.settings, &self.plan, frame, cursor, tried, outcome),
         }
     }
 
@@ -69,14 +73,9 @@ impl<P: Pages, H: GcHeap> PoolCore<P, H> {
     }
 
     // Takes the region of the slot that was found.
-    fn take_affine(
-        &mut self,
-        frame: &mut Frame<P, H>,
-        cursor: PurgeCursor,
-        name: SlotName,
-    ) -> Option<Outcome<P, H>>
+    fn take_affine(&mut self, frame: &mut Frame<P, H>, cursor: PurgeCursor, name: SlotName)
         requires { CanTakeOf name self.old }
-        ensures { (g : StepGiven H) → ◌≡◌ {A = After P H} (record { core = self.new; frame = frame.new; outcome = result }) (stepped (purge_row g cursor (PurgeStep.TakeRegion name) self.old frame.old)) }
+        ensures { (g : StepGiven H) → ◌≡◌ {A = After P H} (record { core = self.new; frame = frame.new; outcome = None }) (stepped (purge_row g cursor (PurgeStep.TakeRegion name) self.old frame.old)) }
     {
         let place = self.plan.cell_place(name);
         let part = self.parts.at(place);
@@ -92,9 +91,9 @@ impl<P: Pages, H: GcHeap> PoolCore<P, H> {
         cursor: PurgeCursor,
         at: TakenSlot,
         held: ImageSlot<P>,
-    ) -> Option<Outcome<P, H>>
+    )
         requires { CanPutOf at.name held self.old }
-        ensures { (g : StepGiven H) → ◌≡◌ {A = After P H} (record { core = self.new; frame = frame.new; outcome = result }) (stepped (purge_row g cursor (PurgeStep.PutRegion at held) self.old frame.old)) }
+        ensures { (g : StepGiven H) → ◌≡◌ {A = After P H} (record { core = self.new; frame = frame.new; outcome = None }) (stepped (purge_row g cursor (PurgeStep.PutRegion at held) self.old frame.old)) }
     {
         let place = self.plan.cell_place(at.name);
         let part = self.parts.at(place);
@@ -108,10 +107,12 @@ impl<P: Pages, H: GcHeap> PoolCore<P, H> {
         frame: &mut Frame<P, H>,
         cursor: PurgeCursor,
         name: SlotName,
-    ) -> Option<Outcome<P, H>>
+        outcome: &mut Option<Outcome<P, H>>,
+    )
         requires going { CanGoOn self.old.settings self.old.plan cursor }
         requires slot { CanFreeOf name self.old }
-        ensures { (g : StepGiven H) → ◌≡◌ {A = After P H} (record { core = self.new; frame = frame.new; outcome = result }) (stepped (purge_row g cursor (PurgeStep.Free name) self.old frame.old)) }
+        requires unanswered { outcome.old ≡ None }
+        ensures { (g : StepGiven H) → ◌≡◌ {A = After P H} (record { core = self.new; frame = frame.new; outcome = outcome.new }) (stepped (purge_row g cursor (PurgeStep.Free name) self.old frame.old)) }
     {
         let home = home(&self.plan, name);
         let part = self.parts.at(home.place);
@@ -120,17 +121,14 @@ impl<P: Pages, H: GcHeap> PoolCore<P, H> {
             frame,
             cursor,
             cursor.behind_turn(&self.settings, &self.plan),
+            outcome,
         )
     }
 }
 
 // A slot was found.
-fn found<P: Pages, H: GcHeap>(
-    frame: &mut Frame<P, H>,
-    cursor: PurgeCursor,
-    slot: u32,
-) -> Option<Outcome<P, H>>
-    ensures { ◌≡◌ {A = Left P H} (record { frame = frame.new; outcome = result }) (after frame.old (goes (Phase.Purge (found_one cursor) (PurgeStep.TakeRegion (memory_slot slot))))) }
+fn found<P: Pages, H: GcHeap>(frame: &mut Frame<P, H>, cursor: PurgeCursor, slot: u32)
+    ensures { ◌≡◌ {A = Left P H} (record { frame = frame.new; outcome = None }) (after frame.old (goes (Phase.Purge (found_one cursor) (PurgeStep.TakeRegion (memory_slot slot))))) }
 {
     let step = PurgeStep::TakeRegion(memory_slot(slot));
     frame.go(Phase::Purge(cursor.found_one(), step))
@@ -143,16 +141,18 @@ fn missed<P: Pages, H: GcHeap>(
     frame: &mut Frame<P, H>,
     cursor: PurgeCursor,
     tried: u32,
-) -> Option<Outcome<P, H>>
+    outcome: &mut Option<Outcome<P, H>>,
+)
     requires going { CanGoOn settings.now plan.now cursor }
     requires tried { tried < (purged_stripe plan.now cursor).shards }
-    ensures { ◌≡◌ {A = Left P H} (record { frame = frame.new; outcome = result }) (after frame.old (if nat_lt (tried + 1) (purged_stripe plan.now cursor).shards then goes (Phase.Purge cursor (PurgeStep.Pick (tried + 1))) else purge_to cursor (behind_memory settings.now.max_memories_per_module plan.now cursor))) }
+    requires unanswered { outcome.old ≡ None }
+    ensures { ◌≡◌ {A = Left P H} (record { frame = frame.new; outcome = outcome.new }) (after frame.old (if nat_lt (tried + 1) (purged_stripe plan.now cursor).shards then goes (Phase.Purge cursor (PurgeStep.Pick (tried + 1))) else purge_to cursor (behind_memory settings.now.max_memories_per_module plan.now cursor))) }
 {
     let shards = cursor.allocator(plan).shards;
     if tried + 1 < shards {
         return frame.go(Phase::Purge(cursor, PurgeStep::Pick(tried + 1)));
     }
-    purge_to(frame, cursor, cursor.behind_memory(settings, plan))
+    purge_to(frame, cursor, cursor.behind_memory(settings, plan), outcome)
 }
 
 // The purge goes on there, or ends.
@@ -160,12 +160,14 @@ fn purge_to<P: Pages, H: GcHeap>(
     frame: &mut Frame<P, H>,
     cursor: PurgeCursor,
     next: Option<PurgeCursor>,
-) -> Option<Outcome<P, H>>
-    ensures { ◌≡◌ {A = Left P H} (record { frame = frame.new; outcome = result }) (after frame.old (purge_to cursor next)) }
+    outcome: &mut Option<Outcome<P, H>>,
+)
+    requires unanswered { outcome.old ≡ None }
+    ensures { ◌≡◌ {A = Left P H} (record { frame = frame.new; outcome = outcome.new }) (after frame.old (purge_to cursor next)) }
 {
     match next {
         Some(next) => frame.go(Phase::Purge(next, PurgeStep::Pick(0))),
-        None => frame.end(Outcome::Purged(cursor.purged)),
+        None => frame.end(Outcome::Purged(cursor.purged), outcome),
     }
 }
 
@@ -175,10 +177,10 @@ fn forget<P: Pages, H: GcHeap>(
     cursor: PurgeCursor,
     at: TakenSlot,
     held: ImageSlot<P>,
-) -> Option<Outcome<P, H>>
+)
     requires can { CanForget held }
     requires there { is_taken (cell_of held) ≡ false }
-    ensures { (fault : Bool) × (slot : Slot) × Forgets fault held slot × FollowsForget fault held slot × (◌≡◌ {A = Left P H} (record { frame = frame.new; outcome = result }) (after frame.old (goes (Phase.Purge cursor (PurgeStep.PutRegion at (after_forgetting fault held slot)))))) }
+    ensures { (fault : Bool) × (slot : Slot) × Forgets fault held slot × FollowsForget fault held slot × (◌≡◌ {A = Left P H} (record { frame = frame.new; outcome = None }) (after frame.old (goes (Phase.Purge cursor (PurgeStep.PutRegion at (after_forgetting fault held slot)))))) }
 {
     let left = forgotten(held);
     frame.go(Phase::Purge(cursor, PurgeStep::PutRegion(at, left)))

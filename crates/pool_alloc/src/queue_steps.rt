@@ -1,4 +1,4 @@
-ghost use Rattle.std.specs.Prelude.{◌≡◌, ◌+◌, ◌<◌, ◌≤◌, ◌^◌, length};
+ghost use Rattle.std.specs.Prelude.{◌≡◌, ◌+◌, ◌<◌, ◌≤◌, ◌^◌, length, None};
 ghost use Rattle.pool_slots.specs.SlotQueues.{Queue, IsSpareOf};
 ghost use Rattle.pool_slots.specs.QueueMerges.{CanMerge};
 ghost use Rattle.pool_alloc.specs.Rows.{take_queue_on, merge_on};
@@ -17,18 +17,20 @@ pub(crate) fn take_queue<P: Pages, H: GcHeap>(
     plan: &Plan,
     alloc: Global,
     frame: &mut Frame<P, H>,
-) -> Option<Outcome<P, H>>
+    outcome: &mut Option<Outcome<P, H>>,
+)
     requires spare { IsSpareOf queue.old frame.old.local }
     requires taken { frame.old.queues + 1 < 2 ^ 32 }
     requires plan { HasAllocators plan.now frame.old.stripe }
-    ensures { ◌≡◌ {A = PartAfter Queue P H} (record { part = queue.new; frame = frame.new; outcome = result }) (part_after (take_queue_on plan.now queue.old frame.old)) }
+    requires unanswered { outcome.old ≡ None }
+    ensures { ◌≡◌ {A = PartAfter Queue P H} (record { part = queue.new; frame = frame.new; outcome = outcome.new }) (part_after (take_queue_on plan.now queue.old frame.old)) }
 {
     queue.take(&mut frame.local);
     frame.queues += 1;
     if frame.local.is_empty() {
-        frame.search_slot(plan)
+        frame.search_slot(plan, outcome)
     } else {
-        frame.flush(alloc)
+        frame.flush(alloc, outcome)
     }
 }
 
@@ -38,13 +40,15 @@ pub(crate) fn merge<P: Pages, H: GcHeap>(
     settings: &Settings,
     alloc: Global,
     frame: &mut Frame<P, H>,
-) -> Option<Outcome<P, H>>
-    requires { CanMerge queue.old frame.old.local }
-    ensures { ◌≡◌ {A = PartAfter Queue P H} (record { part = queue.new; frame = frame.new; outcome = result }) (part_after (merge_on settings.now queue.old frame.old)) }
+    outcome: &mut Option<Outcome<P, H>>,
+)
+    requires can { CanMerge queue.old frame.old.local }
+    requires unanswered { outcome.old ≡ None }
+    ensures { ◌≡◌ {A = PartAfter Queue P H} (record { part = queue.new; frame = frame.new; outcome = outcome.new }) (part_after (merge_on settings.now queue.old frame.old)) }
 {
     if queue.merge(&mut frame.local, settings.batch) {
-        frame.flush(alloc)
+        frame.flush(alloc, outcome)
     } else {
-        frame.next(alloc)
+        frame.next(alloc, outcome)
     }
 }

@@ -1,10 +1,10 @@
-ghost use Rattle.std.specs.Prelude.{◌≡◌, ◌<◌, not, Bool};
+ghost use Rattle.std.specs.Prelude.{◌≡◌, ◌<◌, not, Bool, None};
 ghost use Rattle.pool_images.specs.Orders.{Follows, wiping};
 ghost use Rattle.pool_images.specs.Slots.{Slot};
 ghost use Rattle.pool_alloc.specs.Answers.{Empties};
 ghost use Rattle.pool_alloc.specs.CanStep.{CanStepAt};
 ghost use Rattle.pool_alloc.specs.Rows.{empty_row, uncount_object_row, uncount_instance_row};
-ghost use Rattle.pool_alloc.specs.Turns.{After, stepped};
+ghost use Rattle.pool_alloc.specs.Turns.{After, stepped, resting};
 
 use crate::frame::{Frame, Object, Outcome, Phase, TakenSlot};
 use crate::frame_turns::answer_of;
@@ -18,13 +18,8 @@ use pool_slots::{AllocError, GcHeap, ImageSlot};
 impl<P: Pages, H: GcHeap> PoolCore<P, H> {
     // Empties an image slot of which nothing is known.
     #[inline(never)]
-    pub(crate) fn empty(
-        &mut self,
-        frame: &mut Frame<P, H>,
-        at: TakenSlot,
-        held: MemoryImageSlot<P>,
-    ) -> Option<Outcome<P, H>>
-        ensures { (fault : Bool) × (after : Slot) × Empties fault held after × Follows (wiping held) (not fault) held.region after.region × (◌≡◌ {A = After P H} (record { core = self.new; frame = frame.new; outcome = result }) (stepped (empty_row fault after at self.old frame.old))) }
+    pub(crate) fn empty(&mut self, frame: &mut Frame<P, H>, at: TakenSlot, held: MemoryImageSlot<P>)
+        ensures { (fault : Bool) × (after : Slot) × Empties fault held after × Follows (wiping held) (not fault) held.region after.region × (◌≡◌ {A = After P H} (record { core = self.new; frame = frame.new; outcome = None }) (stepped (empty_row fault after at self.old frame.old))) }
     {
         let mut held = held;
         let phase = match held.reset_with_anon_memory() {
@@ -40,13 +35,9 @@ impl<P: Pages, H: GcHeap> PoolCore<P, H> {
 
     // An object that is given back is no grant any more.
     #[inline(never)]
-    pub(crate) fn uncount_object(
-        &mut self,
-        frame: &mut Frame<P, H>,
-        object: Object<P>,
-    ) -> Option<Outcome<P, H>>
+    pub(crate) fn uncount_object(&mut self, frame: &mut Frame<P, H>, object: Object<P>)
         requires { CanStepAt (Phase.UncountObject object) self.old frame.old }
-        ensures { ◌≡◌ {A = After P H} (record { core = self.new; frame = frame.new; outcome = result }) (stepped (uncount_object_row object self.old frame.old)) }
+        ensures { ◌≡◌ {A = After P H} (record { core = self.new; frame = frame.new; outcome = None }) (stepped (uncount_object_row object self.old frame.old)) }
     {
         match object {
             Object::Memory(lease) => self.uncount_memory(frame, lease),
@@ -55,36 +46,34 @@ impl<P: Pages, H: GcHeap> PoolCore<P, H> {
         }
     }
 
-    fn uncount_memory(
-        &mut self,
-        frame: &mut Frame<P, H>,
-        lease: MemoryLease<P>,
-    ) -> Option<Outcome<P, H>>
+    fn uncount_memory(&mut self, frame: &mut Frame<P, H>, lease: MemoryLease<P>)
         requires { 0 < self.old.counters.memories }
-        ensures { ◌≡◌ {A = After P H} (record { core = self.new; frame = frame.new; outcome = result }) (stepped (uncount_object_row (Object.Memory lease) self.old frame.old)) }
+        ensures { ◌≡◌ {A = After P H} (record { core = self.new; frame = frame.new; outcome = None }) (stepped (uncount_object_row (Object.Memory lease) self.old frame.old)) }
     {
         self.counters.memories -= 1;
         frame.go(Phase::Reset(Object::Memory(lease)))
     }
 
-    fn uncount_table(
-        &mut self,
-        frame: &mut Frame<P, H>,
-        lease: TableLease<P>,
-    ) -> Option<Outcome<P, H>>
+    fn uncount_table(&mut self, frame: &mut Frame<P, H>, lease: TableLease<P>)
         requires { 0 < self.old.counters.tables }
-        ensures { ◌≡◌ {A = After P H} (record { core = self.new; frame = frame.new; outcome = result }) (stepped (uncount_object_row (Object.Table lease) self.old frame.old)) }
+        ensures { ◌≡◌ {A = After P H} (record { core = self.new; frame = frame.new; outcome = None }) (stepped (uncount_object_row (Object.Table lease) self.old frame.old)) }
     {
         self.counters.tables -= 1;
         frame.go(Phase::Reset(Object::Table(lease)))
     }
 
     #[inline(never)]
-    pub(crate) fn uncount_instance(&mut self, frame: &mut Frame<P, H>) -> Option<Outcome<P, H>>
-        requires { 0 < self.old.counters.core_instances }
-        ensures { ◌≡◌ {A = After P H} (record { core = self.new; frame = frame.new; outcome = result }) (stepped (uncount_instance_row self.old frame.old)) }
+    pub(crate) fn uncount_instance(
+        &mut self,
+        frame: &mut Frame<P, H>,
+        outcome: &mut Option<Outcome<P, H>>,
+    )
+        requires can { 0 < self.old.counters.core_instances }
+        requires unanswered { outcome.old ≡ None }
+        ensures { ◌≡◌ {A = After P H} (record { core = self.new; frame = frame.new; outcome = outcome.new }) (stepped (uncount_instance_row self.old (resting frame.old))) }
     {
+        frame.rest();
         self.counters.core_instances -= 1;
-        frame.end(answer_of(frame.ending))
+        frame.end(answer_of(frame.ending), outcome)
     }
 }

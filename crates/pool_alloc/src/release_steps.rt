@@ -1,4 +1,4 @@
-ghost use Rattle.std.specs.Prelude.{◌≡◌, ◌+◌, ◌<◌, ◌≤◌, ◌^◌, ◌∷◌, ◌||◌, [], length, not, false, Bool};
+ghost use Rattle.std.specs.Prelude.{◌≡◌, ◌+◌, ◌<◌, ◌≤◌, ◌^◌, ◌∷◌, ◌||◌, [], length, not, false, Bool, None};
 ghost use Rattle.pool_pages.specs.Told.{decommitting};
 ghost use Rattle.pool_images.specs.Orders.{Follows};
 ghost use Rattle.pool_images.specs.Slots.{Slot, IsClean};
@@ -31,35 +31,43 @@ impl<P: Pages, H: GcHeap> PoolCore<P, H> {
         alloc: Global,
         frame: &mut Frame<P, H>,
         step: ReleaseStep<P>,
-    ) -> Option<Outcome<P, H>>
-        requires { CanRelease step self.old }
-        ensures { (g : StepGiven H) × ReleaseTold self.old.settings g step × ReleasePlanned self.old.settings g step × (◌≡◌ {A = After P H} (record { core = self.new; frame = frame.new; outcome = result }) (stepped (release_row g step self.old frame.old))) }
+        outcome: &mut Option<Outcome<P, H>>,
+    )
+        requires can { CanRelease step self.old }
+        requires unanswered { outcome.old ≡ None }
+        ensures { (g : StepGiven H) × ReleaseTold self.old.settings g step × ReleasePlanned self.old.settings g step × (◌≡◌ {A = After P H} (record { core = self.new; frame = frame.new; outcome = outcome.new }) (stepped (release_row g step self.old frame.old))) }
     {
         match step {
-            ReleaseStep::Reserve => self.reserve(alloc, frame),
-            ReleaseStep::TakeWarm(cursor, shard) => self.take_warm(frame, cursor, shard),
+            ReleaseStep::Reserve => self.reserve(alloc, frame, outcome),
+            ReleaseStep::TakeWarm(cursor, shard) => self.take_warm(frame, cursor, shard, outcome),
             ReleaseStep::TakeRegion(cursor, at) => self.take_resident(frame, cursor, at),
             ReleaseStep::Decommit(cursor, at, slot, held) => {
                 decommit(&self.settings, frame, cursor, at, slot, held)
             }
             ReleaseStep::PutRegion(cursor, at, slot, held) => {
-                self.put_resident(frame, cursor, at, slot, held)
+                self.put_resident(frame, cursor, at, slot, held, outcome)
             }
-            ReleaseStep::Free(cursor, slot) => self.free_taken(frame, cursor, slot),
+            ReleaseStep::Free(cursor, slot) => self.free_taken(frame, cursor, slot, outcome),
         }
     }
 
     // Reserves room for the slots of all stripes.
-    fn reserve(&mut self, alloc: Global, frame: &mut Frame<P, H>) -> Option<Outcome<P, H>>
-        requires { length self.old.plan.memories < 2 ^ 32 }
-        ensures { (wants : Bool) × (◌≡◌ {A = After P H} (record { core = self.new; frame = frame.new; outcome = result }) (stepped (reserve_row wants self.old frame.old))) }
+    fn reserve(
+        &mut self,
+        alloc: Global,
+        frame: &mut Frame<P, H>,
+        outcome: &mut Option<Outcome<P, H>>,
+    )
+        requires can { length self.old.plan.memories < 2 ^ 32 }
+        requires unanswered { outcome.old ≡ None }
+        ensures { (wants : Bool) × (◌≡◌ {A = After P H} (record { core = self.new; frame = frame.new; outcome = outcome.new }) (stepped (reserve_row wants self.old frame.old))) }
     {
         let room = slots_in(self.plan.memories.as_slice());
         let Ok(local) = Taken::new(alloc, room) else {
-            return frame.end(Outcome::Refused(AllocError::Memory));
+            return frame.end(Outcome::Refused(AllocError::Memory), outcome);
         };
         let Ok(taken) = ReservedList::with_room(alloc, room) else {
-            return frame.end(Outcome::Refused(AllocError::Memory));
+            return frame.end(Outcome::Refused(AllocError::Memory), outcome);
         };
         let cursor = ReleaseCursor {
             stripe: 0,
@@ -77,9 +85,11 @@ impl<P: Pages, H: GcHeap> PoolCore<P, H> {
         frame: &mut Frame<P, H>,
         cursor: ReleaseCursor,
         shard: u32,
-    ) -> Option<Outcome<P, H>>
-        requires { CanTakeWarm self.old cursor shard }
-        ensures { (g : StepGiven H) → ◌≡◌ {A = After P H} (record { core = self.new; frame = frame.new; outcome = result }) (stepped (release_row g (ReleaseStep.TakeWarm cursor shard) self.old frame.old)) }
+        outcome: &mut Option<Outcome<P, H>>,
+    )
+        requires can { CanTakeWarm self.old cursor shard }
+        requires unanswered { outcome.old ≡ None }
+        ensures { (g : StepGiven H) → ◌≡◌ {A = After P H} (record { core = self.new; frame = frame.new; outcome = outcome.new }) (stepped (release_row g (ReleaseStep.TakeWarm cursor shard) self.old frame.old)) }
     {
         let mut cursor = cursor;
         let allocator = cursor.allocator(&self.plan);
@@ -88,19 +98,14 @@ impl<P: Pages, H: GcHeap> PoolCore<P, H> {
         if shard + 1 < allocator.shards {
             return frame.go(Phase::Release(ReleaseStep::TakeWarm(cursor, shard + 1)));
         }
-        drain_from(&self.plan, frame, cursor, 0)
+        drain_from(&self.plan, frame, cursor, 0, outcome)
     }
 
     // Takes the region of the slot at this place of those that were taken.
-    fn take_resident(
-        &mut self,
-        frame: &mut Frame<P, H>,
-        cursor: ReleaseCursor,
-        at: usize,
-    ) -> Option<Outcome<P, H>>
+    fn take_resident(&mut self, frame: &mut Frame<P, H>, cursor: ReleaseCursor, at: usize)
         requires inside { at < length cursor.taken.items }
         requires can { CanTakeOf (nth_taken cursor at).name self.old }
-        ensures { (g : StepGiven H) → ◌≡◌ {A = After P H} (record { core = self.new; frame = frame.new; outcome = result }) (stepped (release_row g (ReleaseStep.TakeRegion cursor at) self.old frame.old)) }
+        ensures { (g : StepGiven H) → ◌≡◌ {A = After P H} (record { core = self.new; frame = frame.new; outcome = None }) (stepped (release_row g (ReleaseStep.TakeRegion cursor at) self.old frame.old)) }
     {
         let name = cursor.slot(at).name;
         let place = self.plan.cell_place(name);
@@ -118,16 +123,18 @@ impl<P: Pages, H: GcHeap> PoolCore<P, H> {
         at: usize,
         slot: TakenSlot,
         held: ImageSlot<P>,
-    ) -> Option<Outcome<P, H>>
+        outcome: &mut Option<Outcome<P, H>>,
+    )
         requires going { CanEndStripe self.old.plan cursor }
         requires inside { at < length cursor.taken.items }
         requires can { CanPutOf slot.name held self.old }
-        ensures { (g : StepGiven H) → ◌≡◌ {A = After P H} (record { core = self.new; frame = frame.new; outcome = result }) (stepped (release_row g (ReleaseStep.PutRegion cursor at slot held) self.old frame.old)) }
+        requires unanswered { outcome.old ≡ None }
+        ensures { (g : StepGiven H) → ◌≡◌ {A = After P H} (record { core = self.new; frame = frame.new; outcome = outcome.new }) (stepped (release_row g (ReleaseStep.PutRegion cursor at slot held) self.old frame.old)) }
     {
         let place = self.plan.cell_place(slot.name);
         let part = self.parts.at(place);
         part_calls::put_image_in(part, held);
-        drain_from(&self.plan, frame, cursor, at + 1)
+        drain_from(&self.plan, frame, cursor, at + 1, outcome)
     }
 
     // Frees a slot. It keeps nothing resident where all decommits of the stripe succeeded.
@@ -136,18 +143,20 @@ impl<P: Pages, H: GcHeap> PoolCore<P, H> {
         frame: &mut Frame<P, H>,
         cursor: ReleaseCursor,
         slot: FreedSlot,
-    ) -> Option<Outcome<P, H>>
+        outcome: &mut Option<Outcome<P, H>>,
+    )
         requires going { CanEndStripe self.old.plan cursor }
         requires bytes { slot.bytes ≤ 2 ^ 32 }
         requires can { CanFreeOf slot.name self.old }
-        ensures { (g : StepGiven H) → ◌≡◌ {A = After P H} (record { core = self.new; frame = frame.new; outcome = result }) (stepped (release_row g (ReleaseStep.Free cursor slot) self.old frame.old)) }
+        requires unanswered { outcome.old ≡ None }
+        ensures { (g : StepGiven H) → ◌≡◌ {A = After P H} (record { core = self.new; frame = frame.new; outcome = outcome.new }) (stepped (release_row g (ReleaseStep.Free cursor slot) self.old frame.old)) }
     {
         let mut cursor = cursor;
         let home = home(&self.plan, slot.name);
         let part = self.parts.at(home.place);
         part_calls::free_in(part, home.local, cursor.bytes_kept(slot));
         cursor.releasing(slot);
-        free_first(&self.plan, frame, cursor)
+        free_first(&self.plan, frame, cursor, outcome)
     }
 }
 
@@ -169,16 +178,18 @@ fn drain_from<P: Pages, H: GcHeap>(
     frame: &mut Frame<P, H>,
     cursor: ReleaseCursor,
     from: usize,
-) -> Option<Outcome<P, H>>
+    outcome: &mut Option<Outcome<P, H>>,
+)
     requires going { CanEndStripe plan.now cursor }
     requires inside { from ≤ length cursor.taken.items }
-    ensures { ◌≡◌ {A = Left P H} (record { frame = frame.new; outcome = result }) (after frame.old (drain_from plan.now cursor from)) }
+    requires unanswered { outcome.old ≡ None }
+    ensures { ◌≡◌ {A = Left P H} (record { frame = frame.new; outcome = outcome.new }) (after frame.old (drain_from plan.now cursor from)) }
 {
     let next = cursor.next_resident(from);
     if next < cursor.taken.len() {
         return frame.go(Phase::Release(ReleaseStep::TakeRegion(cursor, next)));
     }
-    free_first(plan, frame, cursor)
+    free_first(plan, frame, cursor, outcome)
 }
 
 // The first slot is freed, or the stripe is done.
@@ -186,14 +197,16 @@ fn free_first<P: Pages, H: GcHeap>(
     plan: &Plan,
     frame: &mut Frame<P, H>,
     cursor: ReleaseCursor,
-) -> Option<Outcome<P, H>>
-    requires { CanEndStripe plan.now cursor }
-    ensures { ◌≡◌ {A = Left P H} (record { frame = frame.new; outcome = result }) (after frame.old (free_first plan.now cursor.taken.items cursor)) }
+    outcome: &mut Option<Outcome<P, H>>,
+)
+    requires can { CanEndStripe plan.now cursor }
+    requires unanswered { outcome.old ≡ None }
+    ensures { ◌≡◌ {A = Left P H} (record { frame = frame.new; outcome = outcome.new }) (after frame.old (free_first plan.now cursor.taken.items cursor)) }
 {
     let mut cursor = cursor;
     match cursor.taken.pop_first() {
         Some(slot) => frame.go(Phase::Release(ReleaseStep::Free(cursor, slot))),
-        None => behind_stripe(plan, frame, cursor),
+        None => behind_stripe(plan, frame, cursor, outcome),
     }
 }
 
@@ -202,10 +215,12 @@ fn behind_stripe<P: Pages, H: GcHeap>(
     plan: &Plan,
     frame: &mut Frame<P, H>,
     cursor: ReleaseCursor,
-) -> Option<Outcome<P, H>>
+    outcome: &mut Option<Outcome<P, H>>,
+)
     requires going { CanEndStripe plan.now cursor }
     requires none { cursor.taken.items ≡ [] }
-    ensures { ◌≡◌ {A = Left P H} (record { frame = frame.new; outcome = result }) (after frame.old (behind_stripe plan.now cursor)) }
+    requires unanswered { outcome.old ≡ None }
+    ensures { ◌≡◌ {A = Left P H} (record { frame = frame.new; outcome = outcome.new }) (after frame.old (behind_stripe plan.now cursor)) }
 {
     let mut cursor = cursor;
     if cursor.stripe + 1 < plan.memories.len() as u32 {
@@ -213,7 +228,7 @@ fn behind_stripe<P: Pages, H: GcHeap>(
         cursor.failed = false;
         return frame.go(Phase::Release(ReleaseStep::TakeWarm(cursor, 0)));
     }
-    frame.end(Outcome::Released(cursor.released))
+    frame.end(Outcome::Released(cursor.released), outcome)
 }
 
 // The whole region of a slot is decommitted.
@@ -224,10 +239,10 @@ fn decommit<P: Pages, H: GcHeap>(
     at: usize,
     slot: TakenSlot,
     held: ImageSlot<P>,
-) -> Option<Outcome<P, H>>
+)
     requires can { CanDrain settings.now held }
     requires there { is_taken (cell_of held) ≡ false }
-    ensures { (fault : Bool) × (left : Slot) × Drains settings.now fault held left × FollowsDrain settings.now fault held left × (◌≡◌ {A = Left P H} (record { frame = frame.new; outcome = result }) (after frame.old (goes (Phase.Release (ReleaseStep.PutRegion (record cursor { failed = cursor.failed || fault }) at slot (after_decommit held left)))))) }
+    ensures { (fault : Bool) × (left : Slot) × Drains settings.now fault held left × FollowsDrain settings.now fault held left × (◌≡◌ {A = Left P H} (record { frame = frame.new; outcome = None }) (after frame.old (goes (Phase.Release (ReleaseStep.PutRegion (record cursor { failed = cursor.failed || fault }) at slot (after_decommit held left)))))) }
 {
     let mut cursor = cursor;
     let (fault, left) = drained(settings, held);

@@ -27,14 +27,16 @@ impl<P: Pages, H: GcHeap> PoolCore<P, H> {
         alloc: Global,
         frame: &mut Frame<P, H>,
         object: Object<P>,
-    ) -> Option<Outcome<P, H>>
-        requires { CanStepAt (Phase.Reset object) self.old frame.old }
-        ensures { (g : StepGiven H) × ResetTold self.old.settings g object × ResetPlanned self.old.settings g object × (◌≡◌ {A = After P H} (record { core = self.new; frame = frame.new; outcome = result }) (stepped (reset_row g object self.old frame.old))) }
+        outcome: &mut Option<Outcome<P, H>>,
+    )
+        requires can { CanStepAt (Phase.Reset object) self.old frame.old }
+        requires unanswered { outcome.old ≡ None }
+        ensures { (g : StepGiven H) × ResetTold self.old.settings g object × ResetPlanned self.old.settings g object × (◌≡◌ {A = After P H} (record { core = self.new; frame = frame.new; outcome = outcome.new }) (stepped (reset_row g object self.old frame.old))) }
     {
         match object {
-            Object::Memory(lease) => self.reset_memory(alloc, frame, lease),
-            Object::Table(lease) => self.reset_table(alloc, frame, lease),
-            Object::Stack(lease) => self.reset_stack(alloc, frame, lease),
+            Object::Memory(lease) => self.reset_memory(alloc, frame, lease, outcome),
+            Object::Table(lease) => self.reset_table(alloc, frame, lease, outcome),
+            Object::Stack(lease) => self.reset_stack(alloc, frame, lease, outcome),
         }
     }
 
@@ -44,13 +46,15 @@ impl<P: Pages, H: GcHeap> PoolCore<P, H> {
         alloc: Global,
         frame: &mut Frame<P, H>,
         lease: TableLease<P>,
-    ) -> Option<Outcome<P, H>>
-        requires { CanResetTable self.old.settings lease frame.old.local }
-        ensures { ◌≡◌ {A = After P H} (record { core = self.new; frame = frame.new; outcome = result }) (stepped (table_reset_row lease self.old frame.old)) }
+        outcome: &mut Option<Outcome<P, H>>,
+    )
+        requires can { CanResetTable self.old.settings lease frame.old.local }
+        requires unanswered { outcome.old ≡ None }
+        ensures { ◌≡◌ {A = After P H} (record { core = self.new; frame = frame.new; outcome = outcome.new }) (stepped (table_reset_row lease self.old frame.old)) }
     {
         let keep = self.settings.table_keep_resident;
         reset_table(self.settings.page, keep, lease, &mut frame.local);
-        was_reset(alloc, self.settings.batch, frame)
+        was_reset(alloc, self.settings.batch, frame, outcome)
     }
 
     // Resets a memory into the local queue. That is flushed where it has no range or as many as a batch, and else goes
@@ -60,9 +64,11 @@ impl<P: Pages, H: GcHeap> PoolCore<P, H> {
         alloc: Global,
         frame: &mut Frame<P, H>,
         lease: MemoryLease<P>,
-    ) -> Option<Outcome<P, H>>
-        requires { CanReset self.old.settings (slot_of lease.memory) frame.old.local }
-        ensures { (fault : Bool) × (after : Slot) × Resets fault self.old.settings.keep_resident.bytes (slot_taken lease) (slot_of lease.memory) after × FollowsReset self.old.settings.keep_resident.bytes fault (slot_of lease.memory) after × (◌≡◌ {A = After P H} (record { core = self.new; frame = frame.new; outcome = result }) (stepped (was_reset fault after lease self.old frame.old))) }
+        outcome: &mut Option<Outcome<P, H>>,
+    )
+        requires can { CanReset self.old.settings (slot_of lease.memory) frame.old.local }
+        requires unanswered { outcome.old ≡ None }
+        ensures { (fault : Bool) × (after : Slot) × Resets fault self.old.settings.keep_resident.bytes (slot_taken lease) (slot_of lease.memory) after × FollowsReset self.old.settings.keep_resident.bytes fault (slot_of lease.memory) after × (◌≡◌ {A = After P H} (record { core = self.new; frame = frame.new; outcome = outcome.new }) (stepped (was_reset fault after lease self.old frame.old))) }
     {
         let at = slot_taken(&lease);
         let mut slot = lease.memory.unwrap_static_image();
@@ -75,7 +81,7 @@ impl<P: Pages, H: GcHeap> PoolCore<P, H> {
         let item = memory_queued(at, slot, kept);
         let listed = ranges.as_slice();
         frame.local.push_reset(QueueKind::Memory, item, listed);
-        was_reset(alloc, self.settings.batch, frame)
+        was_reset(alloc, self.settings.batch, frame, outcome)
     }
 }
 
@@ -107,12 +113,14 @@ pub(crate) fn was_reset<P: Pages, H: GcHeap>(
     alloc: Global,
     batch: usize,
     frame: &mut Frame<P, H>,
-) -> Option<Outcome<P, H>>
-    ensures { ◌≡◌ {A = Left P H} (record { frame = frame.new; outcome = result }) (after frame.old (reset_turn batch frame.old.local)) }
+    outcome: &mut Option<Outcome<P, H>>,
+)
+    requires unanswered { outcome.old ≡ None }
+    ensures { ◌≡◌ {A = Left P H} (record { frame = frame.new; outcome = outcome.new }) (after frame.old (reset_turn batch frame.old.local)) }
 {
     let ranges = frame.local.raw_len();
     if ranges == 0 || batch <= ranges {
-        return frame.flush(alloc);
+        return frame.flush(alloc, outcome);
     }
     frame.go(Phase::Merge)
 }

@@ -22,26 +22,24 @@ pub(crate) fn pick<P: Pages, H: GcHeap>(
     plan: &Plan,
     frame: &mut Frame<P, H>,
     tried: u32,
-) -> Option<Outcome<P, H>>
+    outcome: &mut Option<Outcome<P, H>>,
+)
     requires plan { HasAllocators plan.now frame.old.stripe }
     requires tries { CanTryShard plan.now (allocator_for plan.now frame.old) tried }
     requires few { length frame.old.objects.memories.items < 2 ^ 32 }
-    ensures { ◌≡◌ {A = PartAfter ShardState P H} (record { part = shard.new; frame = frame.new; outcome = result }) (part_after (pick_on plan.now tried shard.old frame.old)) }
+    requires unanswered { outcome.old ≡ None }
+    ensures { ◌≡◌ {A = PartAfter ShardState P H} (record { part = shard.new; frame = frame.new; outcome = outcome.new }) (part_after (pick_on plan.now tried shard.old frame.old)) }
 {
     match pick_of::<Brand>(shard, frame.wanted(), Blank::new(1)) {
         Some(slot) => go_to_slot(plan, frame, slot),
-        None => pick_next(plan, frame, tried),
+        None => pick_next(plan, frame, tried, outcome),
     }
 }
 
 // The shard had this slot.
-fn go_to_slot<P: Pages, H: GcHeap>(
-    plan: &Plan,
-    frame: &mut Frame<P, H>,
-    slot: u32,
-) -> Option<Outcome<P, H>>
+fn go_to_slot<P: Pages, H: GcHeap>(plan: &Plan, frame: &mut Frame<P, H>, slot: u32)
     requires { HasAllocators plan.now frame.old.stripe }
-    ensures { ◌≡◌ {A = Left P H} (record { frame = frame.new; outcome = result }) (after frame.old (goes (taken_next (allocator_for plan.now frame.old).kind (record { kind = (allocator_for plan.now frame.old).kind; slot = slot })))) }
+    ensures { ◌≡◌ {A = Left P H} (record { frame = frame.new; outcome = None }) (after frame.old (goes (taken_next (allocator_for plan.now frame.old).kind (record { kind = (allocator_for plan.now frame.old).kind; slot = slot })))) }
 {
     let kind = frame.allocator(plan).kind;
     frame.go(taken_next(SlotName { kind, slot }))
@@ -62,16 +60,18 @@ fn pick_next<P: Pages, H: GcHeap>(
     plan: &Plan,
     frame: &mut Frame<P, H>,
     tried: u32,
-) -> Option<Outcome<P, H>>
+    outcome: &mut Option<Outcome<P, H>>,
+)
     requires plan { HasAllocators plan.now frame.old.stripe }
     requires tries { CanTryShard plan.now (allocator_for plan.now frame.old) tried }
-    ensures { ◌≡◌ {A = Left P H} (record { frame = frame.new; outcome = result }) (after frame.old (if nat_lt (tried + 1) (allocator_for plan.now frame.old).shards then goes (Phase.Pick (tried + 1)) else slot_search plan.now frame.old)) }
+    requires unanswered { outcome.old ≡ None }
+    ensures { ◌≡◌ {A = Left P H} (record { frame = frame.new; outcome = outcome.new }) (after frame.old (if nat_lt (tried + 1) (allocator_for plan.now frame.old).shards then goes (Phase.Pick (tried + 1)) else slot_search plan.now frame.old)) }
 {
     let shards = frame.allocator(plan).shards;
     if tried + 1 < shards {
         return frame.go(Phase::Pick(tried + 1));
     }
-    frame.search_slot(plan)
+    frame.search_slot(plan, outcome)
 }
 
 // Frees a slot of a shard. Nothing is known of it.
@@ -81,14 +81,16 @@ pub(crate) fn free_one<P: Pages, H: GcHeap>(
     alloc: Global,
     frame: &mut Frame<P, H>,
     name: SlotName,
-) -> Option<Outcome<P, H>>
+    outcome: &mut Option<Outcome<P, H>>,
+)
     requires home { HasHome plan.now name }
     requires used { IsSome (use_of shard.old (home_of plan.now name).local.0) }
-    ensures { ◌≡◌ {A = PartAfter ShardState P H} (record { part = shard.new; frame = frame.new; outcome = result }) (part_after (free_one_on plan.now name shard.old frame.old)) }
+    requires unanswered { outcome.old ≡ None }
+    ensures { ◌≡◌ {A = PartAfter ShardState P H} (record { part = shard.new; frame = frame.new; outcome = outcome.new }) (part_after (free_one_on plan.now name shard.old frame.old)) }
 {
     let local = home(plan, name).local;
     free_of::<Brand>(shard, local, 0, Blank::new(1));
-    frame.next(alloc)
+    frame.next(alloc, outcome)
 }
 
 // Frees all slots that wait to be freed and are at home in the shard, which has this place.
@@ -98,13 +100,15 @@ pub(crate) fn free<P: Pages, H: GcHeap>(
     alloc: Global,
     frame: &mut Frame<P, H>,
     place: u32,
-) -> Option<Outcome<P, H>>
+    outcome: &mut Option<Outcome<P, H>>,
+)
     requires used { AreUsedInTurn plan.now (freed_of plan.now place frame.old.freed.items) shard.old }
     requires each { All (CanBeFreed plan.now) frame.old.freed.items }
-    ensures { ◌≡◌ {A = PartAfter ShardState P H} (record { part = shard.new; frame = frame.new; outcome = result }) (part_after (free_on plan.now place shard.old frame.old)) }
+    requires unanswered { outcome.old ≡ None }
+    ensures { ◌≡◌ {A = PartAfter ShardState P H} (record { part = shard.new; frame = frame.new; outcome = outcome.new }) (part_after (free_on plan.now place shard.old frame.old)) }
 {
     free_all(shard, plan, place, &mut frame.freed);
-    frame.flush(alloc)
+    frame.flush(alloc, outcome)
 }
 
 // Picks a slot of the shard, and gives its number in the pool. The shard's steps are counted nowhere.

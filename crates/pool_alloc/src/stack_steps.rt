@@ -1,4 +1,4 @@
-ghost use Rattle.std.specs.Prelude.{◌≡◌, ◌≤◌, ◌^◌, ◌<◌, ◌+◌, false};
+ghost use Rattle.std.specs.Prelude.{◌≡◌, ◌≤◌, ◌^◌, ◌<◌, ◌+◌, false, None};
 ghost use Rattle.pool_types.specs.Count.{count};
 ghost use Rattle.pool_slots.specs.PlainSlots.{IsPlain};
 ghost use Rattle.pool_slots.specs.SlotQueues.{plain_slot};
@@ -8,7 +8,7 @@ ghost use Rattle.pool_alloc.specs.PoolStacks.{stack_made, stack_reset};
 ghost use Rattle.pool_alloc.specs.Rows.{count_object_row, stack_reset_row, test_stack_row, uncount_object_row};
 ghost use Rattle.pool_alloc.specs.StackLeases.{stack_slot};
 ghost use Rattle.pool_alloc.specs.TableSteps.{CanQueue};
-ghost use Rattle.pool_alloc.specs.Turns.{After, stepped};
+ghost use Rattle.pool_alloc.specs.Turns.{After, stepped, resting};
 
 use crate::frame::{Frame, Grant, Object, Outcome, Phase, TakenSlot};
 use crate::lease::InstanceLease;
@@ -28,11 +28,14 @@ impl<P: Pages, H: GcHeap> PoolCore<P, H> {
         &mut self,
         alloc: Global,
         frame: &mut Frame<P, H>,
-    ) -> Option<Outcome<P, H>>
-        ensures { ◌≡◌ {A = After P H} (record { core = self.new; frame = frame.new; outcome = result }) (stepped (test_stack_row self.old frame.old)) }
+        outcome: &mut Option<Outcome<P, H>>,
+    )
+        requires unanswered { outcome.old ≡ None }
+        ensures { ◌≡◌ {A = After P H} (record { core = self.new; frame = frame.new; outcome = outcome.new }) (stepped (test_stack_row self.old (resting frame.old))) }
     {
+        frame.rest();
         if self.settings.stack_size == 0 {
-            return self.refuse_at_once(frame, AllocError::StacksDisabled);
+            return self.refuse_at_once(frame, AllocError::StacksDisabled, outcome);
         }
         frame.objects = InstanceLease::none(alloc);
         frame.go(Phase::Pick(0))
@@ -43,21 +46,19 @@ impl<P: Pages, H: GcHeap> PoolCore<P, H> {
         &mut self,
         frame: &mut Frame<P, H>,
         lease: StackLease<P>,
-    ) -> Option<Outcome<P, H>>
-        requires { self.old.counters.stacks + 1 < 2 ^ 64 }
-        ensures { ◌≡◌ {A = After P H} (record { core = self.new; frame = frame.new; outcome = result }) (stepped (count_object_row (Object.Stack lease) self.old frame.old)) }
+        outcome: &mut Option<Outcome<P, H>>,
+    )
+        requires can { self.old.counters.stacks + 1 < 2 ^ 64 }
+        requires unanswered { outcome.old ≡ None }
+        ensures { ◌≡◌ {A = After P H} (record { core = self.new; frame = frame.new; outcome = outcome.new }) (stepped (count_object_row (Object.Stack lease) self.old frame.old)) }
     {
         self.counters.stacks += 1;
-        frame.end(Outcome::Granted(Grant::Stack(lease)))
+        frame.end(Outcome::Granted(Grant::Stack(lease)), outcome)
     }
 
-    pub(crate) fn uncount_stack(
-        &mut self,
-        frame: &mut Frame<P, H>,
-        lease: StackLease<P>,
-    ) -> Option<Outcome<P, H>>
+    pub(crate) fn uncount_stack(&mut self, frame: &mut Frame<P, H>, lease: StackLease<P>)
         requires { 0 < self.old.counters.stacks }
-        ensures { ◌≡◌ {A = After P H} (record { core = self.new; frame = frame.new; outcome = result }) (stepped (uncount_object_row (Object.Stack lease) self.old frame.old)) }
+        ensures { ◌≡◌ {A = After P H} (record { core = self.new; frame = frame.new; outcome = None }) (stepped (uncount_object_row (Object.Stack lease) self.old frame.old)) }
     {
         self.counters.stacks -= 1;
         frame.go(Phase::Reset(Object::Stack(lease)))
@@ -69,13 +70,15 @@ impl<P: Pages, H: GcHeap> PoolCore<P, H> {
         alloc: Global,
         frame: &mut Frame<P, H>,
         lease: StackLease<P>,
-    ) -> Option<Outcome<P, H>>
-        requires { CanResetStack self.old.settings lease frame.old.local }
-        ensures { ◌≡◌ {A = After P H} (record { core = self.new; frame = frame.new; outcome = result }) (stepped (stack_reset_row lease self.old frame.old)) }
+        outcome: &mut Option<Outcome<P, H>>,
+    )
+        requires can { CanResetStack self.old.settings lease frame.old.local }
+        requires unanswered { outcome.old ≡ None }
+        ensures { ◌≡◌ {A = After P H} (record { core = self.new; frame = frame.new; outcome = outcome.new }) (stepped (stack_reset_row lease self.old frame.old)) }
     {
         let keep = self.settings.stack_keep_resident;
         reset_stack(keep, lease, &mut frame.local);
-        was_reset(alloc, self.settings.batch, frame)
+        was_reset(alloc, self.settings.batch, frame, outcome)
     }
 }
 

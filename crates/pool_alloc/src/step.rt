@@ -1,4 +1,4 @@
-ghost use Rattle.std.specs.Prelude.{◌≡◌, ◌+◌, ◌≤◌, false, true};
+ghost use Rattle.std.specs.Prelude.{◌≡◌, ◌+◌, ◌≤◌, false, true, None};
 ghost use Rattle.std.specs.Option.{option_copied_mut};
 ghost use Rattle.pool_pages.specs.MakerTold.{MakerTold};
 ghost use Rattle.pool_limits.specs.LimiterTold.{limiter_told, option_left};
@@ -51,15 +51,81 @@ impl<P: Pages, H: GcHeap> PoolCore<P, H> {
         ensures fewer { is_idle frame.old.phase ≡ false → steps_left self.new frame.new + 1 ≤ steps_left self.old frame.old }
     {
         match limiter {
-            Some(limiter) => self.advance(alloc, frame, limiter, heaps),
-            None => self.advance(alloc, frame, &mut Unlimited, heaps),
+            Some(limiter) => self.advance_answering(alloc, frame, limiter, heaps),
+            None => self.advance_answering(alloc, frame, &mut Unlimited, heaps),
         }
     }
 
-    // One step of the frame's call, over a limiter. Neither this nor the step of a phase is inlined: what a step has in hand
-    // lies in the frame of its own function, and no other step prepares room for it.
+    /// The same, which puts the outcome where the caller has a place for it. A run has one place for all its steps: most of them
+    /// answer nothing. What else is said of `step` follows from the row.
+    pub fn step_into<R: ResourceLimiter, K: HeapMaker<Heap = H>>(
+        &mut self,
+        alloc: Global,
+        frame: &mut Frame<P, H>,
+        limiter: Option<&mut R>,
+        heaps: &mut K,
+        outcome: &mut Option<Outcome<P, H>>,
+    )
+        ghost maker: { MakerTold }
+        requires can { CanStep maker self.old frame.old }
+        requires counts { CanCount self.old }
+        requires unanswered { outcome.old ≡ None }
+        ensures row { StepsTo (record { limiter = limiter_told R.told (option_copied_mut limiter.entry); heaps = K.told heaps.old }) (record { limiter = limiter_told R.told (option_left limiter.exit); heaps = K.told heaps.new }) self.old frame.old (record { core = self.new; frame = frame.new; outcome = outcome.new }) }
+        ensures asks { StepsAsking (λ passed. IfExchanged R.leads passed (option_copied_mut limiter.entry) (option_left limiter.exit)) (record { limiter = limiter_told R.told (option_copied_mut limiter.entry); heaps = K.told heaps.old }) (record { limiter = limiter_told R.told (option_left limiter.exit); heaps = K.told heaps.new }) self.old frame.old (record { core = self.new; frame = frame.new; outcome = outcome.new }) }
+        ensures heaps { makes_heap frame.old.phase ≡ false → heaps.new ≡ heaps.old }
+    {
+        match limiter {
+            Some(limiter) => self.advance(alloc, frame, limiter, heaps, outcome),
+            None => self.advance(alloc, frame, &mut Unlimited, heaps, outcome),
+        }
+    }
+
+    // One step of the frame's call, over a limiter. A phase that holds nothing is read where it lies. Neither this nor the step
+    // of a phase is inlined: what a step has in hand lies in the frame of its own function, and no other step prepares room
+    // for it.
     #[inline(never)]
     pub(crate) fn advance<L: ResourceLimiter, K: HeapMaker<Heap = H>>(
+        &mut self,
+        alloc: Global,
+        frame: &mut Frame<P, H>,
+        limiter: &mut L,
+        heaps: &mut K,
+        outcome: &mut Option<Outcome<P, H>>,
+    )
+        requires can { CanStepAt frame.old.phase self.old frame.old }
+        requires unanswered { outcome.old ≡ None }
+        ensures row { StepsAsking (λ passed. Exchanged L.leads passed limiter.old limiter.new) (record { limiter = L.told limiter.old; heaps = K.told heaps.old }) (record { limiter = L.told limiter.new; heaps = K.told heaps.new }) self.old frame.old (record { core = self.new; frame = frame.new; outcome = outcome.new }) }
+        ensures heaps { makes_heap frame.old.phase ≡ false → heaps.new ≡ heaps.old }
+    {
+        match frame.phase {
+            Phase::Idle => {}
+            Phase::Key => self.draw_key(frame, outcome),
+            Phase::Validate => self.validate(alloc, frame, outcome),
+            Phase::TestStack => self.test_stack(alloc, frame, outcome),
+            Phase::TestHeap => self.test_heap(alloc, frame, outcome),
+            Phase::CountInstance => self.count_instance(alloc, frame, outcome),
+            Phase::Pick(tried) => self.pick(frame, tried, outcome),
+            Phase::TakeQueue => self.take_queue(alloc, frame, outcome),
+            Phase::TakeRegion(name) => self.take_region(frame, name),
+            Phase::TakeHeap(name) => self.take_heap(frame, name),
+            Phase::MakeHeap(at) => self.make_heap(alloc, frame, at, heaps),
+            Phase::PutNoHeap(at) => self.put_no_heap(frame, at),
+            Phase::FreeOne(name) => self.free_one(alloc, frame, name, outcome),
+            Phase::Merge => self.merge(alloc, frame, outcome),
+            Phase::Flush => {
+                frame.rest();
+                self.flush(alloc, frame, outcome)
+            }
+            Phase::UncountInstance => self.uncount_instance(frame, outcome),
+            Phase::ValidateComponent(info) => self.test_component(frame, &info, outcome),
+            Phase::CountComponent => self.count_component(frame, outcome),
+            Phase::UncountComponent => self.uncount_component(frame, outcome),
+            _ => self.advance_holding(alloc, frame, limiter, outcome),
+        }
+    }
+
+    // The same, which answers the outcome.
+    fn advance_answering<L: ResourceLimiter, K: HeapMaker<Heap = H>>(
         &mut self,
         alloc: Global,
         frame: &mut Frame<P, H>,
@@ -70,55 +136,35 @@ impl<P: Pages, H: GcHeap> PoolCore<P, H> {
         ensures row { StepsAsking (λ passed. Exchanged L.leads passed limiter.old limiter.new) (record { limiter = L.told limiter.old; heaps = K.told heaps.old }) (record { limiter = L.told limiter.new; heaps = K.told heaps.new }) self.old frame.old (record { core = self.new; frame = frame.new; outcome = result }) }
         ensures heaps { makes_heap frame.old.phase ≡ false → heaps.new ≡ heaps.old }
     {
-        let phase = mem::replace(&mut frame.phase, Phase::Idle);
-        match phase {
-            Phase::Idle => None,
-            Phase::Key => self.draw_key(frame),
-            Phase::Validate => self.validate(alloc, frame),
-            Phase::TestStack => self.test_stack(alloc, frame),
-            Phase::TestHeap => self.test_heap(alloc, frame),
-            Phase::CountInstance => self.count_instance(alloc, frame),
-            Phase::Pick(tried) => self.pick(frame, tried),
-            Phase::TakeQueue => self.take_queue(alloc, frame),
-            Phase::TakeRegion(name) => self.take_region(frame, name),
-            Phase::TakeHeap(name) => self.take_heap(frame, name),
-            Phase::MakeHeap(at) => self.make_heap(alloc, frame, at, heaps),
-            Phase::CountHeap(lease) => self.count_heap(alloc, frame, lease),
-            Phase::PutNoHeap(at) => self.put_no_heap(frame, at),
-            Phase::FreeOne(name) => self.free_one(alloc, frame, name),
-            Phase::Merge => self.merge(alloc, frame),
-            Phase::Flush => self.flush(alloc, frame),
-            Phase::UncountInstance => self.uncount_instance(frame),
-            Phase::ValidateComponent(info) => self.test_component(frame, &info),
-            Phase::CountComponent => self.count_component(frame),
-            Phase::UncountComponent => self.uncount_component(frame),
-            _ => self.advance_holding(alloc, frame, phase, limiter),
-        }
+        let mut outcome = None;
+        self.advance(alloc, frame, limiter, heaps, &mut outcome);
+        outcome
     }
 
-    // The same where the step has a region or an object in hand.
+    // The same where the step has a region or an object in hand, which it takes out of the frame.
     #[inline(never)]
     fn advance_holding<L: ResourceLimiter>(
         &mut self,
         alloc: Global,
         frame: &mut Frame<P, H>,
-        phase: Phase<P, H>,
         limiter: &mut L,
-    ) -> Option<Outcome<P, H>>
-        requires idle { frame.old.phase ≡ Idle }
-        requires holds { holds_region phase ≡ true }
-        requires can { CanStepAt phase self.old (record frame.old { phase = phase }) }
-        ensures { (heaps : HeapsTold) → StepsAsking (λ passed. Exchanged L.leads passed limiter.old limiter.new) (record { limiter = L.told limiter.old; heaps = heaps }) (record { limiter = L.told limiter.new; heaps = heaps }) self.old (record frame.old { phase = phase }) (record { core = self.new; frame = frame.new; outcome = result }) }
+        outcome: &mut Option<Outcome<P, H>>,
+    )
+        requires holds { holds_region frame.old.phase ≡ true }
+        requires can { CanStepAt frame.old.phase self.old frame.old }
+        requires unanswered { outcome.old ≡ None }
+        ensures { (heaps : HeapsTold) → StepsAsking (λ passed. Exchanged L.leads passed limiter.old limiter.new) (record { limiter = L.told limiter.old; heaps = heaps }) (record { limiter = L.told limiter.new; heaps = heaps }) self.old frame.old (record { core = self.new; frame = frame.new; outcome = outcome.new }) }
     {
+        let phase = mem::replace(&mut frame.phase, Phase::Idle);
         match phase {
             Phase::Empty(at, held) => self.empty(frame, at, held),
             Phase::Instantiate(at, held) => self.instantiate(frame, at, held),
             Phase::MakeMemory(at, held) => self.make_memory(frame, at, held, limiter),
             Phase::MakeTable(at, region) => self.make_table(frame, at, region, limiter),
             Phase::PutBack(at, held) => self.put_back(frame, at, held),
-            Phase::Purge(cursor, step) => self.purge(frame, cursor, step),
-            Phase::Release(step) => self.release(alloc, frame, step),
-            _ => self.advance_object(alloc, frame, phase),
+            Phase::Purge(cursor, step) => self.purge(frame, cursor, step, outcome),
+            Phase::Release(step) => self.release(alloc, frame, step, outcome),
+            _ => self.advance_object(alloc, frame, phase, outcome),
         }
     }
 
@@ -129,19 +175,22 @@ impl<P: Pages, H: GcHeap> PoolCore<P, H> {
         alloc: Global,
         frame: &mut Frame<P, H>,
         phase: Phase<P, H>,
-    ) -> Option<Outcome<P, H>>
+        outcome: &mut Option<Outcome<P, H>>,
+    )
         requires idle { frame.old.phase ≡ Idle }
         requires holds { holds_object phase ≡ true }
         requires can { CanStepAt phase self.old (record frame.old { phase = phase }) }
-        ensures { (told : PartyTold) → StepsTo told told self.old (record frame.old { phase = phase }) (record { core = self.new; frame = frame.new; outcome = result }) }
+        requires unanswered { outcome.old ≡ None }
+        ensures { (told : PartyTold) → StepsTo told told self.old (record frame.old { phase = phase }) (record { core = self.new; frame = frame.new; outcome = outcome.new }) }
     {
         match phase {
-            Phase::CountObject(object) => self.count_object(alloc, frame, object),
+            Phase::CountObject(object) => self.count_object(alloc, frame, object, outcome),
+            Phase::CountHeap(lease) => self.count_heap(alloc, frame, lease, outcome),
             Phase::UncountObject(object) => self.uncount_object(frame, object),
             Phase::UncountHeap(lease, memory) => self.uncount_heap(frame, lease, memory),
             Phase::PutHeap(lease, memory) => self.put_heap(frame, lease, memory),
             Phase::FreeHeap(name, memory) => self.free_heap(frame, name, memory),
-            Phase::Reset(object) => self.reset(alloc, frame, object),
+            Phase::Reset(object) => self.reset(alloc, frame, object, outcome),
             _ => unreachable!(),
         }
     }

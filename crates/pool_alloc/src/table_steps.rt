@@ -1,4 +1,4 @@
-ghost use Rattle.std.specs.Prelude.{◌≡◌, ◌≤◌, Bool, Result, IfSome, [], ◌∷◌, length};
+ghost use Rattle.std.specs.Prelude.{◌≡◌, ◌≤◌, Bool, Result, IfSome, [], ◌∷◌, length, None};
 ghost use Rattle.pool_pages.specs.Told.{Told};
 ghost use Rattle.pool_limits.specs.Exchanges.{may_grow, Exchanged};
 ghost use Rattle.pool_limits.specs.declared.errors.LimiterError.{LimiterError};
@@ -19,8 +19,8 @@ use pool_images::Ranges;
 use pool_limits::ResourceLimiter;
 use pool_pages::{PageRegion, Pages};
 use pool_slots::{
-    AllocError, DecommitQueue, GcHeap, HeldSlot, ImageSlot, PlainSlot, QueueKind, QueuedSlot,
-    TableAllocationIndex, data_size,
+    AllocError, DecommitQueue, GcHeap, HeldSlot, ImageSlot, PlainHeld, PlainSlot, QueueKind,
+    QueuedSlot, TableAllocationIndex, data_size,
 };
 use pool_table::{ElementSize, Table, TableError};
 use pool_types::{HostAlignedByteCount, PageSize, TableType, Tunables};
@@ -37,10 +37,10 @@ impl<P: Pages, H: GcHeap> PoolCore<P, H> {
         at: TakenSlot,
         region: PageRegion<P>,
         limiter: &mut L,
-    ) -> Option<Outcome<P, H>>
+    )
         requires next { HasTableNext frame.old.asked (length frame.old.objects.tables.items) }
         requires can { IfTable frame.old (CanMakeTable self.old.settings region) }
-        ensures { (answer : Result Bool LimiterError) × IfTable frame.old (AsksForTable answer (L.told limiter.old) (L.told limiter.new)) × IfTable frame.old (λ ty. Exchanged L.leads (may_grow (making_question ty) answer ∷ []) limiter.old limiter.new) × (◌≡◌ {A = After P H} (record { core = self.new; frame = frame.new; outcome = result }) (stepped (make_table_row answer at region self.old frame.old))) }
+        ensures { (answer : Result Bool LimiterError) × IfTable frame.old (AsksForTable answer (L.told limiter.old) (L.told limiter.new)) × IfTable frame.old (λ ty. Exchanged L.leads (may_grow (making_question ty) answer ∷ []) limiter.old limiter.new) × (◌≡◌ {A = After P H} (record { core = self.new; frame = frame.new; outcome = None }) (stepped (make_table_row answer at region self.old frame.old))) }
     {
         let making = self.make_next_table(frame, at, region, limiter);
         table_made(frame, at, making)
@@ -89,12 +89,8 @@ fn make_table_of<P: Pages, L: ResourceLimiter>(
 }
 
 // What comes after a making.
-fn table_made<P: Pages, H: GcHeap>(
-    frame: &mut Frame<P, H>,
-    at: TakenSlot,
-    making: TableMaking<P>,
-) -> Option<Outcome<P, H>>
-    ensures { (c : PoolCore P H) → ◌≡◌ {A = After P H} (record { core = c; frame = frame.new; outcome = result }) (stepped (table_made_by at making c frame.old)) }
+fn table_made<P: Pages, H: GcHeap>(frame: &mut Frame<P, H>, at: TakenSlot, making: TableMaking<P>)
+    ensures { (c : PoolCore P H) → ◌≡◌ {A = After P H} (record { core = c; frame = frame.new; outcome = None }) (stepped (table_made_by at making c frame.old)) }
 {
     let phase = match making {
         Ok(lease) => Phase::CountObject(Object::Table(lease)),
@@ -129,7 +125,11 @@ pub(crate) fn reset_table<P: Pages>(
     let (region, base) = plain.into_parts();
     let item = QueuedSlot {
         slot,
-        held: HeldSlot::Table(region, base, Some(used.byte_count())),
+        held: HeldSlot::Table(PlainHeld {
+            region,
+            base,
+            by_hand: Some(used.byte_count()),
+        }),
         known: true,
         bytes: kept,
         numbers,

@@ -5,7 +5,7 @@ ghost use Rattle.pool_alloc.specs.CanStep.{CanValidate};
 ghost use Rattle.pool_alloc.specs.Refusals.{first_refused, offset_refused, number_refused, memory_refused, tables_refused, long_table, objects_refused, module_refused};
 ghost use Rattle.pool_alloc.specs.Rows.{refused_at_once, validated, validate_row};
 ghost use Rattle.pool_alloc.specs.Steps.{info_wanted, memories_wanted};
-ghost use Rattle.pool_alloc.specs.Turns.{After, stepped};
+ghost use Rattle.pool_alloc.specs.Turns.{After, stepped, resting};
 ghost use Rattle.std.specs.Option.{option_or};
 
 use crate::frame::{Asked, Frame, Outcome, Phase};
@@ -27,13 +27,16 @@ impl<P: Pages, H: GcHeap> PoolCore<P, H> {
         &mut self,
         alloc: Global,
         frame: &mut Frame<P, H>,
-    ) -> Option<Outcome<P, H>>
-        requires { CanValidate (memories_wanted frame.old.asked) }
-        ensures { (wants : Bool) × (◌≡◌ {A = After P H} (record { core = self.new; frame = frame.new; outcome = result }) (stepped (validate_row wants self.old frame.old))) }
+        outcome: &mut Option<Outcome<P, H>>,
+    )
+        requires can { CanValidate (memories_wanted frame.old.asked) }
+        requires unanswered { outcome.old ≡ None }
+        ensures { (wants : Bool) × (◌≡◌ {A = After P H} (record { core = self.new; frame = frame.new; outcome = outcome.new }) (stepped (validate_row wants self.old (resting frame.old)))) }
     {
+        frame.rest();
         match self.module_refused(frame) {
-            Some(rule) => self.refuse_at_once(frame, AllocError::Unsupported(rule)),
-            None => self.reserve_grants(alloc, frame, Phase::CountInstance),
+            Some(rule) => self.refuse_at_once(frame, AllocError::Unsupported(rule), outcome),
+            None => self.reserve_grants(alloc, frame, Phase::CountInstance, outcome),
         }
     }
 
@@ -42,10 +45,12 @@ impl<P: Pages, H: GcHeap> PoolCore<P, H> {
         &mut self,
         frame: &mut Frame<P, H>,
         error: AllocError,
-    ) -> Option<Outcome<P, H>>
-        ensures { ◌≡◌ {A = After P H} (record { core = self.new; frame = frame.new; outcome = result }) (stepped (refused_at_once error self.old frame.old)) }
+        outcome: &mut Option<Outcome<P, H>>,
+    )
+        requires unanswered { outcome.old ≡ None }
+        ensures { ◌≡◌ {A = After P H} (record { core = self.new; frame = frame.new; outcome = outcome.new }) (stepped (refused_at_once error self.old frame.old)) }
     {
-        frame.end(Outcome::Refused(error))
+        frame.end(Outcome::Refused(error), outcome)
     }
 
     // The lists of what is to be granted are reserved, and this phase is next.
@@ -54,8 +59,10 @@ impl<P: Pages, H: GcHeap> PoolCore<P, H> {
         alloc: Global,
         frame: &mut Frame<P, H>,
         next: Phase<P, H>,
-    ) -> Option<Outcome<P, H>>
-        ensures { (wants : Bool) × (◌≡◌ {A = After P H} (record { core = self.new; frame = frame.new; outcome = result }) (stepped (validated None wants next self.old frame.old))) }
+        outcome: &mut Option<Outcome<P, H>>,
+    )
+        requires unanswered { outcome.old ≡ None }
+        ensures { (wants : Bool) × (◌≡◌ {A = After P H} (record { core = self.new; frame = frame.new; outcome = outcome.new }) (stepped (validated None wants next self.old frame.old))) }
     {
         match room_for(alloc, frame.memories_wanted(), frame.tables_wanted()) {
             Ok(objects) => {
@@ -64,7 +71,7 @@ impl<P: Pages, H: GcHeap> PoolCore<P, H> {
             }
             Err(_) => {
                 drop_phase(next);
-                self.refuse_at_once(frame, AllocError::Memory)
+                self.refuse_at_once(frame, AllocError::Memory, outcome)
             }
         }
     }

@@ -49,8 +49,8 @@ bytes_told n (in_slot s) i name tells = some_mapped (λ c. slice_range c.bytes s
 pub faulted_is : (call : PageCall) (s t : Slot) → IsSome s.region.plan → CallFaulted call s t → t ≡ record s { region = call_failed call s.region }
 faulted_is call s t planned fault =
     let only = fault.region.planned planned in
-    let R : Option Contents → ℕ → Told = λ c n. record (counted call s.region) { contents = c; faults = n } in
-    let region : t.region ≡ call_failed call s.region = fault.region.same ∙ ap (λ (c : Option Contents). R c t.region.faults) only.0 ∙ ap (R s.region.contents) only.1 in
+    let R : Option Contents → List Bool → ℕ → Told = λ c ms n. record (counted call s.region) { contents = c; marks = ms; faults = n } in
+    let region : t.region ≡ call_failed call s.region = fault.region.same ∙ ap (λ (c : Option Contents). R c t.region.marks t.region.faults) only.0 ∙ ap (λ (ms : List Bool). R s.region.contents ms t.region.faults) only.1 ∙ ap (R s.region.contents s.region.marks) only.2 in
     fault.same ∙ ap (λ (r : Told). record s { region = r }) region
 
 -- what a plan that is told says, it says once

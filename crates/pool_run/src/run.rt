@@ -23,7 +23,7 @@ use crate::running_party::{RunningParty, heaps_for, store_for};
 use crate::slot_lists::SlotLists;
 use crate::turn::{is_idle, turn_of};
 use crate::validity::is_valid;
-use pool_alloc::{Metrics, ModuleCall, PoolCore};
+use pool_alloc::{Metrics, ModuleCall, Outcome, PoolCore};
 use pool_pages::{PageCalls, PageMaker, Pages};
 use pool_slots::{ListedHeaps, PlainHeap};
 use pool_table::ListedStore;
@@ -38,9 +38,12 @@ pub struct Run<P: Pages> {
     modules: Vec<ModuleCall>,
     parties: Vec<RunningParty<P>>,
     slots: Vec<SlotLists>,
+    // The place for the outcome of a step. It holds nothing between turns.
+    outcome: Option<Outcome<P, PlainHeap>>,
 }
 
 impl<P: Pages> Model for Run<P> {
+    ghost use Rattle.std.specs.Prelude.{◌≡◌, None};
     ghost use Rattle.pool_run.specs.Folds.{RunParts};
     ghost use Rattle.pool_run.specs.RunsMade.{IsKept, AreReserved};
 
@@ -48,7 +51,7 @@ impl<P: Pages> Model for Run<P> {
 
     ghost view = { λ r. record { core = r.core; modules = r.modules.items; parties = r.parties.items } };
 
-    ghost invariant = { λ r. IsKept r.core r.parties.items × AreReserved r.parties.items r.slots.items };
+    ghost invariant = { λ r. IsKept r.core r.parties.items × AreReserved r.parties.items r.slots.items × (r.outcome ≡ None) };
 }
 
 impl<P: Pages> Run<P> {
@@ -128,6 +131,7 @@ impl<P: Pages> Run<P> {
             modules,
             parties: made,
             slots,
+            outcome: None,
         })
     }
 
@@ -146,7 +150,16 @@ impl<P: Pages> Run<P> {
         let modules = self.modules.as_slice();
         let running = &mut self.parties[party];
         let slots = &mut self.slots[party];
-        turn_of(alloc, &mut self.core, modules, commands, running, slots)
+        let outcome = &mut self.outcome;
+        turn_of(
+            alloc,
+            &mut self.core,
+            modules,
+            commands,
+            running,
+            slots,
+            outcome,
+        )
     }
 
     /// Whether a call of party `i` is under way.

@@ -30,7 +30,8 @@ use std::mem;
 
 /// Makes a party's turn: the next step of its call, or the first step of its next command, where there is one. Answers
 /// the reply to the command that ends with it. The slots of what the party asks for are listed in `slots`: its room is
-/// reserved before the request begins, so that want of memory for it is the request's refusal.
+/// reserved before the request begins, so that want of memory for it is the request's refusal. A step puts the outcome of its
+/// call into `outcome`, from where the turn takes it again.
 pub fn turn_of<P: Pages>(
     alloc: Global,
     core: &mut PoolCore<P, PlainHeap>,
@@ -38,6 +39,7 @@ pub fn turn_of<P: Pages>(
     commands: &[Command],
     party: &mut RunningParty<P>,
     slots: &mut SlotLists,
+    outcome: &mut Option<Outcome<P, PlainHeap>>,
 ) -> Option<Reply>
     ghost maker: { MakerTold }
     requires can { CanTurn maker core.old party.old }
@@ -47,13 +49,15 @@ pub fn turn_of<P: Pages>(
     requires places { length commands.now ≤ length party.old.live }
     requires small { party.old.done + 1 < 2 ^ 64 }
     requires reserved { IsReserved party.old.frame slots.old }
+    requires unanswered { outcome.old ≡ None }
     ensures turn { Turns modules.now commands.now core.old party.old (record { core = core.new; party = party.new; reply = result }) }
     ensures reserved { IsReserved party.new.frame slots.new }
+    ensures unanswered { outcome.new ≡ None }
 {
     if is_idle(&party.frame) {
-        begin_next(alloc, core, modules, commands, party, slots)
+        begin_next(alloc, core, modules, commands, party, slots, outcome)
     } else {
-        step_call(alloc, core, party, slots)
+        step_call(alloc, core, party, slots, outcome)
     }
 }
 
@@ -70,17 +74,20 @@ fn step_call<P: Pages>(
     core: &mut PoolCore<P, PlainHeap>,
     party: &mut RunningParty<P>,
     slots: &mut SlotLists,
+    outcome: &mut Option<Outcome<P, PlainHeap>>,
 ) -> Option<Reply>
     ghost maker: { MakerTold }
     requires can { CanTurn maker core.old party.old }
     requires counts { CanCount core.old }
     requires small { party.old.done + 1 < 2 ^ 64 }
     requires reserved { IsReserved party.old.frame slots.old }
+    requires unanswered { outcome.old ≡ None }
     ensures steps { Steps core.old party.old (record { core = core.new; party = party.new; reply = result }) }
     ensures reserved { IsReserved party.new.frame slots.new }
+    ensures unanswered { outcome.new ≡ None }
 {
     let heaps = &mut party.heaps;
-    let outcome = step_under(alloc, core, &mut party.frame, party.limits, heaps);
+    step_under(alloc, core, &mut party.frame, party.limits, heaps, outcome);
     answer(alloc, party, slots, outcome)
 }
 
@@ -91,26 +98,51 @@ fn step_under<P: Pages>(
     frame: &mut Frame<P, PlainHeap>,
     limits: Option<PartyLimits>,
     heaps: &mut ListedHeaps,
-) -> Option<Outcome<P, PlainHeap>>
+    outcome: &mut Option<Outcome<P, PlainHeap>>,
+)
     ghost maker: { MakerTold }
     requires can { CanStep maker core.old frame.old }
     requires counts { CanCount core.old }
-    ensures { StepsUnder (rule_of limits) heaps.old heaps.new core.old frame.old (record { core = core.new; frame = frame.new; outcome = result }) }
+    requires unanswered { outcome.old ≡ None }
+    ensures { StepsUnder (rule_of limits) heaps.old heaps.new core.old frame.old (record { core = core.new; frame = frame.new; outcome = outcome.new }) }
 {
     match limits {
         None => {
             let nobody: Option<&mut Unlimited> = None;
-            core.step(alloc, frame, nobody, heaps)
+            core.step_into(alloc, frame, nobody, heaps, outcome)
         }
         Some(limits) => {
             let mut limiter = limiter_of(limits);
-            core.step(alloc, frame, Some(&mut limiter), heaps)
+            core.step_into(alloc, frame, Some(&mut limiter), heaps, outcome)
         }
     }
 }
 
-// Takes the answer to the party's call.
+// Takes the answer to the party's call out of its place, where there is one.
 fn answer<P: Pages>(
+    alloc: Global,
+    party: &mut RunningParty<P>,
+    slots: &mut SlotLists,
+    outcome: &mut Option<Outcome<P, PlainHeap>>,
+) -> Option<Reply>
+    requires place { IfGranted (λ g. party.old.done < length party.old.live) outcome.old }
+    requires small { party.old.done + 1 < 2 ^ 64 }
+    requires empty { (slots.old.memories.items ≡ []) × (slots.old.tables.items ≡ []) }
+    requires memories { IfGranted (λ g. length (leases_listed g) ≤ slots.old.memories.room) outcome.old }
+    requires tables { IfGranted (λ g. length (tables_of g) ≤ slots.old.tables.room) outcome.old }
+    ensures answered { (c : PoolCore P PlainHeap) → record { core = c; party = party.new; reply = result } ≡ answered outcome.old c party.old }
+    ensures slots { slots.new ≡ slots_after outcome.old slots.old }
+    ensures taken { outcome.new ≡ None }
+{
+    match outcome {
+        None => None,
+        Some(_) => reply_to(alloc, party, slots, outcome.take()),
+    }
+}
+
+// Replies to the answer to the party's call. A step that answers nothing prepares no room for this.
+#[inline(never)]
+fn reply_to<P: Pages>(
     alloc: Global,
     party: &mut RunningParty<P>,
     slots: &mut SlotLists,
@@ -204,7 +236,9 @@ fn table_slots<P: Pages>(slots: ReservedVec<u32>, lease: &InstanceLease<P>) -> S
     slots.into_list()
 }
 
-// Makes the first step of the next command, or of the call that gives the party its stripe.
+// Makes the first step of the next command, or of the call that gives the party its stripe. No other step prepares room for
+// what it has in hand.
+#[inline(never)]
 fn begin_next<P: Pages>(
     alloc: Global,
     core: &mut PoolCore<P, PlainHeap>,
@@ -212,6 +246,7 @@ fn begin_next<P: Pages>(
     commands: &[Command],
     party: &mut RunningParty<P>,
     slots: &mut SlotLists,
+    outcome: &mut Option<Outcome<P, PlainHeap>>,
 ) -> Option<Reply>
     ghost maker: { MakerTold }
     requires can { CanTurn maker core.old party.old }
@@ -222,16 +257,26 @@ fn begin_next<P: Pages>(
     requires small { party.old.done + 1 < 2 ^ 64 }
     requires idle { IsIdle party.old.frame }
     requires reserved { IsReserved party.old.frame slots.old }
+    requires unanswered { outcome.old ≡ None }
     ensures turn { TurnsFrom (OpensNext modules.now (slice_get commands.now party.old.done) party.old.keyed party.old) core.old party.old (record { core = core.new; party = party.new; reply = result }) }
     ensures reserved { IsReserved party.new.frame slots.new }
+    ensures unanswered { outcome.new ≡ None }
 {
     match commands.get(party.done) {
         None => None,
         Some(command) => {
             if party.keyed {
-                begin(alloc, core, modules, &act_of(command), party, slots)
+                begin(
+                    alloc,
+                    core,
+                    modules,
+                    &act_of(command),
+                    party,
+                    slots,
+                    outcome,
+                )
             } else {
-                begin_plain(alloc, core, Call::Key, party, slots)
+                begin_plain(alloc, core, Call::Key, party, slots, outcome)
             }
         }
     }
@@ -244,6 +289,7 @@ fn begin_plain<P: Pages>(
     call: Call<P, PlainHeap>,
     party: &mut RunningParty<P>,
     slots: &mut SlotLists,
+    outcome: &mut Option<Outcome<P, PlainHeap>>,
 ) -> Option<Reply>
     ghost maker: { MakerTold }
     requires plain { IsPlain call }
@@ -253,11 +299,13 @@ fn begin_plain<P: Pages>(
     requires small { party.old.done + 1 < 2 ^ 64 }
     requires idle { IsIdle party.old.frame }
     requires reserved { IsReserved party.old.frame slots.old }
+    requires unanswered { outcome.old ≡ None }
     ensures turn { TurnsFrom (λ o. o ≡ makes_step (begun_call call party.old.frame) party.old.live) core.old party.old (record { core = core.new; party = party.new; reply = result }) }
     ensures reserved { IsReserved party.new.frame slots.new }
+    ensures unanswered { outcome.new ≡ None }
 {
     party.frame.begin(call);
-    step_call(alloc, core, party, slots)
+    step_call(alloc, core, party, slots, outcome)
 }
 
 // Makes the first step of a command that does this.
@@ -268,6 +316,7 @@ fn begin<P: Pages>(
     act: &Act,
     party: &mut RunningParty<P>,
     slots: &mut SlotLists,
+    outcome: &mut Option<Outcome<P, PlainHeap>>,
 ) -> Option<Reply>
     ghost maker: { MakerTold }
     requires can { CanTurn maker core.old party.old }
@@ -278,11 +327,13 @@ fn begin<P: Pages>(
     requires small { party.old.done + 1 < 2 ^ 64 }
     requires idle { IsIdle party.old.frame }
     requires reserved { IsReserved party.old.frame slots.old }
+    requires unanswered { outcome.old ≡ None }
     ensures turn { TurnsFrom (OpensAct modules.now (given_act act.now) party.old) core.old party.old (record { core = core.new; party = party.new; reply = result }) }
     ensures reserved { IsReserved party.new.frame slots.new }
+    ensures unanswered { outcome.new ≡ None }
 {
     match act {
-        Act::Request(wanted) => request(alloc, core, modules, wanted, party, slots),
+        Act::Request(wanted) => request(alloc, core, modules, wanted, party, slots, outcome),
         Act::OnMemory { of, memory, op } => {
             let reply = act_on_bytes(alloc, &mut party.live, *of, *memory, op, party.limits);
             end_at_once(party, reply)
@@ -292,12 +343,12 @@ fn begin<P: Pages>(
             let reply = act_on_table(&mut party.live, store, *of, *table, op, party.limits);
             end_at_once(party, reply)
         }
-        Act::Drop { of } => give_back(alloc, core, party, slots, *of),
+        Act::Drop { of } => give_back(alloc, core, party, slots, *of, outcome),
         Act::Purge { module } => {
             let kept = &modules[*module];
-            begin_plain(alloc, core, Call::Purge(kept.id), party, slots)
+            begin_plain(alloc, core, Call::Purge(kept.id), party, slots, outcome)
         }
-        Act::Release => begin_plain(alloc, core, Call::Release, party, slots),
+        Act::Release => begin_plain(alloc, core, Call::Release, party, slots, outcome),
     }
 }
 
@@ -309,6 +360,7 @@ fn request<P: Pages>(
     wanted: &Wanted,
     party: &mut RunningParty<P>,
     slots: &mut SlotLists,
+    outcome: &mut Option<Outcome<P, PlainHeap>>,
 ) -> Option<Reply>
     ghost maker: { MakerTold }
     requires can { CanTurn maker core.old party.old }
@@ -319,15 +371,31 @@ fn request<P: Pages>(
     requires small { party.old.done + 1 < 2 ^ 64 }
     requires idle { IsIdle party.old.frame }
     requires reserved { IsReserved party.old.frame slots.old }
+    requires unanswered { outcome.old ≡ None }
     ensures turn { TurnsFrom (OpensWanted modules.now (given_wanted wanted.now) party.old) core.old party.old (record { core = core.new; party = party.new; reply = result }) }
     ensures reserved { IsReserved party.new.frame slots.new }
+    ensures unanswered { outcome.new ≡ None }
 {
     match wanted {
-        Wanted::Instance { module } => ask(alloc, core, &modules[*module], party, slots),
-        Wanted::Component(info) => begin_plain(alloc, core, Call::Component(*info), party, slots),
-        Wanted::Stack => begin_plain(alloc, core, Call::Stack, party, slots),
+        Wanted::Instance { module } => ask(alloc, core, &modules[*module], party, slots, outcome),
+        Wanted::Component(info) => begin_plain(
+            alloc,
+            core,
+            Call::Component(*info),
+            party,
+            slots,
+            outcome,
+        ),
+        Wanted::Stack => begin_plain(alloc, core, Call::Stack, party, slots, outcome),
         Wanted::Heap(limits) => {
-            begin_plain(alloc, core, Call::Heap(heap_type(*limits)), party, slots)
+            begin_plain(
+                alloc,
+                core,
+                Call::Heap(heap_type(*limits)),
+                party,
+                slots,
+                outcome,
+            )
         }
     }
 }
@@ -350,6 +418,7 @@ fn ask<P: Pages>(
     kept: &ModuleCall,
     party: &mut RunningParty<P>,
     slots: &mut SlotLists,
+    outcome: &mut Option<Outcome<P, PlainHeap>>,
 ) -> Option<Reply>
     ghost maker: { MakerTold }
     requires can { CanTurn maker core.old party.old }
@@ -359,15 +428,17 @@ fn ask<P: Pages>(
     requires small { party.old.done + 1 < 2 ^ 64 }
     requires idle { IsIdle party.old.frame }
     requires reserved { IsReserved party.old.frame slots.old }
+    requires unanswered { outcome.old ≡ None }
     ensures turn { TurnsFrom (OpensRequest (Some kept.now) party.old) core.old party.old (record { core = core.new; party = party.new; reply = result }) }
     ensures reserved { IsReserved party.new.frame slots.new }
+    ensures unanswered { outcome.new ≡ None }
 {
     match prepare(alloc, kept) {
         Err(_) => end_at_once(party, Reply::Refused(Refusal::Alloc(Cause::Memory))),
         Ok(prepared) => {
             *slots = prepared.1;
             party.frame.begin(Call::Module(prepared.0));
-            step_call(alloc, core, party, slots)
+            step_call(alloc, core, party, slots, outcome)
         }
     }
 }
@@ -409,6 +480,7 @@ fn give_back<P: Pages>(
     party: &mut RunningParty<P>,
     slots: &mut SlotLists,
     of: usize,
+    outcome: &mut Option<Outcome<P, PlainHeap>>,
 ) -> Option<Reply>
     ghost maker: { MakerTold }
     requires can { CanTurn maker core.old party.old }
@@ -416,14 +488,16 @@ fn give_back<P: Pages>(
     requires small { party.old.done + 1 < 2 ^ 64 }
     requires idle { IsIdle party.old.frame }
     requires reserved { IsReserved party.old.frame slots.old }
+    requires unanswered { outcome.old ≡ None }
     ensures turn { TurnsFrom (λ o. o ≡ drop_opening (slice_index_or party.old.live of None) of party.old) core.old party.old (record { core = core.new; party = party.new; reply = result }) }
     ensures reserved { IsReserved party.new.frame slots.new }
+    ensures unanswered { outcome.new ≡ None }
 {
     match party.live.take(of) {
         None => end_at_once(party, Reply::Refused(Refusal::NoSuchGrant)),
         Some(grant) => {
             party.frame.begin(Call::GiveBack(grant));
-            step_call(alloc, core, party, slots)
+            step_call(alloc, core, party, slots, outcome)
         }
     }
 }

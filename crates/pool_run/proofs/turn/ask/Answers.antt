@@ -27,7 +27,7 @@ returns-in-Ok-clause-turn g c =
     (makes_step (begun_call (call.Module kept) p.frame) p.live, inr refl, subst S (c.begin.ensures.value ∙ ap Begun share) c.step_call.ensures.steps)
 
 pub returns-in-Err-clause-reserved : goal.returns-in-Err-clause-reserved
-returns-in-Err-clause-reserved g c = c.end_at_once.ensures.reserved c.args.slots.now c.requires.1.1.1.1.1.1.1
+returns-in-Err-clause-reserved g c = c.end_at_once.ensures.reserved c.args.slots.now c.requires.1.1.1.1.1.1.1.0
 
 pub step_call-requires : goal.step_call-requires
 step_call-requires g c κs within =

@@ -29,7 +29,7 @@ returns-in-OnTable-clause-turn g c =
     )
 
 pub returns-in-OnMemory-clause-reserved : goal.returns-in-OnMemory-clause-reserved
-returns-in-OnMemory-clause-reserved g c = c.end_at_once.ensures.reserved c.args.slots.now c.requires.1.1.1.1.1.1.1.1
+returns-in-OnMemory-clause-reserved g c = c.end_at_once.ensures.reserved c.args.slots.now c.requires.1.1.1.1.1.1.1.1.0
 
 pub returns-in-OnTable-clause-reserved : goal.returns-in-OnTable-clause-reserved
-returns-in-OnTable-clause-reserved g c = c.end_at_once-in-OnTable.ensures.reserved c.args.slots.now c.requires.1.1.1.1.1.1.1.1
+returns-in-OnTable-clause-reserved g c = c.end_at_once-in-OnTable.ensures.reserved c.args.slots.now c.requires.1.1.1.1.1.1.1.1.0

@@ -13,6 +13,6 @@ step_call-requires g c κs within =
     let asked : Call P PlainHeap = c.args.call in
     let R : Frame P PlainHeap → Type 0 = λ f. IsReserved f c.args.slots.now in
     let Can : Frame P PlainHeap → Type 0 = λ f. CanTurn g.maker c.args.core.now (record p { frame = f }) in
-    let reserved : R c.begin.new.self = subst R (sym c.begin.ensures.value) (plain_reserved asked p.frame c.args.slots.now c.requires.1.0 c.requires.1.1.1.1.1.1.1) in
+    let reserved : R c.begin.new.self = subst R (sym c.begin.ensures.value) (plain_reserved asked p.frame c.args.slots.now c.requires.1.0 c.requires.1.1.1.1.1.1.1.0) in
     let can : Can c.begin.new.self = subst Can (sym c.begin.ensures.value) (called_plain g.maker asked c.args.core.now p c.requires.1.0 c.requires.1.1.0 c.requires.1.1.1.1.1.1.0 c.requires.1.1.1.1.0) in
     search rules

@@ -19,7 +19,7 @@ step_call-requires g c κs within =
     let begun = called_back g.maker c.args.of grant c.args.core.now p c.requires.1.0 c.requires.1.1.1.1.0 has in
     let Live : List (Option (Grant P PlainHeap)) → Frame P PlainHeap → Type 0 = λ live f. CanTurn g.maker c.args.core.now (record p { live = live; frame = f }) in
     let R : Frame P PlainHeap → Type 0 = λ f. IsReserved f c.args.slots.now in
-    let reserved : R c.begin.new.self = subst R (sym c.begin.ensures.value) (back_reserved grant p.frame c.args.slots.now c.requires.1.1.1.1.1) in
+    let reserved : R c.begin.new.self = subst R (sym c.begin.ensures.value) (back_reserved grant p.frame c.args.slots.now c.requires.1.1.1.1.1.0) in
     let can : Live c.take.new.self c.begin.new.self = subst (Live c.take.new.self) (sym c.begin.ensures.value) (subst (λ (live : List (Option (Grant P PlainHeap))). Live live (begun_call (call.GiveBack grant) p.frame)) (sym c.take.ensures.rest) begun) in
     search rules
 
@@ -33,4 +33,4 @@ returns-in-None-clause-turn g c =
     (replies (Refused NoSuchGrant) p.live p.store, sym (ap (λ (x : Option (Grant P PlainHeap)). drop_opening x c.args.of p) none), c.end_at_once.ensures.turn c.args.core.now ∙ ap End (c.take.ensures.rest ∙ same))
 
 pub returns-in-None-clause-reserved : goal.returns-in-None-clause-reserved
-returns-in-None-clause-reserved g c = c.end_at_once.ensures.reserved c.args.slots.now c.requires.1.1.1.1.1
+returns-in-None-clause-reserved g c = c.end_at_once.ensures.reserved c.args.slots.now c.requires.1.1.1.1.1.0

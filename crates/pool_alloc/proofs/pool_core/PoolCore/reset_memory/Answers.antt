@@ -11,14 +11,14 @@ push_reset-requires-clause-reset g c =
     let R : List ByteRange → Type 0 = λ l. IsReset l (memory_queued c.in-Ok.kept c.slot_taken-at.result c.clear_and_remain_ready.new.self) in
     let M : Queued → Type 0 = λ m. IsReset c.as_slice-listed.result.now m in
     subst M (sym c.memory_queued-item.ensures) (subst R (sym c.as_slice-listed.ensures)
-    (memory_reset c.args.self.now.settings.keep_resident.bytes slot.accessible.bytes c.in-Ok.kept slot.region.behaviour c.slot_taken-at.result c.clear_and_remain_ready.new.self c.clear_and_remain_ready.new.ranges c.requires.kept c.in-Ok.ensures.resident c.clear_and_remain_ready.ensures.fits c.clear_and_remain_ready.ensures.parts c.in-Ok.ensures.clean_after))
+    (memory_reset c.args.self.now.settings.keep_resident.bytes slot.accessible.bytes c.in-Ok.kept slot.region.behaviour c.slot_taken-at.result c.clear_and_remain_ready.new.self c.clear_and_remain_ready.new.ranges c.requires.can.kept c.in-Ok.ensures.resident c.clear_and_remain_ready.ensures.fits c.clear_and_remain_ready.ensures.parts c.in-Ok.ensures.clean_after))
 
 pub returns : goal.returns
 returns g c =
     let keep = c.args.self.now.settings.keep_resident.bytes in
     let new : Slot = c.clear_and_remain_ready.new.self in
     let T : Slot → Type 0 = λ s. Resets false keep (slot_taken c.args.lease) s new in
-    let told = reset_told keep c.in-Ok.kept (slot_taken c.args.lease) c.unwrap_static_image-slot.result new c.clear_and_remain_ready.new.ranges c.requires.kept c.in-Ok.ensures.value c.in-Ok.ensures.resident c.clear_and_remain_ready.ensures.ranges c.clear_and_remain_ready.ensures.fits c.clear_and_remain_ready.ensures.parts c.in-Ok.ensures.clean_after in
+    let told = reset_told keep c.in-Ok.kept (slot_taken c.args.lease) c.unwrap_static_image-slot.result new c.clear_and_remain_ready.new.ranges c.requires.can.kept c.in-Ok.ensures.value c.in-Ok.ensures.resident c.clear_and_remain_ready.ensures.ranges c.clear_and_remain_ready.ensures.fits c.clear_and_remain_ready.ensures.parts c.in-Ok.ensures.clean_after in
     (false, new, subst T (search rules) told, search rules, search rules)
 
 pub returns-in_default : goal.returns-in_default

@@ -1,4 +1,4 @@
-use Rattle.std.proofs.Common.{List, sym, subst}
+use Rattle.std.proofs.Common.{List, refl, sym, subst}
 use Rattle.pool_run.proofs.Imports.{PoolCore, PlainHeap}
 use Rattle.pool_run.specs.RunsMade.{IsKept, AreReserved}
 use Rattle.pool_run.specs.declared.running_party.RunningParty.{RunningParty}
@@ -11,5 +11,5 @@ invariant_of-result g c =
     let P : Type 0 = g.row.P.Denot in
     let core : PoolCore P PlainHeap = c.args.core in
     let To : List (RunningParty P) → Type 0 = λ parties. IsKept core parties × AreReserved parties c.in_ok-slots.slots.items in
-    subst To (sym c.in_ok-made.ensures)
-    (kept_at_start g.maker core c.args.parties.now c.requires.1.0 c.requires.1.1.0 c.requires.1.1.1.1, made_reserved core.settings c.args.parties.now c.in_ok-slots.slots.items c.in_ok-slots.ensures)
+    let so = subst To (sym c.in_ok-made.ensures) (kept_at_start g.maker core c.args.parties.now c.requires.1.0 c.requires.1.1.0 c.requires.1.1.1.1, made_reserved core.settings c.args.parties.now c.in_ok-slots.slots.items c.in_ok-slots.ensures) in
+    (so.0, so.1, refl)

@@ -33,7 +33,7 @@ turn_of-requires g c κs within =
     let x : SlotLists = c.index_mut-slots.result.now in
     let R : RunningParty P → SlotLists → Type 0 = λ q slots. IsReserved q.frame slots in
     let reserved : R p x = subst (R p) (sym c.index_mut-slots.ensures.value) (subst (λ q. R q (slice_index_or c.self.inside.slots.items i x)) (sym c.index_mut-running.ensures.value) (c.self.invariant.1.each i p x below)) in
-    (search rules, (take.can, (take.counts, (modules.0, (modules.1, (take.places, (take.small, reserved)))))))
+    (search rules, (take.can, (take.counts, (modules.0, (modules.1, (take.places, (take.small, (reserved, c.self.invariant.2))))))))
 
 pub invariant_of-self : goal.invariant_of-self
 invariant_of-self g c =
@@ -51,7 +51,7 @@ invariant_of-self g c =
     let t : Turned P = record { core = c.turn_of.new.core; party = c.turn_of.new.party; reply = c.turn_of.result } in
     let T : List ModuleAsked → Type 0 = λ modules. Turns modules commands s.core p t in
     let after = turn_after g.before.of given commands i p s t run c.self.invariant.0 there same (subst T c.as_slice-modules.ensures.value c.turn_of.ensures.turn) in
-    (after.kept, turned_reserved s.parties c.self.inside.slots.items i t.party c.turn_of.new.slots below c.self.invariant.1 c.turn_of.ensures.reserved)
+    (after.kept, turned_reserved s.parties c.self.inside.slots.items i t.party c.turn_of.new.slots below c.self.invariant.1 c.turn_of.ensures.reserved, c.turn_of.ensures.unanswered)
 
 pub returns : goal.returns
 returns g c =
