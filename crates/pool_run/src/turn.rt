@@ -28,10 +28,9 @@ use pool_slots::{AllocError as Cause, ListedHeaps, PlainHeap};
 use std::alloc::{AllocError, Global};
 use std::mem;
 
-/// Makes a party's turn: the next step of its call, or the first step of its next command, where there is one. Answers
-/// the reply to the command that ends with it. The slots of what the party asks for are listed in `slots`: its room is
-/// reserved before the request begins, so that want of memory for it is the request's refusal. A step puts the outcome of its
-/// call into `outcome`, from where the turn takes it again.
+/// Makes a party's turn: the next step of its call, or the first of its next command, where there is one. Answers the reply to
+/// the command that ends with it. The slots of what the party asks for are listed in `slots`: its room is reserved before the
+/// request begins, so that want of memory for it is the request's refusal. `outcome` is empty between turns.
 pub fn turn_of<P: Pages>(
     alloc: Global,
     core: &mut PoolCore<P, PlainHeap>,
@@ -188,8 +187,7 @@ fn reply_to<P: Pages>(
     }
 }
 
-// The reply to a request that was granted: the slots of an instance's memories and tables, in the lists that were reserved
-// for them.
+// The reply to a request that was granted: the slots of its memories and tables, in the lists that were reserved for them.
 fn granted_reply<P: Pages>(slots: SlotLists, grant: &Grant<P, PlainHeap>) -> Reply
     requires empty { (slots.memories.items ≡ []) × (slots.tables.items ≡ []) }
     requires memories { length (leases_listed grant.now) ≤ slots.memories.room }
@@ -236,8 +234,7 @@ fn table_slots<P: Pages>(slots: ReservedVec<u32>, lease: &InstanceLease<P>) -> S
     slots.into_list()
 }
 
-// Makes the first step of the next command, or of the call that gives the party its stripe. No other step prepares room for
-// what it has in hand.
+// Makes the first step of the next command, or of the call for the party's stripe. No other step prepares room for its values.
 #[inline(never)]
 fn begin_next<P: Pages>(
     alloc: Global,
