@@ -1,6 +1,6 @@
 -- The rows of a request until it has a slot.
-use Rattle.std.proofs.Common.{◌≡◌, ℕ, ◌+◌, ◌-◌, ◌<◌, ◌≤◌, Bool, true, false, List, [], length, refl, sym, ap, subst, inl, arith, Option, Some, None, ◌==◌, ◌%◌, nat_lt, IfSome}
-use Rattle.pool_alloc.proofs.Imports.{told_weaker, of_kind, memory_kind, table_kind, stack_kind, heap_kind, Allocator, SlotName, SlotKind, pick_unit, ltb-true, ltb-false, eqb-true, eqb-false, All-nil, All-same, mod-lt, MakerTold, Unsupported, ShardState, slot_number, after_pick, pick_answer, SlotId, Queue, after_take, taken_into, AllocError, no_slots}
+use Rattle.std.proofs.Common.{◌≡◌, ℕ, ◌+◌, ◌-◌, ◌<◌, ◌≤◌, Bool, true, false, List, [], length, refl, sym, ap, subst, inl, arith, Option, Some, None, ◌==◌, ◌%◌, nat_lt, IfSome, ◌*◌}
+use Rattle.pool_alloc.proofs.Imports.{told_weaker, of_kind, memory_kind, table_kind, stack_kind, heap_kind, Allocator, SlotName, SlotKind, pick_unit, ltb-true, ltb-false, eqb-true, eqb-false, All-nil, mod-lt, MakerTold, Unsupported, ShardState, slot_number, after_pick, pick_answer, SlotId, Queue, after_take, taken_into, AllocError, no_slots}
 use Rattle.pool_alloc.specs.declared.frame.Outcome.TheVariants as answer
 use Rattle.pool_alloc.proofs.RegionRows.{heap_is_next}
 use Rattle.pool_alloc.proofs.PlanPlaces.{allocator_is, IsShardPlace, IsQueuePlace, apart_places, tried_role, tried_is_shard, tried_is_queue, allocator_most, allocator_holds}
@@ -13,26 +13,26 @@ use Rattle.pool_alloc.specs.declared.pool_core.Settings.{Settings}
 use Rattle.pool_alloc.specs.declared.frame.Frame.{Frame}
 use Rattle.pool_alloc.specs.declared.frame.FreedSlot.{FreedSlot}
 use Rattle.pool_alloc.specs.declared.frame.Phase.{Phase}
-use Rattle.pool_alloc.specs.declared.frame.Phase.TheVariants.{Idle, Key, Validate, TestStack, CountInstance, Pick, TakeQueue, TakeRegion, TakeHeap}
+use Rattle.pool_alloc.specs.declared.frame.Phase.TheVariants.{Idle, Key, Validate, TestStack, CountInstance, Pick, TakeQueue, TakeRegion}
 use Rattle.pool_slots.specs.declared.errors.AllocError.TheVariants as refusal
 use Rattle.pool_alloc.specs.Bounds.{all_slots, flush_bound, PoolSizes, give_back_bound, sizes_of, flush_left, objects_left, steps_left}
 use Rattle.pool_alloc.specs.Leases.{Lease}
 use Rattle.pool_alloc.specs.PoolTables.{IsTableLease}
 use Rattle.pool_alloc.specs.TableLeases.{LeasedTable}
-use Rattle.pool_alloc.specs.Places.{instances_for, right_to, queued_count, leased_count, tables_count, freed_count, Thing, slot_count, phase_count, phase_instances, phase_memories, phase_tables, phase_stacks, phase_heaps}
+use Rattle.pool_alloc.specs.Places.{instances_for, right_to, queued_count, freed_count, Thing, slot_count, phase_count, phase_instances, Weight, counted_instance, phase_counted}
 use Rattle.pool_alloc.specs.Refusals.{module_refused}
 use Rattle.pool_alloc.specs.Rows.{stacks_tested, test_stack_row, key_row, refused_at_once, reserved, validated, validate_row, counted, count_instance_row, picked, pick_on, in_shard, take_queue_on, in_queue, taken_next}
 use Rattle.pool_alloc.specs.Searches.{AreFull, AreEmpty, IsSearchedBy}
 use Rattle.pool_alloc.specs.Objects.{objects_in, no_objects}
 use Rattle.pool_alloc.specs.Sound.{IsCore, IsSlotName, IsShared, IsLeaseOf, IsToGrant, AreBegun, IsEnabled, IsAtRest}
 use Rattle.pool_alloc.specs.Stages.{Progress, uncounted, seeks_stack, asks, stage_by, IsUntested, Follows, Goes, stage_of, no_call}
-use Rattle.pool_alloc.specs.Steps.{memories_wanted, images_wanted, tables_wanted, stacks_wanted, IsModule, kind_next, wanted, shard_at, queue_at, with_shard, with_queue, counting_instances, shard_tried, queue_tried, allocator_for, info_wanted, IsForInstance}
+use Rattle.pool_alloc.specs.Steps.{memories_wanted, tables_wanted, stacks_wanted, IsModule, kind_next, wanted, shard_at, queue_at, with_shard, with_queue, counting_instances, shard_tried, queue_tried, allocator_for, info_wanted, IsForInstance}
 use Rattle.pool_alloc.specs.Turns.{goes, next, flush, Row, failing, no_slot_left, slot_search}
 use Rattle.pool_alloc.proofs.CoreChanges.{core_with_shard, core_with_queue, core_with_counters}
 use Rattle.pool_alloc.proofs.FlushFinds.{none_waits}
 use Rattle.pool_alloc.proofs.FlushSteps.{few_in_queue, flush_few}
 use Rattle.pool_alloc.proofs.FullShards.{nothing_left}
-use Rattle.pool_alloc.proofs.Hands.{empty_length, counts_none, counts_one, is_admitted, none_for_stack, Hand, in_phase, hand, held_of, Even, Kept, Ready, IsReadyRow, either_ready}
+use Rattle.pool_alloc.proofs.Hands.{empty_length, counts_one, is_admitted, none_for_stack, Hand, in_phase, hand, held_of, Even, Kept, Ready, IsReadyRow, either_ready, only_one, none_weighs}
 use Rattle.pool_alloc.proofs.KeptCounts.{kept_shard, kept_queue, away_shard, away_queue}
 use Rattle.pool_alloc.proofs.LocalQueues.{taken_shared, taken_local, local_of_shared}
 use Rattle.pool_alloc.proofs.Picks.{picked_sound, picked_same, picked_inside}
@@ -51,8 +51,8 @@ abbrev picked_slot : Thing → Allocator → ShardState → Option (SlotId × �
 picked_slot t a s (Some p) = slot_count t (picked_name a s p.0.0)
 picked_slot t a s None = 0
 
-abbrev picked_hand : Allocator → ShardState → Option (SlotId × ℕ) → Hand
-picked_hand a shard o = record { things = λ t. picked_slot t a shard o; instances = 1; memories = 0; tables = 0; stacks = 0; heaps = 0 }
+abbrev picked_hand : Asked → Allocator → ShardState → Option (SlotId × ℕ) → Hand
+picked_hand asked a shard o w = picked_slot w.unit a shard o + instances_for asked * w.counts counted_instance
 
 picked_as : (t : Thing) (a : Allocator) (s : ShardState) (o : Option (SlotId × ℕ)) → s.kind ≡ a.kind → picked_count t s o ≡ picked_slot t a s o
 picked_as t a s None kind = refl
@@ -68,8 +68,8 @@ module_enabled s (module_asked m) is = tt
 module_enabled s asked is = absurd is
 
 -- what a call has in hand that has picked a slot
-abbrev one_slot : SlotName → Hand
-one_slot name = record { things = λ t. slot_count t name; instances = 1; memories = 0; tables = 0; stacks = 0; heaps = 0 }
+abbrev one_slot : Asked → SlotName → Hand
+one_slot asked name w = slot_count w.unit name + instances_for asked * w.counts counted_instance
 
 module _ {P H : Type 0} (maker : MakerTold) (old new : PartyTold) where
   abbrev Shows : Phase P H → PoolCore P H → Frame P H → Row (PoolCore P H) P H → Type 0
@@ -84,33 +84,29 @@ module _ {P H : Type 0} (maker : MakerTold) (old new : PartyTold) where
       asked = refl;
       settings = refl;
       plan = refl;
-      instances_by_one = omega arith;
-      memories_by_one = omega arith;
-      tables_by_one = omega arith;
-      stacks_by_one = omega arith;
-      heaps_by_one = omega arith;
+      by_one = λ k. omega arith;
     };
     shape = (can.frame.shape, tt);
-    even = record { places = λ t. omega arith; instances = omega arith; memories = omega arith; tables = omega arith; stacks = omega arith; heaps = omega arith };
+    even = λ w. omega arith;
     fewer = omega arith;
     way = tt;
     searched = λ s. tt;
   }
 
   -- A request is refused before anything is granted.
-  pub refused_ready : (p : Phase P H) (e : AllocError) (c : PoolCore P H) (f : Frame P H) → Can maker p c f → IsAtRest f → ((t : Thing) → phase_count t p ≡ 0) → (phase_instances p ≡ 0) × (phase_memories p ≡ 0) × (phase_tables p ≡ 0) × (phase_stacks p ≡ 0) × (phase_heaps p ≡ 0)
+  pub refused_ready : (p : Phase P H) (e : AllocError) (c : PoolCore P H) (f : Frame P H) → Can maker p c f → IsAtRest f → ((w : Weight) → phase_count w.unit p + phase_counted w.counts p ≡ 0) → phase_instances p ≡ 0
       → 1 ≤ steps_left c (in_phase p f) → Goes maker old new c (in_phase p f) (stage_of (in_phase p f)) no_call (Some (answer.Refused e)) → Shows p c f (refused_at_once e c (in_phase Idle f))
   refused_ready p e c f can rest nothing none fewer way = record {
     kept = kept_part maker old new c (in_phase p f) c (failing e (in_phase Idle f)) can.core (held_of maker c.settings c.plan (in_phase p f) can.frame) refl refl refl refl;
     shape = (rest, tt);
-    even = record { places = λ t. omega (arith, nothing t); instances = omega (arith, ap (instances_for f.asked) none.0); memories = omega (arith, none.1); tables = omega (arith, none.2); stacks = omega (arith, none.3); heaps = omega (arith, none.4) };
+    even = λ w. omega (arith, nothing w, ap (λ (n : ℕ). n * instances_for f.asked * w.counts counted_instance) none);
     fewer = fewer;
     way = way;
     searched = λ s. tt;
   }
 
   reserved_ready : (wants : Bool) (c : PoolCore P H) (f : Frame P H) → Can maker Validate c f → module_refused c.settings c.plan.totals.table (info_wanted f.asked) ≡ None → Shows Validate c f (reserved wants CountInstance c (in_phase Idle f))
-  reserved_ready true c f can is = refused_ready Validate refusal.Memory c f can can.frame.shape.0 (λ t. refl) (refl, refl, refl, refl, refl) (omega arith) (let U : Option Unsupported → Type 0 = λ o. IsUntested o refusal.Memory in subst U (sym is) refl)
+  reserved_ready true c f can is = refused_ready Validate refusal.Memory c f can can.frame.shape.0 (λ w. refl) refl (omega arith) (let U : Option Unsupported → Type 0 = λ o. IsUntested o refusal.Memory in subst U (sym is) refl)
   reserved_ready false c f can is =
       let rest = can.frame.shape.0 in
       let asking = can.frame.shape.1 in
@@ -123,14 +119,14 @@ module _ {P H : Type 0} (maker : MakerTold) (old new : PartyTold) where
             (record { stripe = can.frame.stripe; queue = can.frame.queue; freed_room = can.frame.freed_room; freed_each = can.frame.freed_each; freed_order = can.frame.freed_order; objects = (All-nil (IsLeaseOf maker c.settings c.plan), All-nil (IsTableLease maker c.settings c.plan)) })
             refl refl refl refl;
         shape = (refl, (record { settled = rest.settled; no_memories = refl; no_tables = refl }, asking, both.0, refl, refl, both.1));
-        even = record { places = λ t. omega (arith, ap (leased_count t) none, ap (tables_count t) none_more); instances = omega arith; memories = omega (arith, ap (length {A = Lease}) none); tables = omega (arith, ap (length {A = LeasedTable}) none_more); stacks = omega arith; heaps = omega arith };
+        even = λ w. omega (arith, none_weighs w f.objects none none_more);
         fewer = omega arith;
         way = is;
         searched = λ s. tt;
       }
 
   validated_ready : (o : Option Unsupported) (wants : Bool) (c : PoolCore P H) (f : Frame P H) → Can maker Validate c f → module_refused c.settings c.plan.totals.table (info_wanted f.asked) ≡ o → Shows Validate c f (validated o wants CountInstance c (in_phase Idle f))
-  validated_ready (Some rule) wants c f can is = refused_ready Validate (refusal.Unsupported rule) c f can can.frame.shape.0 (λ t. refl) (refl, refl, refl, refl, refl) (omega arith) (let U : Option Unsupported → Type 0 = λ o. IsUntested o (refusal.Unsupported rule) in subst U (sym is) refl)
+  validated_ready (Some rule) wants c f can is = refused_ready Validate (refusal.Unsupported rule) c f can can.frame.shape.0 (λ w. refl) refl (omega arith) (let U : Option Unsupported → Type 0 = λ o. IsUntested o (refusal.Unsupported rule) in subst U (sym is) refl)
   validated_ready None wants c f can is = reserved_ready wants c f can is
 
   pub validate_ready : (wants : Bool) (c : PoolCore P H) (f : Frame P H) → Can maker Validate c f → Shows Validate c f (validate_row wants c (in_phase Idle f))
@@ -164,9 +160,9 @@ module _ {P H : Type 0} (maker : MakerTold) (old new : PartyTold) where
       let W : Ending → Type 0 = λ x. Goes maker old new c (in_phase CountInstance f) (asks uncounted) (stage_by f.asked x (objects_in f.objects)) None in
       let F : Progress → Type 0 = λ p. Follows old new c (in_phase CountInstance f) uncounted p in
       record {
-        kept = record { core = core_with_counters maker (record c.counters { core_instances = c.counters.core_instances + 1 }) c can.core; held = held_of maker c.settings c.plan (in_phase CountInstance f) can.frame; asked = refl; settings = refl; plan = refl; instances_by_one = omega arith; memories_by_one = omega arith; tables_by_one = omega arith; stacks_by_one = omega arith; heaps_by_one = omega arith };
+        kept = record { core = core_with_counters maker (record c.counters { core_instances = c.counters.core_instances + 1 }) c can.core; held = held_of maker c.settings c.plan (in_phase CountInstance f) can.frame; asked = refl; settings = refl; plan = refl; by_one = λ k. omega (arith, only_one k counted_instance) };
         shape = (rest.settled, aims_grant c.settings c.plan f.ending f.asked f.queues f.objects asking.ending to_grant);
-        even = record { places = λ t. omega arith; instances = omega (arith, counts_none f.asked, counts_one f.asked 1 one); memories = omega arith; tables = omega arith; stacks = omega arith; heaps = omega arith };
+        even = λ w. omega (arith, ap (λ (n : ℕ). n * w.counts counted_instance) (counts_one f.asked one));
         fewer = first_object (sizes_of c.settings c.plan) f.ending f.queues f.asked f.objects asking.ending asking.none_taken nothing one.no_stack;
         way = subst W (sym asking.ending) (subst F (sym (is_admitted f.asked (objects_in f.objects) one)) (nothing, ltb-true _ _ is));
         searched = λ s. subst S (sym asking.ending) (λ j below. absurd (omega (arith, below, asking.none_taken)));
@@ -175,9 +171,9 @@ module _ {P H : Type 0} (maker : MakerTold) (old new : PartyTold) where
       let rest = can.frame.shape.0 in
       let nothing : objects_in f.objects ≡ 0 = omega (arith, ap (length {A = Lease}) rest.no_memories, ap (length {A = LeasedTable}) rest.no_tables) in
       record {
-        kept = record { core = core_with_counters maker (record c.counters { core_instances = c.counters.core_instances + 1 }) c can.core; held = held_of maker c.settings c.plan (in_phase CountInstance f) can.frame; asked = refl; settings = refl; plan = refl; instances_by_one = omega arith; memories_by_one = omega arith; tables_by_one = omega arith; stacks_by_one = omega arith; heaps_by_one = omega arith };
+        kept = record { core = core_with_counters maker (record c.counters { core_instances = c.counters.core_instances + 1 }) c can.core; held = held_of maker c.settings c.plan (in_phase CountInstance f) can.frame; asked = refl; settings = refl; plan = refl; by_one = λ k. omega (arith, only_one k counted_instance) };
         shape = (rest.settled, tt);
-        even = record { places = λ t. omega arith; instances = omega (arith, counts_none f.asked, counts_one f.asked 1 (module_is_one f.asked can.frame.shape.1.asked_for)); memories = omega arith; tables = omega arith; stacks = omega arith; heaps = omega arith };
+        even = λ w. omega (arith, ap (λ (n : ℕ). n * w.counts counted_instance) (counts_one f.asked (module_is_one f.asked can.frame.shape.1.asked_for)));
         fewer = omega (arith, same_times (objects_in f.objects) 0 (give_back_bound (sizes_of c.settings c.plan)) nothing);
         way = (refl, ltb-false _ _ is);
         searched = λ s. tt;
@@ -188,7 +184,7 @@ module _ {P H : Type 0} (maker : MakerTold) (old new : PartyTold) where
 
   -- Stacks are tested for being enabled.
   stacks_tested_ready : (b : Bool) (c : PoolCore P H) (f : Frame P H) → Can maker TestStack c f → (c.settings.stack_size == 0) ≡ b → Shows TestStack c f (stacks_tested b c (in_phase Idle f))
-  stacks_tested_ready true c f can is = refused_ready TestStack refusal.StacksDisabled c f can can.frame.shape.0 (λ t. refl) (refl, refl, refl, refl, refl) (omega arith) (inl (refl, eqb-true c.settings.stack_size 0 is))
+  stacks_tested_ready true c f can is = refused_ready TestStack refusal.StacksDisabled c f can can.frame.shape.0 (λ w. refl) refl (omega arith) (inl (refl, eqb-true c.settings.stack_size 0 is))
   stacks_tested_ready false c f can is =
       let e : Frame P H = in_phase TestStack f in
       let rest = can.frame.shape.0 in
@@ -218,7 +214,7 @@ module _ {P H : Type 0} (maker : MakerTold) (old new : PartyTold) where
             (record { stripe = can.frame.stripe; queue = can.frame.queue; freed_room = can.frame.freed_room; freed_each = can.frame.freed_each; freed_order = can.frame.freed_order; objects = (All-nil (IsLeaseOf maker c.settings c.plan), All-nil (IsTableLease maker c.settings c.plan)) })
             refl refl refl refl;
         shape = (refl, (rest.settled, record { ending = can.frame.shape.1.0; to_grant = subst S (sym stack) to_grant; more = omega (arith, one) }, (allocator_is c.plan (length c.parts) (kind_next has) f.stripe can.core.plan can.frame.stripe).some));
-        even = record { places = λ t. omega (arith, ap (leased_count t) rest.no_memories, ap (tables_count t) rest.no_tables); instances = omega (arith, ap (λ (a : Asked). instances_for a 1) stack, ap (λ (a : Asked). instances_for a 0) stack); memories = omega (arith, ap (length {A = Lease}) rest.no_memories); tables = omega (arith, ap (length {A = LeasedTable}) rest.no_tables); stacks = omega arith; heaps = omega arith };
+        even = λ w. omega (arith, none_weighs w f.objects rest.no_memories rest.no_tables, ap (λ (a : Asked). instances_for a * w.counts counted_instance) stack);
         fewer = omega (arith, none, can.frame.shape.1.1, same_times (sizes_of c.settings c.plan).queues ((sizes_of c.settings c.plan).queues - f.queues) (flush_bound (sizes_of c.settings c.plan) + (sizes_of c.settings c.plan).shards) (omega (arith, can.frame.shape.1.1)));
         way = subst W (sym stack) (subst E (sym can.frame.shape.1.0) tt);
         searched = λ s. (λ j below. absurd (omega (arith, below, can.frame.shape.1.1)), λ j below. absurd (omega (arith, below)));
@@ -231,11 +227,11 @@ module _ {P H : Type 0} (maker : MakerTold) (old new : PartyTold) where
   picked_region : (name : SlotName) (tried : ℕ) (next_shard : ShardState) (c : PoolCore P H) (f : Frame P H) →
       (let d : PoolCore P H = with_shard (shard_tried tried c.plan f) next_shard c in
       let e : Frame P H = in_phase (Pick tried) f in
-      Can maker (Pick tried) c f → IsCore maker d → IsSlotName c.plan name → kind_next f ≡ name.kind → Even maker old new c e (one_slot name) d (in_phase Idle f) → Ready maker old new c e d (in_phase Idle f) (goes (TakeRegion name)))
+      Can maker (Pick tried) c f → IsCore maker d → IsSlotName c.plan name → kind_next f ≡ name.kind → Even maker old new c e (one_slot f.asked name) d (in_phase Idle f) → Ready maker old new c e d (in_phase Idle f) (goes (TakeRegion name)))
   picked_region name tried next_shard c f can core named next_is even = record {
     kept = kept_part maker old new c (in_phase (Pick tried) f) _ (in_phase Idle f) core (held_of maker c.settings c.plan (in_phase (Pick tried) f) can.frame) refl refl refl refl;
     shape = (refl, (can.frame.shape.0, can.frame.shape.1, named, sym next_is));
-    even = even;
+    even = λ w. omega (arith, even w);
     fewer = omega (arith, can.frame.shape.2, allocator_most c.plan (length c.parts) (kind_next f) f.stripe can.core.plan can.frame.stripe);
     way = same_way maker old new c (in_phase (Pick tried) f) f.asked f.ending (objects_in f.objects);
     searched = λ s. tt;
@@ -245,14 +241,14 @@ module _ {P H : Type 0} (maker : MakerTold) (old new : PartyTold) where
       (let d : PoolCore P H = with_shard (shard_tried tried c.plan f) next_shard c in
       let e : Frame P H = in_phase (Pick tried) f in
       let name : SlotName = record { kind = kind; slot = slot } in
-      Can maker (Pick tried) c f → IsCore maker d → kind_next f ≡ kind → slot < of_kind kind c.plan.totals → Even maker old new c e (one_slot name) d (in_phase Idle f) → Ready maker old new c e d (in_phase Idle f) (goes (taken_next kind name)))
+      Can maker (Pick tried) c f → IsCore maker d → kind_next f ≡ kind → slot < of_kind kind c.plan.totals → Even maker old new c e (one_slot f.asked name) d (in_phase Idle f) → Ready maker old new c e d (in_phase Idle f) (goes (taken_next kind name)))
   picked_at memory_kind tried slot next_shard c f can core next_is inside even = picked_region (record { kind = memory_kind; slot = slot }) tried next_shard c f can core (record { cells = tt; inside = inside }) next_is even
   picked_at table_kind tried slot next_shard c f can core next_is inside even = picked_region (record { kind = table_kind; slot = slot }) tried next_shard c f can core (record { cells = tt; inside = inside }) next_is even
   picked_at stack_kind tried slot next_shard c f can core next_is inside even = picked_region (record { kind = stack_kind; slot = slot }) tried next_shard c f can core (record { cells = tt; inside = inside }) next_is even
   picked_at heap_kind tried slot next_shard c f can core next_is inside even = record {
     kept = kept_part maker old new c (in_phase (Pick tried) f) _ (in_phase Idle f) core (held_of maker c.settings c.plan (in_phase (Pick tried) f) can.frame) refl refl refl refl;
     shape = (refl, (can.frame.shape.0, can.frame.shape.1, record { kind = refl; inside = inside }, heap_is_next f next_is));
-    even = even;
+    even = λ w. omega (arith, even w);
     fewer = omega (arith, can.frame.shape.2, allocator_most c.plan (length c.parts) (kind_next f) f.stripe can.core.plan can.frame.stripe);
     way = same_way maker old new c (in_phase (Pick tried) f) f.asked f.ending (objects_in f.objects);
     searched = λ s. tt;
@@ -265,7 +261,7 @@ module _ {P H : Type 0} (maker : MakerTold) (old new : PartyTold) where
       Can maker (Pick tried) c f →
       IsCore maker d →
       IfSome o (λ p. slot_number shard p.0.0 < of_kind (allocator_for c.plan f).kind c.plan.totals) →
-      Even maker old new c e (picked_hand (allocator_for c.plan f) shard o) d (in_phase Idle f) →
+      Even maker old new c e (picked_hand f.asked (allocator_for c.plan f) shard o) d (in_phase Idle f) →
       (o ≡ None → AreFull tried c f → AreFull (tried + 1) c f × AreFull (tried + 1) d f) →
       Ready maker old new c e d (in_phase Idle f) (picked c.plan o shard tried (in_phase Idle f)))
   picked_ready tried (Some p) shard next_shard c f can core inside even full =
@@ -283,7 +279,7 @@ module _ {P H : Type 0} (maker : MakerTold) (old new : PartyTold) where
       (λ more. record {
         kept = kept;
         shape = (refl, (settled, allocating, ltb-true _ _ more));
-        even = even;
+        even = λ w. omega (arith, even w);
         fewer = omega (arith, can.frame.shape.2, allocator_most c.plan (length c.parts) (kind_next f) f.stripe can.core.plan can.frame.stripe);
         way = stays;
         searched = λ s. (empty s.0, (full refl s.1).1);
@@ -293,7 +289,7 @@ module _ {P H : Type 0} (maker : MakerTold) (old new : PartyTold) where
       record {
         kept = kept;
         shape = (refl, settled, allocating);
-        even = even;
+        even = λ w. omega (arith, even w);
         fewer = omega (arith, can.frame.shape.2, allocator_most c.plan (length c.parts) (kind_next f) f.stripe can.core.plan can.frame.stripe);
         way = (
           stays,
@@ -319,7 +315,7 @@ module _ {P H : Type 0} (maker : MakerTold) (old new : PartyTold) where
       picked_ready tried (pick_answer (wanted f) shard) shard (after_pick (wanted f) shard) c f can
       (core_with_shard maker j (after_pick (wanted f) shard) c can.core below (picked_sound (wanted f) shard sound) (picked_same (wanted f) shard))
       (told_weaker (λ p. p.0.0 < shard.capacity) (λ p. slot_number shard p.0.0 < of_kind a.kind c.plan.totals) (pick_answer (wanted f) shard) (λ p within. subst (λ (k : SlotKind). slot_number shard p.0.0 < of_kind k c.plan.totals) kind (slot_of_shard maker j p.0.0 c can.core below within).inside) (picked_inside (wanted f) shard sound))
-      (record { places = λ t. omega (arith, kept_shard t j (after_pick (wanted f) shard) c (shard_part maker j c can.core below), away_shard t j (after_pick (wanted f) shard) c (shard_part maker j c can.core below), pick_counts t (wanted f) shard sound, picked_as t a shard (pick_answer (wanted f) shard) kind); instances = omega arith; memories = omega arith; tables = omega arith; stacks = omega arith; heaps = omega arith })
+      (λ w. omega (arith, kept_shard w.unit j (after_pick (wanted f) shard) c (shard_part maker j c can.core below), away_shard w.unit j (after_pick (wanted f) shard) c (shard_part maker j c can.core below), pick_counts w.unit (wanted f) shard sound, picked_as w.unit a shard (pick_answer (wanted f) shard) kind))
       (λ none full. let more = tried_full maker tried c f can.core can.frame.stripe none full in (more, still_full maker (tried + 1) tried c f can.core can.frame.stripe none more))
 
   -- A queue is taken.
@@ -359,7 +355,7 @@ module _ {P H : Type 0} (maker : MakerTold) (old new : PartyTold) where
         objects = can.frame.objects;
       })
       refl refl refl refl in
-      let even : Even maker old new c e (hand {P = P} {H = H} next) d has = record { places = λ t. omega (arith, kept_queue t i (after_take q) c (queue_part maker i c can.core below), away_queue t i (after_take q) c (queue_part maker i c can.core below), ap (queued_count t) settled.no_slots); instances = omega arith; memories = omega arith; tables = omega arith; stacks = omega arith; heaps = omega arith } in
+      let even : Even maker old new c e (hand {P = P} {H = H} f.asked next) d has = λ w. omega (arith, kept_queue w.unit i (after_take q) c (queue_part maker i c can.core below), away_queue w.unit i (after_take q) c (queue_part maker i c can.core below), ap (queued_count w.unit) settled.no_slots) in
       let few = flush_few z (all_slots c.plan) has.local f.freed shared.grouped (few_in_queue maker i c e can below) in
       let stays = same_way maker old new c e f.asked f.ending (objects_in f.objects) in
       either_ready maker old new c e d has (length q.slots == 0) (slot_search c.plan has) flush
@@ -368,7 +364,7 @@ module _ {P H : Type 0} (maker : MakerTold) (old new : PartyTold) where
       record {
         kept = kept;
         shape = (refl, record { no_ranges = no_slots q.ranges q.slots empty shared.owners; no_slots = empty; none_freed = settled.none_freed }, record { ending = can.frame.shape.1.ending; to_grant = to_grant; more = can.frame.shape.1.more });
-        even = even;
+        even = λ w. omega (arith, even w);
         fewer = omega (arith, next_queue z f.queues 0 (6 + objects_left z f.asked f.objects) can.frame.shape.2 (omega arith));
         way = (
           stays,
@@ -387,7 +383,7 @@ module _ {P H : Type 0} (maker : MakerTold) (old new : PartyTold) where
       record {
         kept = kept;
         shape = aims_grant c.settings c.plan f.ending f.asked (f.queues + 1) f.objects can.frame.shape.1.ending to_grant;
-        even = even;
+        even = λ w. omega (arith, even w);
         fewer = omega (arith, few, next_round z f.ending (f.queues + 1) f.asked f.objects can.frame.shape.1.ending, next_queue z f.queues (flush_left z has.local f.freed) (6 + objects_left z f.asked f.objects) can.frame.shape.2 (omega (arith, few)));
         way = stays;
         searched = λ s. subst S (sym can.frame.shape.1.ending) (taken_empty maker f.queues (after_take q) c f can.core refl s.0);

@@ -1,14 +1,13 @@
 -- A party's frame as it is made, and as a call begins in it.
 use Rattle.std.proofs.Common.{◌≡◌, ℕ, ◌+◌, ◌≤◌, false, List, [], ◌∷◌, length, refl, subst, ap, ◌∙◌, arith, ◌*◌, inl, Bool, true, ◌<◌, nat_lt}
-use Rattle.pool_alloc.proofs.Imports.{Plan, All-nil, All-head, All-tail, MakerTold, ltb-true, and_parts, CompiledModuleId}
-use Rattle.pool_alloc.specs.declared.frame.Object.TheVariants.{Memory, Table}
+use Rattle.pool_alloc.proofs.Imports.{Plan, All-nil, All-head, All-tail, MakerTold, ltb-true, and_parts, CompiledModuleId, memory_kind, table_kind}
 use Rattle.pool_alloc.specs.Bounds.{PoolSizes, return_bound, give_back_bound, bound_of, sizes_of, steps_at, steps_left, purge_left, purge_bound}
 use Rattle.pool_alloc.specs.Leases.{Lease}
 use Rattle.pool_alloc.specs.PoolTables.{IsTableLease}
 use Rattle.pool_alloc.specs.TableLeases.{LeasedTable}
-use Rattle.pool_alloc.specs.Places.{Thing, leased_count, tables_count, queued_count, freed_count, phase_count, frame_count, phase_instances, frame_instances, instances_for, phase_memories, frame_memories, phase_tables, frame_tables, phase_stacks, phase_heaps, phase_components}
+use Rattle.pool_alloc.specs.Places.{leased_count, tables_count, queued_count, freed_count, phase_count, phase_instances, frame_instances, instances_for, Weight, counted_instance, counted_object, instance_counted, phase_counted, frame_weight, instance_count}
 use Rattle.pool_alloc.specs.Sound.{NothingWaits, IsCore, IsFrame, IsLeaseOf, IsQueuedOf, MayBeRanged, IsAtRest, IsShapedAt}
-use Rattle.pool_alloc.specs.Stepping.{IsSameSize, grant_count, grant_instances, grant_memories, grant_tables, grant_stacks, grant_heaps, grant_components}
+use Rattle.pool_alloc.specs.Stepping.{IsSameSize, grant_weight}
 use Rattle.pool_alloc.specs.Calls.{frame_made, IsIdle, MayBegin, begun_call}
 use Rattle.pool_alloc.specs.Turns.{is_granting, returned_next}
 use Rattle.pool_alloc.specs.declared.pool_core.PoolCore.{PoolCore}
@@ -18,39 +17,22 @@ use Rattle.pool_alloc.specs.Objects.{objects_in}
 use Rattle.pool_alloc.specs.declared.frame.Asked.TheVariants.{Nothing as nothing_asked}
 use Rattle.pool_alloc.specs.declared.frame.Frame.{Frame}
 use Rattle.pool_alloc.specs.declared.frame.Phase.{Phase}
-use Rattle.pool_alloc.specs.declared.frame.Phase.TheVariants.{Idle, Key, UncountObject, UncountInstance}
+use Rattle.pool_alloc.specs.declared.frame.Phase.TheVariants.{Key}
 use Rattle.pool_alloc.specs.declared.frame.Grant.{Grant}
 use Rattle.pool_alloc.specs.declared.frame.Grant.TheVariants.{Instance, Stack, Component, Heap}
 use Rattle.pool_alloc.specs.declared.frame.Call.{Call}
 use Rattle.pool_alloc.specs.declared.frame.Call.TheVariants as call
 use Rattle.pool_alloc.proofs.FlushFinds.{none_waits}
-use Rattle.pool_alloc.proofs.Hands.{Held, held_of, frame_of, one_more, counts_none}
+use Rattle.pool_alloc.proofs.Hands.{Held, held_of, frame_of, one_more, none_weighs}
 use Rattle.pool_alloc.proofs.QueueCounts.{leased_first, tables_first}
 use Rattle.pool_alloc.specs.Purges.{has_turns, purge_begun}
 use Rattle.pool_alloc.specs.declared.purge.PurgeStep.TheVariants as purging_step
 use Rattle.pool_alloc.proofs.PurgeBounds.{picks_of, purge_begins}
+use Rattle.pool_alloc.specs.declared.lease.InstanceLease.{InstanceLease}
 
 -- The frame as made has nothing.
-pub made_count : (P H : Type 0) (t : Thing) (home : ℕ) (s : Settings) → frame_count {P = P} {H = H} t (frame_made home s) ≡ 0
-made_count P H t home s = refl
-
-pub made_instances : (P H : Type 0) (home : ℕ) (s : Settings) → frame_instances {P = P} {H = H} (frame_made home s) ≡ 0
-made_instances P H home s = refl
-
-pub made_components : (P H : Type 0) (home : ℕ) (s : Settings) → phase_components {P = P} {H = H} (frame_made home s).phase ≡ 0
-made_components P H home s = refl
-
-pub made_memories : (P H : Type 0) (home : ℕ) (s : Settings) → frame_memories {P = P} {H = H} (frame_made home s) ≡ 0
-made_memories P H home s = refl
-
-pub made_tables : (P H : Type 0) (home : ℕ) (s : Settings) → frame_tables {P = P} {H = H} (frame_made home s) ≡ 0
-made_tables P H home s = refl
-
-pub made_stacks : (P H : Type 0) (home : ℕ) (s : Settings) → phase_stacks {P = P} {H = H} (frame_made home s).phase ≡ 0
-made_stacks P H home s = refl
-
-pub made_heaps : (P H : Type 0) (home : ℕ) (s : Settings) → phase_heaps {P = P} {H = H} (frame_made home s).phase ≡ 0
-made_heaps P H home s = refl
+pub made_weight : (P H : Type 0) (w : Weight) (home : ℕ) (s : Settings) → frame_weight {P = P} {H = H} w (frame_made home s) ≡ 0
+made_weight P H w home s = omega arith
 
 module _ {P H : Type 0} where
   -- The frame as made is sound over a pool whose parts are.
@@ -74,7 +56,7 @@ module _ {P H : Type 0} where
         shape = record { settled = record { no_ranges = refl; no_slots = refl; none_freed = refl }; no_memories = refl; no_tables = refl };
       }
 
-  -- how often a call brings a thing along, and how many instances, components, memories, tables, stacks and heaps that are counted
+  -- what a call brings along
   abbrev pub call_has : (Grant P H → ℕ) → Call P H → ℕ
   call_has of call.Key = 0
   call_has of (call.Module m) = 0
@@ -132,142 +114,51 @@ module _ {P H : Type 0} where
   begun_frame maker asks s plan f frame may = begun_at maker asks s plan f (held_of maker s plan f frame) (at_rest maker s plan f frame (idle_of maker s plan asks f may)) may
 
   -- What a grant has comes into the frame, and nothing else.
-  idle_nothing : (t : Thing) (p : Phase P H) → p ≡ Idle → phase_count t p ≡ 0
-  idle_nothing t p idle = rw idle refl
+  pub idle_nothing : (w : Weight) (f : Frame P H) → IsIdle f → phase_count w.unit f.phase + phase_counted w.counts f.phase + frame_instances f * w.counts counted_instance ≡ 0
+  idle_nothing w f idle = ap (λ (p : Phase P H). phase_count w.unit p + phase_counted w.counts p + phase_instances p * instances_for f.asked * w.counts counted_instance) idle ∙ omega arith
 
-  count_returned : (t : Thing) (leases : List Lease) (tables : List LeasedTable) (f : Frame P H) → phase_count t f.phase ≡ 0 → frame_count t (returned_next leases tables (giving leases tables f)).frame ≡ leased_count t leases + tables_count t tables + queued_count t f.local.slots + freed_count t f.freed.items
-  count_returned t [] [] f before = omega arith
-  count_returned t (lease ∷ leases) tables f before = omega (arith, leased_first t lease leases)
-  count_returned t [] (lease ∷ tables) f before = omega (arith, tables_first t lease tables)
+  pub idle_weight : (w : Weight) (f : Frame P H) → IsIdle f → IsAtRest f → frame_weight w f ≡ 0
+  idle_weight w f idle rest =
+      omega (arith, idle_nothing w f idle, none_weighs w f.objects rest.no_memories rest.no_tables, ap (queued_count w.unit) rest.settled.no_slots, ap (freed_count w.unit) rest.settled.none_freed)
 
-  count_at : (t : Thing) (asks : Call P H) (f : Frame P H) → IsIdle f → IsAtRest f → frame_count t (begun_call asks f) ≡ frame_count t f + call_has (grant_count t) asks
-  count_at t call.Key f idle rest = let before : phase_count t f.phase ≡ 0 = idle_nothing t f.phase idle in omega arith
-  count_at t (call.Module m) f idle rest = let before : phase_count t f.phase ≡ 0 = idle_nothing t f.phase idle in omega arith
-  count_at t call.Stack f idle rest = let before : phase_count t f.phase ≡ 0 = idle_nothing t f.phase idle in omega arith
-  count_at t (call.GiveBack (Stack lease)) f idle rest = let before : phase_count t f.phase ≡ 0 = idle_nothing t f.phase idle in omega arith
-  count_at t (call.Heap ty) f idle rest = let before : phase_count t f.phase ≡ 0 = idle_nothing t f.phase idle in omega arith
-  count_at t (call.GiveBack (Heap lease memory)) f idle rest = let before : phase_count t f.phase ≡ 0 = idle_nothing t f.phase idle in omega arith
-  count_at t (call.Component info) f idle rest = let before : phase_count t f.phase ≡ 0 = idle_nothing t f.phase idle in omega arith
-  count_at t (call.GiveBack Component) f idle rest = let before : phase_count t f.phase ≡ 0 = idle_nothing t f.phase idle in omega arith
-  count_at t (call.Purge id) f idle rest = let before : phase_count t f.phase ≡ 0 = idle_nothing t f.phase idle in omega arith
-  count_at t call.Release f idle rest = let before : phase_count t f.phase ≡ 0 = idle_nothing t f.phase idle in omega arith
-  count_at t (call.GiveBack (Instance lease)) f idle rest =
-      let none : leased_count t f.objects.memories.items ≡ 0 = rw rest.no_memories refl in
-      let none_more : tables_count t f.objects.tables.items ≡ 0 = rw rest.no_tables refl in
-      let back : Frame P H = record f { objects = lease; ending = returned } in
-      omega (arith, none, none_more, idle_nothing t f.phase idle, count_returned t lease.memories.items lease.tables.items back (idle_nothing t f.phase idle))
+  weight_returned : (w : Weight) (lease : InstanceLease P) (leases : List Lease) (tables : List LeasedTable) (f : Frame P H) → lease.memories.items ≡ leases → lease.tables.items ≡ tables
+      → frame_weight w (returned_next leases tables (giving leases tables f)).frame ≡ instance_count w.unit lease + instance_counted w.counts lease + w.counts counted_instance + queued_count w.unit f.local.slots + freed_count w.unit f.freed.items
+  weight_returned w lease [] [] f is is_more = omega (arith, none_weighs w lease is is_more)
+  weight_returned w lease (first ∷ rest) tables f is is_more = omega (
+    arith,
+    leased_first w.unit first rest,
+    ap (leased_count w.unit) is,
+    ap (tables_count w.unit) is_more,
+    ap (λ (l : List Lease). length l * w.counts (counted_object memory_kind)) is,
+    ap (λ (l : List LeasedTable). length l * w.counts (counted_object table_kind)) is_more,
+    one_more (length (first ∷ rest)) (length rest) (w.counts (counted_object memory_kind)) (omega arith),
+  )
+  weight_returned w lease [] (first ∷ rest) f is is_more = omega (
+    arith,
+    tables_first w.unit first rest,
+    ap (leased_count w.unit) is,
+    ap (tables_count w.unit) is_more,
+    ap (λ (l : List Lease). length l * w.counts (counted_object memory_kind)) is,
+    ap (λ (l : List LeasedTable). length l * w.counts (counted_object table_kind)) is_more,
+    one_more (length (first ∷ rest)) (length rest) (w.counts (counted_object table_kind)) (omega arith),
+  )
 
-  pub begun_count : (maker : MakerTold) (t : Thing) (asks : Call P H) (s : Settings) (plan : Plan) (f : Frame P H) → IsFrame maker s plan f → MayBegin maker s plan asks f → frame_count t (begun_call asks f) ≡ frame_count t f + call_has (grant_count t) asks
-  begun_count maker t asks s plan f frame may = let idle : IsIdle f = idle_of maker s plan asks f may in count_at t asks f idle (at_rest maker s plan f frame idle)
+  weight_at : (w : Weight) (asks : Call P H) (f : Frame P H) → IsIdle f → IsAtRest f → frame_weight w (begun_call asks f) ≡ frame_weight w f + call_has (grant_weight w) asks
+  weight_at w call.Key f idle rest = omega (arith, idle_nothing w f idle)
+  weight_at w (call.Module m) f idle rest = omega (arith, idle_nothing w f idle)
+  weight_at w call.Stack f idle rest = omega (arith, idle_nothing w f idle)
+  weight_at w (call.GiveBack (Stack lease)) f idle rest = omega (arith, idle_nothing w f idle)
+  weight_at w (call.Heap ty) f idle rest = omega (arith, idle_nothing w f idle)
+  weight_at w (call.GiveBack (Heap lease memory)) f idle rest = omega (arith, idle_nothing w f idle)
+  weight_at w (call.Component info) f idle rest = omega (arith, idle_nothing w f idle)
+  weight_at w (call.GiveBack Component) f idle rest = omega (arith, idle_nothing w f idle)
+  weight_at w (call.Purge id) f idle rest = omega (arith, idle_nothing w f idle)
+  weight_at w call.Release f idle rest = omega (arith, idle_nothing w f idle)
+  weight_at w (call.GiveBack (Instance lease)) f idle rest =
+      omega (arith, idle_weight w f idle rest, weight_returned w lease lease.memories.items lease.tables.items (record f { objects = lease; ending = returned }) refl refl, ap (queued_count w.unit) rest.settled.no_slots, ap (freed_count w.unit) rest.settled.none_freed)
 
-  idle_instances : (f : Frame P H) → IsIdle f → frame_instances f ≡ 0
-  idle_instances f idle = ap (λ (p : Phase P H). instances_for f.asked (phase_instances p)) idle ∙ counts_none f.asked
-
-  one_returned : (leases : List Lease) (tables : List LeasedTable) (f : Frame P H) → frame_instances (returned_next leases tables (giving leases tables f)).frame ≡ 1
-  one_returned [] [] f = refl
-  one_returned (lease ∷ leases) tables f = refl
-  one_returned [] (lease ∷ tables) f = refl
-
-  pub begun_instances : (maker : MakerTold) (asks : Call P H) (s : Settings) (plan : Plan) (f : Frame P H) → MayBegin maker s plan asks f → frame_instances (begun_call asks f) ≡ frame_instances f + call_has grant_instances asks
-  begun_instances maker call.Key s plan f may = omega (arith, idle_instances f may, counts_none f.asked)
-  begun_instances maker (call.Module m) s plan f may = omega (arith, idle_instances f may.0)
-  begun_instances maker call.Stack s plan f may = omega (arith, idle_instances f may)
-  begun_instances maker (call.GiveBack (Stack lease)) s plan f may = omega (arith, idle_instances f may.0)
-  begun_instances maker (call.Heap ty) s plan f may = omega (arith, idle_instances f may.0)
-  begun_instances maker (call.GiveBack (Heap lease memory)) s plan f may = omega (arith, idle_instances f may.0)
-  begun_instances maker (call.Component info) s plan f may = omega (arith, idle_instances f may, counts_none f.asked)
-  begun_instances maker (call.GiveBack Component) s plan f may = omega (arith, idle_instances f may.0, counts_none f.asked)
-  begun_instances maker (call.Purge id) s plan f may = omega (arith, idle_instances f may, counts_none f.asked)
-  begun_instances maker call.Release s plan f may = omega (arith, idle_instances f may, counts_none f.asked)
-  begun_instances maker (call.GiveBack (Instance lease)) s plan f may =
-      omega (arith, idle_instances f may.0, one_returned lease.memories.items lease.tables.items (record f { objects = lease; ending = returned }))
-
-  -- Of what has none in the phases that an instance begins to be given back with, the frame has none then.
-  none_returned : (of : Phase P H → ℕ) → ((lease : Lease) → of (UncountObject (Memory lease)) ≡ 0) → ((lease : LeasedTable) → of (UncountObject (Table lease)) ≡ 0) → of UncountInstance ≡ 0 → (leases : List Lease) (tables : List LeasedTable) (f : Frame P H) → of (returned_next leases tables (giving leases tables f)).frame.phase ≡ 0
-  none_returned of memory table last [] [] f = last
-  none_returned of memory table last (lease ∷ leases) tables f = memory lease
-  none_returned of memory table last [] (lease ∷ tables) f = table lease
-
-  idle_stacks : (p : Phase P H) → p ≡ Idle → phase_stacks p ≡ 0
-  idle_stacks p idle = rw idle refl
-
-  pub begun_stacks : (maker : MakerTold) (asks : Call P H) (s : Settings) (plan : Plan) (f : Frame P H) → MayBegin maker s plan asks f → phase_stacks (begun_call asks f).phase ≡ phase_stacks f.phase + call_has grant_stacks asks
-  begun_stacks maker call.Key s plan f may = omega (arith, idle_stacks f.phase may)
-  begun_stacks maker (call.Module m) s plan f may = omega (arith, idle_stacks f.phase may.0)
-  begun_stacks maker call.Stack s plan f may = omega (arith, idle_stacks f.phase may)
-  begun_stacks maker (call.Heap ty) s plan f may = omega (arith, idle_stacks f.phase may.0)
-  begun_stacks maker (call.Component info) s plan f may = omega (arith, idle_stacks f.phase may)
-  begun_stacks maker (call.Purge id) s plan f may = omega (arith, idle_stacks f.phase may)
-  begun_stacks maker call.Release s plan f may = omega (arith, idle_stacks f.phase may)
-  begun_stacks maker (call.GiveBack Component) s plan f may = omega (arith, idle_stacks f.phase may.0)
-  begun_stacks maker (call.GiveBack (Stack lease)) s plan f may = omega (arith, idle_stacks f.phase may.0)
-  begun_stacks maker (call.GiveBack (Heap lease memory)) s plan f may = omega (arith, idle_stacks f.phase may.0)
-  begun_stacks maker (call.GiveBack (Instance lease)) s plan f may =
-      omega (arith, idle_stacks f.phase may.0, none_returned phase_stacks (λ l. refl) (λ l. refl) refl lease.memories.items lease.tables.items (record f { objects = lease; ending = returned }))
-
-  idle_heaps : (p : Phase P H) → p ≡ Idle → phase_heaps p ≡ 0
-  idle_heaps p idle = rw idle refl
-
-  pub begun_heaps : (maker : MakerTold) (asks : Call P H) (s : Settings) (plan : Plan) (f : Frame P H) → MayBegin maker s plan asks f → phase_heaps (begun_call asks f).phase ≡ phase_heaps f.phase + call_has grant_heaps asks
-  begun_heaps maker call.Key s plan f may = omega (arith, idle_heaps f.phase may)
-  begun_heaps maker (call.Module m) s plan f may = omega (arith, idle_heaps f.phase may.0)
-  begun_heaps maker call.Stack s plan f may = omega (arith, idle_heaps f.phase may)
-  begun_heaps maker (call.Heap ty) s plan f may = omega (arith, idle_heaps f.phase may.0)
-  begun_heaps maker (call.Component info) s plan f may = omega (arith, idle_heaps f.phase may)
-  begun_heaps maker (call.Purge id) s plan f may = omega (arith, idle_heaps f.phase may)
-  begun_heaps maker call.Release s plan f may = omega (arith, idle_heaps f.phase may)
-  begun_heaps maker (call.GiveBack Component) s plan f may = omega (arith, idle_heaps f.phase may.0)
-  begun_heaps maker (call.GiveBack (Stack lease)) s plan f may = omega (arith, idle_heaps f.phase may.0)
-  begun_heaps maker (call.GiveBack (Heap lease memory)) s plan f may = omega (arith, idle_heaps f.phase may.0)
-  begun_heaps maker (call.GiveBack (Instance lease)) s plan f may =
-      omega (arith, idle_heaps f.phase may.0, none_returned phase_heaps (λ l. refl) (λ l. refl) refl lease.memories.items lease.tables.items (record f { objects = lease; ending = returned }))
-
-  idle_components : (p : Phase P H) → p ≡ Idle → phase_components p ≡ 0
-  idle_components p idle = rw idle refl
-
-  pub begun_components : (maker : MakerTold) (asks : Call P H) (s : Settings) (plan : Plan) (f : Frame P H) → MayBegin maker s plan asks f → phase_components (begun_call asks f).phase ≡ phase_components f.phase + call_has grant_components asks
-  begun_components maker call.Key s plan f may = omega (arith, idle_components f.phase may)
-  begun_components maker (call.Module m) s plan f may = omega (arith, idle_components f.phase may.0)
-  begun_components maker call.Stack s plan f may = omega (arith, idle_components f.phase may)
-  begun_components maker (call.Heap ty) s plan f may = omega (arith, idle_components f.phase may.0)
-  begun_components maker (call.Purge id) s plan f may = omega (arith, idle_components f.phase may)
-  begun_components maker call.Release s plan f may = omega (arith, idle_components f.phase may)
-  begun_components maker (call.GiveBack (Stack lease)) s plan f may = omega (arith, idle_components f.phase may.0)
-  begun_components maker (call.GiveBack (Heap lease memory)) s plan f may = omega (arith, idle_components f.phase may.0)
-  begun_components maker (call.Component info) s plan f may = omega (arith, idle_components f.phase may)
-  begun_components maker (call.GiveBack Component) s plan f may = omega (arith, idle_components f.phase may.0)
-  begun_components maker (call.GiveBack (Instance lease)) s plan f may =
-      omega (arith, idle_components f.phase may.0, none_returned phase_components (λ l. refl) (λ l. refl) refl lease.memories.items lease.tables.items (record f { objects = lease; ending = returned }))
-
-  objects_returned : (leases : List Lease) (tables : List LeasedTable) (f : Frame P H) → (frame_memories (returned_next leases tables (giving leases tables f)).frame ≡ length leases) × (frame_tables (returned_next leases tables (giving leases tables f)).frame ≡ length tables)
-  objects_returned [] [] f = (refl, refl)
-  objects_returned (lease ∷ leases) tables f = (omega arith, omega arith)
-  objects_returned [] (lease ∷ tables) f = (omega arith, omega arith)
-
-  idle_objects : (p : Phase P H) → p ≡ Idle → (phase_memories p ≡ 0) × (phase_tables p ≡ 0)
-  idle_objects p idle = rw idle (refl, refl)
-
-  objects_at : (asks : Call P H) (f : Frame P H) → IsIdle f → IsAtRest f → (frame_memories (begun_call asks f) ≡ frame_memories f + call_has grant_memories asks) × (frame_tables (begun_call asks f) ≡ frame_tables f + call_has grant_tables asks)
-  objects_at call.Key f idle rest = let before = idle_objects f.phase idle in (omega (arith, before.0), omega (arith, before.1))
-  objects_at (call.Module m) f idle rest = let before = idle_objects f.phase idle in (omega (arith, before.0), omega (arith, before.1))
-  objects_at call.Stack f idle rest = let before = idle_objects f.phase idle in (omega (arith, before.0), omega (arith, before.1))
-  objects_at (call.GiveBack (Stack lease)) f idle rest = let before = idle_objects f.phase idle in (omega (arith, before.0), omega (arith, before.1))
-  objects_at (call.Heap ty) f idle rest = let before = idle_objects f.phase idle in (omega (arith, before.0), omega (arith, before.1))
-  objects_at (call.GiveBack (Heap lease memory)) f idle rest = let before = idle_objects f.phase idle in (omega (arith, before.0), omega (arith, before.1))
-  objects_at (call.Component info) f idle rest = let before = idle_objects f.phase idle in (omega (arith, before.0), omega (arith, before.1))
-  objects_at (call.GiveBack Component) f idle rest = let before = idle_objects f.phase idle in (omega (arith, before.0), omega (arith, before.1))
-  objects_at (call.Purge id) f idle rest = let before = idle_objects f.phase idle in (omega (arith, before.0), omega (arith, before.1))
-  objects_at call.Release f idle rest = let before = idle_objects f.phase idle in (omega (arith, before.0), omega (arith, before.1))
-  objects_at (call.GiveBack (Instance lease)) f idle rest =
-      let before = idle_objects f.phase idle in
-      let back = objects_returned lease.memories.items lease.tables.items (record f { objects = lease; ending = returned }) in
-      (omega (arith, before.0, back.0, ap (length {A = Lease}) rest.no_memories), omega (arith, before.1, back.1, ap (length {A = LeasedTable}) rest.no_tables))
-
-  pub begun_memories : (maker : MakerTold) (asks : Call P H) (s : Settings) (plan : Plan) (f : Frame P H) → IsFrame maker s plan f → MayBegin maker s plan asks f → frame_memories (begun_call asks f) ≡ frame_memories f + call_has grant_memories asks
-  begun_memories maker asks s plan f frame may = let idle : IsIdle f = idle_of maker s plan asks f may in (objects_at asks f idle (at_rest maker s plan f frame idle)).0
-
-  pub begun_tables : (maker : MakerTold) (asks : Call P H) (s : Settings) (plan : Plan) (f : Frame P H) → IsFrame maker s plan f → MayBegin maker s plan asks f → frame_tables (begun_call asks f) ≡ frame_tables f + call_has grant_tables asks
-  begun_tables maker asks s plan f frame may = let idle : IsIdle f = idle_of maker s plan asks f may in (objects_at asks f idle (at_rest maker s plan f frame idle)).1
+  pub begun_weight : (maker : MakerTold) (w : Weight) (asks : Call P H) (s : Settings) (plan : Plan) (f : Frame P H) → IsFrame maker s plan f → MayBegin maker s plan asks f → frame_weight w (begun_call asks f) ≡ frame_weight w f + call_has (grant_weight w) asks
+  begun_weight maker w asks s plan f frame may = let idle : IsIdle f = idle_of maker s plan asks f may in weight_at w asks f idle (at_rest maker s plan f frame idle)
 
   -- How many steps are left is the same on every pool of the same sizes, so no step of another changes it.
   pub steps_left_same : (c d : PoolCore P H) (f : Frame P H) → IsSameSize c d → steps_left d f ≡ steps_left c f

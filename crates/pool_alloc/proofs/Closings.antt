@@ -1,16 +1,16 @@
 -- A pool is closed: each flush of a queue keeps what holds, and in the end no slot is used.
-use Rattle.std.proofs.Common.{◌≡◌, ℕ, zero, suc, ◌+◌, ◌<◌, ◌≤◌, Bool, true, false, List, [], ◌∷◌, length, All, refl, sym, ap, subst, ◌∙◌, arith, Option, Some, None, get_or, if◌then◌else◌, not, sum_by, count_by, is_some, ◌^◌}
-use Rattle.pool_alloc.proofs.Imports.{All-nil, All-cons, SlotKind, UnitName, MakerTold, default_quotas, no_refusals, Queue, Queued, after_take, first_of_kind, others_of_kind, IsSpareOf, list_all, eq-eqb, sum_by-cons, mod-eq_of_lt, total, shard_units, used_units, ShardState, used_count, one_if, MemoryInModule, all_away, all_kept, part_kept, units_of_slots, part_at, IsAt, Role, shard_role, queue_role, role_at, PoolPart}
+use Rattle.std.proofs.Common.{◌≡◌, ℕ, zero, suc, ◌+◌, ◌<◌, ◌≤◌, Bool, true, false, List, [], ◌∷◌, length, refl, sym, ap, subst, ◌∙◌, arith, Option, Some, None, get_or, if◌then◌else◌, not, count_by, is_some, ◌^◌, ◌*◌}
+use Rattle.pool_alloc.proofs.Imports.{All-nil, All-cons, SlotKind, UnitName, MakerTold, default_quotas, no_refusals, Queue, Queued, after_take, first_of_kind, others_of_kind, IsSpareOf, list_all, eq-eqb, sum_by-cons, mod-eq_of_lt, total, shard_units, used_units, ShardState, used_count, one_if, MemoryInModule, all_away, all_kept, part_kept, units_of_slots, part_at, IsAt, Role, shard_role, queue_role, role_at, PoolPart, memory_kind, table_kind}
 use Rattle.pool_slots.specs.declared.part.PoolPart.TheVariants as part
 use Rattle.pool_alloc.specs.Calls.{frame_made}
 use Rattle.pool_alloc.specs.Closing.{nth_queue, AreEmptied, IsClosingAt, IsBare, IsFlushing, IsClosing, IsClosed, closing_phase, queue_taken, frame_taking, frame_closing, AreAtHome, IsGivenBack, has_free}
 use Rattle.pool_alloc.specs.Leases.{Lease}
 use Rattle.pool_alloc.specs.PartyTold.{PartyTold}
-use Rattle.pool_alloc.specs.Places.{Thing, leased_count, tables_count, queued_count, freed_count, phase_count, phase_instances, phase_components, phase_stacks, phase_heaps, instances_for, frame_instances, kept_count, away_count, phase_memories, phase_tables}
+use Rattle.pool_alloc.specs.Places.{Thing, queued_count, phase_count, phase_instances, instances_for, kept_count, away_count, Counter, Weight, counted_instance, counted_object, only, of_units, of_counts, phase_counted, frame_counted}
 use Rattle.pool_alloc.specs.Rows.{FlushStep, run, zero as zeroes, put, free, flush_step, flush_row, put_first, row_of}
 use Rattle.pool_alloc.specs.Sound.{IsCore, IsFrame, IsShared, IsQueuedOf, IsPartFor}
 use Rattle.pool_alloc.specs.Bounds.{steps_left}
-use Rattle.pool_alloc.specs.Stepping.{CanStep, CanCount, StepsTo, count_granted, is_idle, grant_count, grant_instances, grant_components, grant_memories, grant_tables, grant_stacks, grant_heaps}
+use Rattle.pool_alloc.specs.Stepping.{CanStep, CanCount, StepsTo, count_granted, is_idle, grant_weight}
 use Rattle.pool_alloc.specs.Steps.{StepGiven, first_shard, queue_at, with_queue, stacks_wanted, heaps_wanted, IsQueuePart, queue_in, shard_in, shard_at, queues_searched}
 use Rattle.pool_alloc.specs.TableLeases.{LeasedTable}
 use Rattle.pool_alloc.specs.Turns.{Left, Row, After, flush, all_returned, returned_next, next_by, is_flushed, after, stepped, gone_to, is_granting}
@@ -26,10 +26,10 @@ use Rattle.pool_alloc.specs.declared.frame.Grant.{Grant}
 use Rattle.pool_alloc.specs.declared.frame.Phase.{Phase}
 use Rattle.pool_alloc.specs.declared.frame.Phase.TheVariants.{Idle, Flush, UncountInstance}
 use Rattle.pool_alloc.proofs.Below.{queued_cells}
-use Rattle.pool_alloc.proofs.BegunCalls.{at_rest, made_frame, made_count}
+use Rattle.pool_alloc.proofs.BegunCalls.{at_rest, made_frame, idle_nothing, idle_weight, made_weight}
 use Rattle.pool_alloc.proofs.CoreChanges.{core_with_queue, core_with_counters}
 use Rattle.pool_alloc.proofs.FlushFinds.{Finds, finds, none_waits}
-use Rattle.pool_alloc.proofs.Hands.{in_phase, Held, held_of, frame_of, flushed, none_counted}
+use Rattle.pool_alloc.proofs.Hands.{in_phase, Held, held_of, frame_of, flushed, none_counted, only_one}
 use Rattle.pool_alloc.proofs.KeptCounts.{kept_queue, away_queue, shard_away}
 use Rattle.pool_alloc.proofs.LocalQueues.{taken_shared, taken_local, local_of_shared}
 use Rattle.pool_alloc.proofs.PlanPlaces.{IsQueuePlace, apart_places, queue_no_cell, tried_is_queue, queue_of_role, queue_tried_at, queues_all}
@@ -42,6 +42,7 @@ use Rattle.pool_alloc.proofs.Wholes.{whole_fits, call_has_slots}
 use Rattle.pool_alloc.specs.CanStep.{CanTryQueue}
 use Rattle.pool_alloc.proofs.MadePools.{none_of_all}
 use Rattle.pool_alloc.proofs.Ways.{aims_back}
+use Rattle.pool_alloc.proofs.Weights.{no_total, frame_counts}
 
 -- a test that each of a list passes
 all_of : {X : Type 0} (test : X → Bool) (xs : List X) (d : X) → ((k : ℕ) → k < length xs → test (get_or xs k d) ≡ true) → list_all test xs ≡ true
@@ -65,12 +66,12 @@ nobody = record { limiter = record { rule = None; quotas = default_quotas; count
 
 -- nothing more
 abbrev nothing : Holding
-nothing = record { places = λ t. 0; instances = 0; components = 0; memories = 0; tables = 0; stacks = 0; heaps = 0 }
+nothing w = 0
 
 -- the phases that it begins with
-closing_counts : (P H : Type 0) (t : Thing) (b : Bool) → (phase_count {P = P} {H = H} t (closing_phase b) ≡ 0) × (phase_instances {P = P} {H = H} (closing_phase b) ≡ 1) × (phase_components {P = P} {H = H} (closing_phase b) ≡ 0) × (phase_memories {P = P} {H = H} (closing_phase b) ≡ 0) × (phase_tables {P = P} {H = H} (closing_phase b) ≡ 0) × (phase_stacks {P = P} {H = H} (closing_phase b) ≡ 0) × (phase_heaps {P = P} {H = H} (closing_phase b) ≡ 0)
-closing_counts P H t true = (refl, refl, refl, refl, refl, refl, refl)
-closing_counts P H t false = (refl, refl, refl, refl, refl, refl, refl)
+closing_counts : (P H : Type 0) (w : Weight) (b : Bool) → phase_count {P = P} {H = H} w.unit (closing_phase b) + phase_counted {P = P} {H = H} w.counts (closing_phase b) + phase_instances {P = P} {H = H} (closing_phase b) * w.counts counted_instance ≡ w.counts counted_instance
+closing_counts P H w true = omega arith
+closing_counts P H w false = omega arith
 
 closing_at : (P H : Type 0) (b : Bool) → IsClosingAt {P = P} {H = H} (closing_phase b)
 closing_at P H true = tt
@@ -137,27 +138,24 @@ module _ {P H : Type 0} where
   is_over p on = absurd cc
 
   -- a frame that only flushes has counted no more than an instance
-  few_counted : (p : Phase P H) → IsClosingAt p → (phase_instances p ≤ 1) × (phase_components p ≡ 0) × (phase_memories p ≡ 0) × (phase_tables p ≡ 0) × (phase_stacks p ≡ 0) × (phase_heaps p ≡ 0)
-  few_counted Idle closing = (omega arith, refl, refl, refl, refl, refl)
-  few_counted Flush closing = (omega arith, refl, refl, refl, refl, refl)
-  few_counted UncountInstance closing = (omega arith, refl, refl, refl, refl, refl)
-  few_counted p closing = absurd closing
+  few_counted : (k : Counter) (p : Phase P H) → IsClosingAt p → phase_counted (only k) p + phase_instances p * 1 * only k counted_instance ≤ 1
+  few_counted k Idle closing = omega arith
+  few_counted k Flush closing = omega (arith, only_one k counted_instance)
+  few_counted k UncountInstance closing = omega (arith, only_one k counted_instance)
+  few_counted k p closing = absurd closing
 
-  -- it is one that counts an instance
-  instances_are : (f : Frame P H) → f.asked ≡ nothing_asked → frame_instances f ≡ phase_instances f.phase
-  instances_are f none = ap (λ (a : Asked). instances_for a (phase_instances f.phase)) none
+  bare_counted : (k : Counter) (f : Frame P H) → IsFlushing f → frame_counted (only k) f ≤ 1
+  bare_counted k f flushing = omega (
+    arith,
+    few_counted k f.phase flushing.0,
+    ap (λ (a : Asked). phase_instances f.phase * instances_for a * only k counted_instance) flushing.1.asked,
+    ap (λ (l : List Lease). length l * only k (counted_object memory_kind)) flushing.1.no_memories,
+    ap (λ (l : List LeasedTable). length l * only k (counted_object table_kind)) flushing.1.no_tables,
+  )
 
 -- Nobody has anything of a pool as it is made.
 pub made_is_back : {P H : Type 0} (c : PoolCore P H) → IsUntouched c → IsGivenBack c
-made_is_back c is = record {
-  places = λ t. omega (arith, ap (total t) is.none_kept, ap (total t) is.none_away);
-  instances = is.instances;
-  components = is.components;
-  memories = is.memories;
-  tables = is.tables;
-  stacks = is.stacks;
-  heaps = is.heaps;
-}
+made_is_back c is = λ w. omega (arith, ap (total w.unit) is.none_kept, ap (total w.unit) is.none_away, is.counted w.counts)
 
 -- What it keeps.
 module _ {P H : Type 0} (maker : MakerTold) where
@@ -189,7 +187,7 @@ module _ {P H : Type 0} (maker : MakerTold) where
     core = is.core;
     frame = is.frame;
     fits = whole_fits c f (held_by f ∷ []) 0 (held_by f) nothing is.whole (All-cons HasSlots (held_by f) [] (call_has_slots f) (All-nil HasSlots)) (omega arith)
-        (record { places = λ t. omega arith; instances = omega arith; components = omega arith; memories = omega arith; tables = omega arith; stacks = omega arith; heaps = omega arith })
+        (λ w. omega arith)
         (λ name. omega arith);
   }
 
@@ -210,15 +208,7 @@ module _ {P H : Type 0} (maker : MakerTold) where
         core = still.core;
         frame = still.frame;
         flushing = left.0;
-        whole = record {
-          places = λ t. omega (arith, is.whole.places t, ok.conserves.places t, left.1 (grant_count t));
-          instances = omega (arith, is.whole.instances, ok.conserves.instances, left.1 grant_instances);
-          components = omega (arith, is.whole.components, ok.conserves.components, left.1 grant_components);
-          memories = omega (arith, is.whole.memories, ok.conserves.memories, left.1 grant_memories);
-          tables = omega (arith, is.whole.tables, ok.conserves.tables, left.1 grant_tables);
-          stacks = omega (arith, is.whole.stacks, ok.conserves.stacks, left.1 grant_stacks);
-          heaps = omega (arith, is.whole.heaps, ok.conserves.heaps, left.1 grant_heaps);
-        };
+        whole = λ w. omega (arith, is.whole w, ok.conserves w, left.1 (grant_weight w));
         emptied = subst E (sym by) (row_keeps n g p c f closing (subst S at can) is.emptied);
       }
 
@@ -232,16 +222,7 @@ module _ {P H : Type 0} (maker : MakerTold) where
   closing_plan n old new c f a on is steps = (step_ok maker old new c f a (can_close n c f is) steps).plan
 
   pub closing_counts_on : (n : ℕ) (c : PoolCore P H) (f : Frame P H) → IsClosing maker n c f → CanCount c
-  closing_counts_on n c f is =
-      let few = few_counted f.phase is.flushing.0 in
-      record {
-        instances = omega (arith, is.whole.instances, instances_are f is.flushing.1.asked, few.0);
-        components = omega (arith, is.whole.components, few.1);
-        memories = omega (arith, is.whole.memories, few.2, ap (length {A = Lease}) is.flushing.1.no_memories);
-        tables = omega (arith, is.whole.tables, few.3, ap (length {A = LeasedTable}) is.flushing.1.no_tables);
-        stacks = omega (arith, is.whole.stacks, few.4);
-        heaps = omega (arith, is.whole.heaps, few.5);
-      }
+  closing_counts_on n c f is = λ k. omega (arith, is.whole (of_counts (only k)), bare_counted k f is.flushing, frame_counts (only k) f, no_total (all_kept c.parts))
 
   -- A queue is taken to be flushed.
   closing_frame : (c : PoolCore P H) (f : Frame P H) (b : Bool) → is_flushed f ≡ b → Held maker c.settings c.plan f → Bare f → IsFrame maker c.settings c.plan (gone_to (closing_phase b) f)
@@ -249,9 +230,6 @@ module _ {P H : Type 0} (maker : MakerTold) where
       frame_of maker c.settings c.plan (gone_to UncountInstance f) held (record { settled = flushed maker c.settings c.plan f held is; no_memories = bare.no_memories; no_tables = bare.no_tables }, ap is_granting bare.ending, record { no_stack = ap stacks_wanted bare.asked; no_heap = ap heaps_wanted bare.asked })
   closing_frame c f false is held bare =
       frame_of maker c.settings c.plan (gone_to Flush f) held (aims_back c.settings c.plan f.ending f.asked f.queues f.objects (ap is_granting bare.ending), is)
-
-  idle_nothing : (t : Thing) (p : Phase P H) → p ≡ Idle → (phase_count t p ≡ 0) × (phase_instances p ≡ 0) × (phase_components p ≡ 0) × (phase_memories p ≡ 0) × (phase_tables p ≡ 0) × (phase_stacks p ≡ 0) × (phase_heaps p ≡ 0)
-  idle_nothing t p idle = rw idle (refl, refl, refl, refl, refl, refl, refl)
 
   place_is : (n : ℕ) (c : PoolCore P H) → IsCore maker c → IsQueuePlace c.plan (nth_queue n c)
   place_is n c core = tried_is_queue n c.plan (length c.parts) (frame_made {P = P} {H = H} 0 c.settings) core.plan
@@ -277,31 +255,21 @@ module _ {P H : Type 0} (maker : MakerTold) where
         freed_order = none_waits f.freed.items rest.settled.none_freed;
         objects = held.objects;
       } in
-      let counts = closing_counts P H (λ u. 0) (is_flushed g) in
-      let before = idle_nothing (λ u. 0) f.phase closed.1 in
       let bare : Bare g = record { asked = refl; ending = refl; no_memories = none; no_tables = none_more } in
       let there = queue_part maker i c is.core below in
       record {
         core = core_with_counters maker (record d.counters { core_instances = d.counters.core_instances + 1 }) d (core_with_queue maker i (after_take q) c is.core below (taken_shared maker c.settings q is.core.settings shared.range_room shared.slot_room));
         frame = closing_frame c g (is_flushed g) refl had bare;
         flushing = (closing_at P H (is_flushed g), bare);
-        whole = record {
-          places = λ t. omega (
-            arith,
-            is.whole.places t,
-            kept_queue t i (after_take q) c there,
-            away_queue t i (after_take q) c there,
-            (closing_counts P H t (is_flushed g)).0,
-            (idle_nothing t f.phase closed.1).0,
-            ap (queued_count t) rest.settled.no_slots,
-          );
-          instances = omega (arith, is.whole.instances, instances_are f is.flushing.1.asked, counts.1, before.1);
-          components = omega (arith, is.whole.components, counts.2, before.2);
-          memories = omega (arith, is.whole.memories, counts.3, before.3);
-          tables = omega (arith, is.whole.tables, counts.4, before.4);
-          stacks = omega (arith, is.whole.stacks, counts.5, before.5);
-          heaps = omega (arith, is.whole.heaps, counts.6, before.6);
-        };
+        whole = λ w. omega (
+          arith,
+          is.whole w,
+          kept_queue w.unit i (after_take q) c there,
+          away_queue w.unit i (after_take q) c there,
+          closing_counts P H w (is_flushed g),
+          idle_nothing w f closed.1,
+          ap (queued_count w.unit) rest.settled.no_slots,
+        );
         emptied = taken_empty maker n (after_take q) c (frame_made 0 c.settings) is.core refl is.emptied;
       }
 
@@ -333,16 +301,7 @@ module _ {P H : Type 0} (maker : MakerTold) where
       let is = closed.0 in
       let rest = at_rest maker c.settings c.plan f is.frame closed.1 in
       let kept : kept_count t c ≡ 0 = ap (total t) (all_empty c is) in
-      omega (
-        arith,
-        is.whole.places t,
-        kept,
-        (idle_nothing t f.phase closed.1).0,
-        ap (leased_count t) rest.no_memories,
-        ap (tables_count t) rest.no_tables,
-        ap (queued_count t) rest.settled.no_slots,
-        ap (freed_count t) rest.settled.none_freed,
-      )
+      omega (arith, is.whole (of_units t), kept, idle_weight (of_units t) f closed.1 rest)
 
   -- So no slot is used.
   closed_free : (c : PoolCore P H) → IsCore maker c → ((t : Thing) → away_count t c ≡ 0) → (p : ℕ) → p < length c.parts → has_free (part_at p c.parts) ≡ true
@@ -374,15 +333,7 @@ module _ {P H : Type 0} (maker : MakerTold) where
       core = core;
       frame = made_frame maker 0 c core;
       flushing = (tt, record { asked = refl; ending = refl; no_memories = refl; no_tables = refl });
-      whole = record {
-        places = λ t. omega (arith, back.places t, made_count P H t 0 c.settings);
-        instances = omega (arith, back.instances);
-        components = omega (arith, back.components);
-        memories = omega (arith, back.memories);
-        tables = omega (arith, back.tables);
-        stacks = omega (arith, back.stacks);
-        heaps = omega (arith, back.heaps);
-      };
+      whole = λ w. omega (arith, back w, made_weight P H w 0 c.settings);
       emptied = λ j below. absurd (omega (arith, below));
     },
     refl,
@@ -401,10 +352,10 @@ module _ {P H : Type 0} (maker : MakerTold) where
         can_try_queue maker c is.core,
         queue_part maker (nth_queue n c) c is.core below,
         local_is_spare maker (nth_queue n c) c f is.core is.frame below rest.settled.no_ranges rest.settled.no_slots,
-        omega (arith, is.whole.instances, instances_are f is.flushing.1.asked, (idle_nothing (λ u. 0) f.phase closed.1).1),
+        omega (arith, closing_counts_on n c f is counted_instance),
       )
 
   -- and so it is where its spare frame was taken
   pub closing_taken : (c : PoolCore P H) → IsCore maker c → IsGivenBack c → IsClosed maker 0 (record c { spare = None }) (frame_made 0 c.settings)
   closing_taken c core back =
-      closing_made (record c { spare = None }) (record { settings = core.settings; page = core.page; plan = core.plan; parts = core.parts; stripes = core.stripes }) (record { places = back.places; instances = back.instances; components = back.components; memories = back.memories; tables = back.tables; stacks = back.stacks; heaps = back.heaps })
+      closing_made (record c { spare = None }) (record { settings = core.settings; page = core.page; plan = core.plan; parts = core.parts; stripes = core.stripes }) back

@@ -1,13 +1,13 @@
 -- The rows of a component.
-use Rattle.std.proofs.Common.{◌≡◌, ℕ, ◌+◌, ◌-◌, Bool, true, false, refl, sym, ap, subst, arith, Option, Some, None, nat_lt}
+use Rattle.std.proofs.Common.{◌≡◌, ◌+◌, ◌-◌, Bool, true, false, refl, sym, subst, arith, Option, Some, None, nat_lt, ◌<◌}
 use Rattle.pool_alloc.proofs.Imports.{ltb-true, ltb-false, MakerTold, ComponentInfo, Unsupported}
 use Rattle.pool_alloc.specs.PartyTold.{PartyTold}
 use Rattle.pool_slots.specs.declared.errors.AllocError.TheVariants as refusal
 use Rattle.pool_alloc.specs.Refusals.{component_refused}
 use Rattle.pool_alloc.specs.Rows.{component_tested, validate_component_row, component_counted, count_component_row, uncount_component_row}
 use Rattle.pool_alloc.specs.Stages.{IsBroken, no_call, stage_back, Goes}
-use Rattle.pool_alloc.specs.Places.{instances_for}
-use Rattle.pool_alloc.specs.Stepping.{grant_count, grant_instances, grant_memories, grant_tables, grant_stacks, grant_heaps}
+use Rattle.pool_alloc.specs.Places.{counted_component, only}
+use Rattle.pool_alloc.specs.Stepping.{grant_weight}
 use Rattle.pool_alloc.specs.Turns.{Row, answer_of, failing}
 use Rattle.pool_alloc.specs.declared.pool_core.PoolCore.{PoolCore}
 use Rattle.pool_alloc.specs.declared.frame.Ending.{Ending}
@@ -16,8 +16,9 @@ use Rattle.pool_alloc.specs.declared.frame.Frame.{Frame}
 use Rattle.pool_alloc.specs.declared.frame.Phase.{Phase}
 use Rattle.pool_alloc.specs.declared.frame.Phase.TheVariants.{Idle, ValidateComponent, CountComponent, UncountComponent}
 use Rattle.pool_alloc.proofs.CoreChanges.{core_with_counters}
-use Rattle.pool_alloc.proofs.Hands.{in_phase, held_of, none_granted, none_counted, Kept, IsReadyRow}
+use Rattle.pool_alloc.proofs.Hands.{in_phase, held_of, none_granted, none_counted, IsReadyRow, one_less, only_one}
 use Rattle.pool_alloc.proofs.Ways.{Can, kept_part}
+use Rattle.pool_alloc.proofs.Weights.{counted_fits}
 
 module _ {P H : Type 0} (maker : MakerTold) (old new : PartyTold) where
   abbrev Shows : Phase P H → PoolCore P H → Frame P H → Row (PoolCore P H) P H → Type 0
@@ -28,7 +29,7 @@ module _ {P H : Type 0} (maker : MakerTold) (old new : PartyTold) where
   tested_ready info (Some rule) c f can is = record {
     kept = kept_part maker old new c (in_phase (ValidateComponent info) f) c (failing (refusal.Unsupported rule) (in_phase Idle f)) can.core (held_of maker c.settings c.plan (in_phase (ValidateComponent info) f) can.frame) refl refl refl refl;
     shape = (can.frame.shape, tt);
-    even = record { places = λ t. omega arith; instances = omega arith; memories = omega arith; tables = omega arith; stacks = omega arith; heaps = omega arith };
+    even = λ w. omega arith;
     fewer = omega arith;
     way = let B : Option Unsupported → Type 0 = λ o. IsBroken o (refusal.Unsupported rule) in subst B (sym is) refl;
     searched = λ s. tt;
@@ -36,7 +37,7 @@ module _ {P H : Type 0} (maker : MakerTold) (old new : PartyTold) where
   tested_ready info None c f can is = record {
     kept = kept_part maker old new c (in_phase (ValidateComponent info) f) c (in_phase Idle f) can.core (held_of maker c.settings c.plan (in_phase (ValidateComponent info) f) can.frame) refl refl refl refl;
     shape = (refl, can.frame.shape);
-    even = record { places = λ t. omega arith; instances = omega arith; memories = omega arith; tables = omega arith; stacks = omega arith; heaps = omega arith };
+    even = λ w. omega arith;
     fewer = omega arith;
     way = is;
     searched = λ s. tt;
@@ -48,17 +49,17 @@ module _ {P H : Type 0} (maker : MakerTold) (old new : PartyTold) where
   -- It is counted.
   counted_ready : (b : Bool) (c : PoolCore P H) (f : Frame P H) → Can maker CountComponent c f → nat_lt c.counters.component_instances c.settings.max_component_instances ≡ b → Shows CountComponent c f (component_counted b c (in_phase Idle f))
   counted_ready true c f can is = record {
-    kept = record { core = core_with_counters maker (record c.counters { component_instances = c.counters.component_instances + 1 }) c can.core; held = held_of maker c.settings c.plan (in_phase CountComponent f) can.frame; asked = refl; settings = refl; plan = refl; instances_by_one = omega arith; memories_by_one = omega arith; tables_by_one = omega arith; stacks_by_one = omega arith; heaps_by_one = omega arith };
+    kept = record { core = core_with_counters maker (record c.counters { component_instances = c.counters.component_instances + 1 }) c can.core; held = held_of maker c.settings c.plan (in_phase CountComponent f) can.frame; asked = refl; settings = refl; plan = refl; by_one = λ k. omega (arith, only_one k counted_component) };
     shape = (can.frame.shape, tt);
-    even = record { places = λ t. omega arith; instances = omega arith; memories = omega arith; tables = omega arith; stacks = omega arith; heaps = omega arith };
+    even = λ w. omega arith;
     fewer = omega arith;
     way = ltb-true _ _ is;
     searched = λ s. tt;
   }
   counted_ready false c f can is = record {
-    kept = record { core = core_with_counters maker (record c.counters { component_instances = c.counters.component_instances + 1 }) c can.core; held = held_of maker c.settings c.plan (in_phase CountComponent f) can.frame; asked = refl; settings = refl; plan = refl; instances_by_one = omega arith; memories_by_one = omega arith; tables_by_one = omega arith; stacks_by_one = omega arith; heaps_by_one = omega arith };
+    kept = record { core = core_with_counters maker (record c.counters { component_instances = c.counters.component_instances + 1 }) c can.core; held = held_of maker c.settings c.plan (in_phase CountComponent f) can.frame; asked = refl; settings = refl; plan = refl; by_one = λ k. omega (arith, only_one k counted_component) };
     shape = (refl, (can.frame.shape, refl));
-    even = record { places = λ t. omega arith; instances = omega arith; memories = omega arith; tables = omega arith; stacks = omega arith; heaps = omega arith };
+    even = λ w. omega arith;
     fewer = omega arith;
     way = (refl, ltb-false _ _ is);
     searched = λ s. tt;
@@ -73,18 +74,14 @@ module _ {P H : Type 0} (maker : MakerTold) (old new : PartyTold) where
   back_way c f returned = tt
   back_way c f (refused x) = refl
 
+  one_counted : (c : PoolCore P H) (f : Frame P H) → Can maker UncountComponent c f → 0 < c.counters.component_instances
+  one_counted c f can = omega (arith, counted_fits c (in_phase UncountComponent f) can.fits (only counted_component))
+
   pub uncount_component_ready : (c : PoolCore P H) (f : Frame P H) → Can maker UncountComponent c f → Shows UncountComponent c f (uncount_component_row c (in_phase Idle f))
   uncount_component_ready c f can = record {
-    kept = record { core = core_with_counters maker (record c.counters { component_instances = c.counters.component_instances - 1 }) c can.core; held = held_of maker c.settings c.plan (in_phase UncountComponent f) can.frame; asked = refl; settings = refl; plan = refl; instances_by_one = omega arith; memories_by_one = omega arith; tables_by_one = omega arith; stacks_by_one = omega arith; heaps_by_one = omega arith };
+    kept = record { core = core_with_counters maker (record c.counters { component_instances = c.counters.component_instances - 1 }) c can.core; held = held_of maker c.settings c.plan (in_phase UncountComponent f) can.frame; asked = refl; settings = refl; plan = refl; by_one = λ k. omega (arith, one_less c.counters.component_instances (only k counted_component) (one_counted c f can)) };
     shape = (can.frame.shape.0, none_granted _ f.ending);
-    even = record {
-      places = λ t. omega (arith, none_counted {P = P} {H = H} (grant_count t) f.ending);
-      instances = omega (arith, ap (λ (n : ℕ). instances_for f.asked n) (none_counted {P = P} {H = H} grant_instances f.ending));
-      memories = omega (arith, none_counted {P = P} {H = H} grant_memories f.ending);
-      tables = omega (arith, none_counted {P = P} {H = H} grant_tables f.ending);
-      stacks = omega (arith, none_counted {P = P} {H = H} grant_stacks f.ending);
-      heaps = omega (arith, none_counted {P = P} {H = H} grant_heaps f.ending);
-    };
+    even = λ w. omega (arith, none_counted {P = P} {H = H} (grant_weight w) f.ending, one_less c.counters.component_instances (w.counts counted_component) (one_counted c f can));
     fewer = omega arith;
     way = back_way c (in_phase UncountComponent f) f.ending;
     searched = λ s. tt;

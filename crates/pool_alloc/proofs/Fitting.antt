@@ -14,6 +14,7 @@ use Rattle.pool_alloc.specs.declared.frame.Outcome.TheVariants as answer
 use Rattle.pool_alloc.specs.StackLeases.{stack_slot}
 use Rattle.pool_alloc.proofs.SlotCounts.{both_regions}
 use Rattle.pool_alloc.proofs.QueueCounts.{leased_regions, tables_regions}
+use Rattle.pool_alloc.proofs.Weights.{conserves_units}
 
 module _ {P H : Type 0} where
   -- A grant has the region of each slot.
@@ -32,12 +33,6 @@ module _ {P H : Type 0} where
   -- Where a step conserves, what the frame has still fits.
   pub fits_after : (c : PoolCore P H) (f : Frame P H) (a : After P H) → FitsCore c f → Conserves c f a → IsSameSize c a.core → FitsCore a.core a.frame
   fits_after c f a fits b size = record {
-    once = λ t. omega (arith, fits.once t, b.places t);
-    others = λ k. omega (arith, fits.others k, b.places (right_to k), b.places (region_of k), granted_regions k a.outcome);
-    instances = omega (arith, fits.instances, b.instances);
-    components = omega (arith, fits.components, b.components);
-    memories = omega (arith, fits.memories, b.memories);
-    tables = omega (arith, fits.tables, b.tables);
-    stacks = omega (arith, fits.stacks, b.stacks);
-    heaps = omega (arith, fits.heaps, b.heaps);
+    once = λ w. omega (arith, fits.once w, b w);
+    others = λ k. omega (arith, fits.others k, conserves_units c f a b (right_to k), conserves_units c f a b (region_of k), granted_regions k a.outcome);
   }

@@ -9,7 +9,7 @@ use Rattle.pool_alloc.specs.Sound.{IsStripe, IsPoolPlan, HasCells, IsSlotName, I
 use Rattle.pool_alloc.specs.Answers.{Decommits}
 use Rattle.pool_alloc.specs.declared.pool_core.Settings.{Settings}
 use Rattle.pool_alloc.specs.Bounds.{PoolSizes, sizes_of, all_shards, is_home, waiting_for, shards_waiting, all_waiting, flush_left, flushed_allocators, may_zero, zeroings}
-use Rattle.pool_alloc.specs.Places.{right_to, away_count, queued_count}
+use Rattle.pool_alloc.specs.Places.{right_to, away_count, queued_count, of_units}
 use Rattle.pool_alloc.specs.RangeRuns.{runs, IsGrouped}
 use Rattle.pool_alloc.specs.Reserved.{Reserved, with_item}
 use Rattle.pool_alloc.specs.Steps.{queue_at, freed_of, freed_elsewhere, first_shard}
@@ -365,9 +365,9 @@ module _ {P H : Type 0} where
 
   pub few_in_queue : (maker : MakerTold) (i : ℕ) (c : PoolCore P H) (f : Frame P H) → CanStep maker c f → IsQueuePlace c.plan i → length (queue_at i c).slots ≤ (sizes_of c.settings c.plan).slots
   few_in_queue maker i c f can place =
-      few_of maker c (queue_at i c).slots can.core (sound_queue maker i c can.core place).regions (λ name. omega (arith, can.fits.once (right_to name), queue_kept maker (right_to name) i c can.core place))
+      few_of maker c (queue_at i c).slots can.core (sound_queue maker i c can.core place).regions (λ name. omega (arith, can.fits.once (of_units (right_to name)), queue_kept maker (right_to name) i c can.core place))
 
   pub few_in_both : (maker : MakerTold) (i : ℕ) (c : PoolCore P H) (f : Frame P H) → CanStep maker c f → IsQueuePlace c.plan i → length (after_append (queue_at i c) f.local).slots ≤ (sizes_of c.settings c.plan).slots
   few_in_both maker i c f can place =
       few_of maker c (after_append (queue_at i c) f.local).slots can.core (all_by_kind (IsQueuedOf maker c.settings) ((queue_at i c).slots ++ f.local.slots) (All-append (IsQueuedOf maker c.settings) (queue_at i c).slots f.local.slots (sound_queue maker i c can.core place).regions can.frame.queue.regions))
-      (λ name. omega (arith, queued_joined (right_to name) (queue_at i c).slots f.local.slots, can.fits.once (right_to name), queue_kept maker (right_to name) i c can.core place))
+      (λ name. omega (arith, queued_joined (right_to name) (queue_at i c).slots f.local.slots, can.fits.once (of_units (right_to name)), queue_kept maker (right_to name) i c can.core place))

@@ -1,5 +1,5 @@
 -- All that is shown of a row, before its turn; and that the turn leaves it.
-use Rattle.std.proofs.Common.{◌≡◌, ℕ, ◌+◌, ◌*◌, ◌<◌, ◌≤◌, Bool, true, false, List, [], ◌∷◌, length, All, refl, sym, ap, subst, ◌∙◌, arith, Option, Some, None, ◌==◌, nat_lt, if◌then◌else◌, is_some}
+use Rattle.std.proofs.Common.{◌≡◌, ℕ, ◌+◌, ◌*◌, ◌-◌, ◌<◌, ◌≤◌, Bool, true, false, List, [], ◌∷◌, length, All, refl, sym, ap, subst, ◌∙◌, arith, Option, Some, None, ◌==◌, nat_lt, if◌then◌else◌, is_some}
 use Rattle.pool_alloc.proofs.Imports.{Plan, SlotKind, memory_kind, table_kind, stack_kind, heap_kind, queues_for, ltb-true, ltb-false, eqb-true, eqb-false, and_parts, nil_from_length, All-nil, All-head, All-tail, All-same, MakerTold, Queue, no_slots}
 use Rattle.pool_alloc.proofs.PlanPlaces.{allocator_is}
 use Rattle.pool_alloc.specs.PartyTold.{PartyTold}
@@ -9,7 +9,7 @@ use Rattle.pool_alloc.specs.Calls.{IsGrantOf, IfGranted}
 use Rattle.pool_alloc.specs.Leases.{Lease}
 use Rattle.pool_alloc.specs.PoolTables.{IsTableLease}
 use Rattle.pool_alloc.specs.TableLeases.{LeasedTable}
-use Rattle.pool_alloc.specs.Places.{Thing, leased_count, tables_count, instance_count, taken_count, memory_in, table_in, phase_tables, frame_tables, phase_stacks, phase_heaps, stack_in, frame_instances, instances_for, queued_count, freed_count, kept_count, phase_count, frame_count, phase_instances, phase_memories, frame_memories, away_count}
+use Rattle.pool_alloc.specs.Places.{Counter, Weight, counted_instance, counted_component, counted_object, only, leased_count, tables_count, instance_count, instance_counted, taken_count, instances_for, queued_count, freed_count, kept_count, phase_count, phase_counted, phase_instances, away_weight, frame_weight}
 use Rattle.pool_alloc.specs.Objects.{objects_in, objects_wanted, no_objects, slot_of_object}
 use Rattle.pool_alloc.specs.Reserved.{Reserved}
 use Rattle.pool_alloc.specs.declared.frame.Object.{Object}
@@ -19,7 +19,7 @@ use Rattle.pool_alloc.specs.Searches.{AreFull, AreEmpty, IsSearchedBy, IsSearche
 use Rattle.pool_alloc.specs.Sound.{queue_room, AreSupported, AreTablesSupported, IsLocal, IsLeaseOf, IsObjectOf, AreLeasesOf, AreOfOneKind, IsCore, IsFrame, IsToGrant, Aims, HasNoneWaiting, IsAtRest, IsAiming, IsAllocating, IsReturning, IsShapedAt, AreBegun, IsFreedOf}
 use Rattle.pool_alloc.specs.Stages.{Progress, untested, uncounted, admitted, seeks_stack, tests_heap, seeks_heap, counts_heap, Stage, no_call, keys, asks, returning, refusing, progress_by, stage_by, stage_at, stage_of, Follows, Goes, tests_component, counts_component, purging, reserving, releasing}
 use Rattle.pool_alloc.specs.Steps.{memories_wanted, images_wanted, tables_wanted, stacks_wanted, IsForInstance, kind_next, allocator_for, queues_searched, queues_next}
-use Rattle.pool_alloc.specs.Stepping.{count_granted, grant_count, grant_instances, grant_memories, grant_tables, grant_stacks, grant_heaps, is_idle}
+use Rattle.pool_alloc.specs.Stepping.{Conserves, RiseByOne, count_granted, grant_weight, is_idle}
 use Rattle.pool_alloc.specs.Turns.{Turn, goes, ends, next, flush, search, Row, Left, After, is_granting, failing, returned_next, all_returned, answer_of, next_by, is_flushed, after, finished, stepped, gone_to, stays, ends_with}
 use Rattle.pool_alloc.specs.declared.pool_core.PoolCore.{PoolCore}
 use Rattle.pool_alloc.specs.declared.pool_core.Settings.{Settings}
@@ -28,7 +28,7 @@ use Rattle.pool_alloc.specs.declared.frame.Ending.TheVariants.{Granted as grante
 use Rattle.pool_alloc.specs.declared.frame.Frame.{Frame}
 use Rattle.pool_alloc.specs.declared.frame.FreedSlot.{FreedSlot}
 use Rattle.pool_alloc.specs.declared.frame.Grant.{Grant}
-use Rattle.pool_alloc.specs.declared.frame.Grant.TheVariants.{Instance, Stack, Heap, Component}
+use Rattle.pool_alloc.specs.declared.frame.Grant.TheVariants.{Instance}
 use Rattle.pool_alloc.specs.declared.frame.Asked.{Asked}
 use Rattle.pool_alloc.specs.declared.frame.Asked.TheVariants.{Stack as stack_asked, Heap as heap_asked}
 use Rattle.pool_alloc.specs.declared.frame.Outcome.{Outcome}
@@ -56,14 +56,30 @@ pub record IsHeld {P : Type 0} (maker : MakerTold) (s : Settings) (plan : Plan) 
   pub freed_order : AreOfOneKind freed.items
   pub objects : AreLeasesOf maker s plan lease
 
--- what a step has in hand: things, and how many instances, memories, tables, stacks and heaps are counted
-pub record Hand : Type 0 where
-  pub things : Thing → ℕ
-  pub instances : ℕ
-  pub memories : ℕ
-  pub tables : ℕ
-  pub stacks : ℕ
-  pub heaps : ℕ
+-- one less of so many
+pub one_less : (n x : ℕ) → 0 < n → n * x ≡ (n - 1) * x + x
+one_less n x some = one_more n (n - 1) x (omega (arith, some))
+
+-- what a step has in hand, whatever each weighs
+abbrev pub Hand : Type 0
+Hand = Weight → ℕ
+
+-- one counts itself once, and no other
+pub only_one : (k j : Counter) → only k j ≤ 1
+only_one counted_instance counted_instance = omega arith
+only_one counted_component counted_component = omega arith
+only_one (counted_object memory_kind) (counted_object memory_kind) = omega arith
+only_one (counted_object table_kind) (counted_object table_kind) = omega arith
+only_one (counted_object stack_kind) (counted_object stack_kind) = omega arith
+only_one (counted_object heap_kind) (counted_object heap_kind) = omega arith
+only_one _ _ = omega arith
+
+-- objects of which there are none weigh nothing
+pub none_weighs : {P : Type 0} (w : Weight) (lease : InstanceLease P) → lease.memories.items ≡ [] → lease.tables.items ≡ [] → instance_count w.unit lease + instance_counted w.counts lease ≡ 0
+none_weighs w lease none none_more =
+    let M : List Lease → ℕ = λ ls. leased_count w.unit ls + length ls * w.counts (counted_object memory_kind) in
+    let T : List LeasedTable → ℕ = λ ls. tables_count w.unit ls + length ls * w.counts (counted_object table_kind) in
+    omega (arith, ap M none, ap T none_more)
 
 -- no search goes through more queues than that for a memory
 pub queues_few : (plan : Plan) (kind : SlotKind) → queues_for plan kind ≤ queues_searched plan
@@ -79,15 +95,10 @@ stage_still asked returned m n e = refl
 stage_still asked (refused x) m n e = refl
 
 -- a call that is for neither a stack nor a heap counts its instance, and is admitted with it
-pub counts_one : (asked : Asked) (n : ℕ) → IsForInstance asked → instances_for asked n ≡ n
-counts_one stack_asked n one = absurd (omega (arith, one.no_stack))
-counts_one (heap_asked ty) n one = absurd (omega (arith, one.no_heap))
-counts_one asked n one = refl
-
-pub counts_none : (asked : Asked) → instances_for asked 0 ≡ 0
-counts_none stack_asked = refl
-counts_none (heap_asked ty) = refl
-counts_none asked = refl
+pub counts_one : (asked : Asked) → IsForInstance asked → instances_for asked ≡ 1
+counts_one stack_asked one = absurd (omega (arith, one.no_stack))
+counts_one (heap_asked ty) one = absurd (omega (arith, one.no_heap))
+counts_one asked one = refl
 
 pub is_admitted : (asked : Asked) (n : ℕ) → IsForInstance asked → progress_by asked n ≡ admitted n
 is_admitted stack_asked n one = absurd (omega (arith, one.no_stack))
@@ -97,7 +108,7 @@ is_admitted asked n one = refl
 -- A call that counts no instance is for a stack or a heap. It may end at a stage of such a call, with no object left; one for
 -- a heap that is refused has no memory for it yet.
 abbrev pub CountsNone : Asked → Type 0
-CountsNone asked = instances_for asked 1 ≡ 0
+CountsNone asked = instances_for asked ≡ 0
 
 abbrev pub MayEnd : ℕ → Stage → Type 0
 MayEnd objects (asks uncounted) = ⊥
@@ -144,14 +155,14 @@ module _ {P H : Type 0} where
       record { no_ranges = no_slots f.local.ranges f.local.slots none held.queue.owners; no_slots = none; none_freed = empty_length f.freed.items both.1 }
 
   -- what a frame has but for its next step
-  abbrev pub listed_count : Thing → Frame P H → ℕ
-  listed_count t f = instance_count t f.objects + queued_count t f.local.slots + freed_count t f.freed.items
+  abbrev pub listed_weight : Weight → Frame P H → ℕ
+  listed_weight w f = instance_count w.unit f.objects + queued_count w.unit f.local.slots + freed_count w.unit f.freed.items + instance_counted w.counts f.objects
 
-  -- what a turn has in hand
-  abbrev pub hand : Turn P H → Hand
-  hand (goes p) = record { things = λ t. phase_count t p; instances = phase_instances p; memories = phase_memories p; tables = phase_tables p; stacks = phase_stacks p; heaps = phase_heaps p }
-  hand (ends o) = record { things = λ t. count_granted (grant_count t) (Some o); instances = count_granted grant_instances (Some o); memories = count_granted grant_memories (Some o); tables = count_granted grant_tables (Some o); stacks = count_granted grant_stacks (Some o); heaps = count_granted grant_heaps (Some o) }
-  hand _ = record { things = λ t. 0; instances = 1; memories = 0; tables = 0; stacks = 0; heaps = 0 }
+  -- what a turn has in hand, of a call for this
+  abbrev pub hand : Asked → Turn P H → Hand
+  hand asked (goes p) w = phase_count w.unit p + phase_counted w.counts p + phase_instances p * instances_for asked * w.counts counted_instance
+  hand asked (ends o) w = count_granted (grant_weight w) (Some o)
+  hand asked _ w = instances_for asked * w.counts counted_instance
 
 module _ {P H : Type 0} where
   -- no grant is answered by an ending
@@ -165,18 +176,6 @@ module _ {P H : Type 0} where
   none_counted of granted = refl
   none_counted of returned = refl
   none_counted of (refused x) = refl
-
-  -- what is granted is counted as it was asked for
-  ended_instances : (maker : MakerTold) (s : Settings) (plan : Plan) (asked : Asked) (o : Outcome P H) → IfGranted (IsGrantOf maker s plan asked) (Some o) → instances_for asked (count_granted grant_instances (Some o)) ≡ count_granted grant_instances (Some o)
-  ended_instances maker s plan asked (answer.Granted (Instance lease)) is = counts_one asked 1 is.4
-  ended_instances maker s plan asked (answer.Granted (Stack lease)) is = counts_none asked
-  ended_instances maker s plan asked (answer.Granted (Heap lease memory)) is = counts_none asked
-  ended_instances maker s plan asked (answer.Granted Component) is = counts_none asked
-  ended_instances maker s plan asked answer.Key is = counts_none asked
-  ended_instances maker s plan asked answer.Returned is = counts_none asked
-  ended_instances maker s plan asked (answer.Purged n) is = counts_none asked
-  ended_instances maker s plan asked (answer.Released n) is = counts_none asked
-  ended_instances maker s plan asked (answer.Refused x) is = counts_none asked
 
   -- the steps that a turn leaves
   abbrev pub turn_steps : PoolSizes → Turn P H → Frame P H → ℕ
@@ -202,13 +201,8 @@ module _ {P H : Type 0} (maker : MakerTold) (old new : PartyTold) (d : PoolCore 
   GoesNow stage outcome = Goes maker old new d e (stage_of e) stage outcome
 
   -- The sums are those of the step's beginning, with what is in hand.
-  pub record Even (h : Hand) (c : PoolCore P H) (f : Frame P H) : Type 0 where
-    pub places : (t : Thing) → kept_count t c + (listed_count t f + h.things t) + away_count t d ≡ kept_count t d + frame_count t e + away_count t c
-    pub instances : c.counters.core_instances + frame_instances e ≡ d.counters.core_instances + instances_for e.asked h.instances
-    pub memories : c.counters.memories + frame_memories e ≡ d.counters.memories + (length f.objects.memories.items + h.memories)
-    pub tables : c.counters.tables + frame_tables e ≡ d.counters.tables + (length f.objects.tables.items + h.tables)
-    pub stacks : c.counters.stacks + phase_stacks e.phase ≡ d.counters.stacks + h.stacks
-    pub heaps : c.counters.gc_heaps + phase_heaps e.phase ≡ d.counters.gc_heaps + h.heaps
+  abbrev pub Even : Hand → PoolCore P H → Frame P H → Type 0
+  Even h c f = (w : Weight) → kept_count w.unit c + (listed_weight w f + h w) + away_weight w d ≡ kept_count w.unit d + frame_weight w e + away_weight w c
 
   -- what is there, whatever comes next
   pub record Kept (c : PoolCore P H) (f : Frame P H) : Type 0 where
@@ -217,11 +211,7 @@ module _ {P H : Type 0} (maker : MakerTold) (old new : PartyTold) (d : PoolCore 
     pub asked : f.asked ≡ e.asked
     pub settings : c.settings ≡ d.settings
     pub plan : c.plan ≡ d.plan
-    pub instances_by_one : c.counters.core_instances ≤ d.counters.core_instances + 1
-    pub memories_by_one : c.counters.memories ≤ d.counters.memories + 1
-    pub tables_by_one : c.counters.tables ≤ d.counters.tables + 1
-    pub stacks_by_one : c.counters.stacks ≤ d.counters.stacks + 1
-    pub heaps_by_one : c.counters.gc_heaps ≤ d.counters.gc_heaps + 1
+    pub by_one : RiseByOne d.counters c.counters
 
   -- what a turn wants of the frame
   abbrev pub TurnShape : PoolCore P H → Frame P H → Turn P H → Type 0
@@ -245,7 +235,7 @@ module _ {P H : Type 0} (maker : MakerTold) (old new : PartyTold) (d : PoolCore 
   pub record Ready (c : PoolCore P H) (f : Frame P H) (t : Turn P H) : Type 0 where
     pub kept : Kept c f
     pub shape : TurnShape c f t
-    pub even : Even (hand t) c f
+    pub even : Even (hand e.asked t) c f
     pub fewer : turn_steps (sizes_of d.settings d.plan) t f + 1 ≤ steps_left d e
     pub way : TurnGoes c f t
     pub searched : IsSearched d e → TurnSearched c f t
@@ -258,20 +248,11 @@ module _ {P H : Type 0} (maker : MakerTold) (old new : PartyTold) (d : PoolCore 
     pub core : IsCore maker a.core
     pub frame : IsFrame maker a.core.settings a.core.plan a.frame
     pub granted_is : IfGranted (IsGrantOf maker a.core.settings a.core.plan e.asked) a.outcome
-    pub places : (t : Thing) → kept_count t a.core + (frame_count t a.frame + count_granted (grant_count t) a.outcome) + away_count t d ≡ kept_count t d + frame_count t e + away_count t a.core
-    pub instances : a.core.counters.core_instances + frame_instances e ≡ d.counters.core_instances + (frame_instances a.frame + count_granted grant_instances a.outcome)
-    pub memories : a.core.counters.memories + frame_memories e ≡ d.counters.memories + (frame_memories a.frame + count_granted grant_memories a.outcome)
-    pub tables : a.core.counters.tables + frame_tables e ≡ d.counters.tables + (frame_tables a.frame + count_granted grant_tables a.outcome)
-    pub stacks : a.core.counters.stacks + phase_stacks e.phase ≡ d.counters.stacks + (phase_stacks a.frame.phase + count_granted grant_stacks a.outcome)
-    pub heaps : a.core.counters.gc_heaps + phase_heaps e.phase ≡ d.counters.gc_heaps + (phase_heaps a.frame.phase + count_granted grant_heaps a.outcome)
+    pub conserves : Conserves d e a
     pub settings : a.core.settings ≡ d.settings
     pub plan : a.core.plan ≡ d.plan
     pub answer : is_some a.outcome ≡ is_idle a.frame.phase
-    pub instances_by_one : a.core.counters.core_instances ≤ d.counters.core_instances + 1
-    pub memories_by_one : a.core.counters.memories ≤ d.counters.memories + 1
-    pub tables_by_one : a.core.counters.tables ≤ d.counters.tables + 1
-    pub stacks_by_one : a.core.counters.stacks ≤ d.counters.stacks + 1
-    pub heaps_by_one : a.core.counters.gc_heaps ≤ d.counters.gc_heaps + 1
+    pub by_one : RiseByOne d.counters a.core.counters
     pub asked : is_idle a.frame.phase ≡ false → a.frame.asked ≡ e.asked
     pub fewer : steps_at (sizes_of d.settings d.plan) a.frame.phase a.frame + 1 ≤ steps_left d e
     pub way : GoesNow (stage_of a.frame) a.outcome
@@ -291,20 +272,11 @@ module _ {P H : Type 0} (maker : MakerTold) (old new : PartyTold) (d : PoolCore 
         core = r.kept.core;
         frame = frame_of maker c.settings c.plan (gone_to p f) r.kept.held r.shape.1;
         granted_is = tt;
-        places = λ t. omega (arith, r.even.places t);
-        instances = omega (arith, r.even.instances, ap (λ (x : Asked). instances_for x (phase_instances p)) r.kept.asked);
-        memories = omega (arith, r.even.memories);
-        tables = omega (arith, r.even.tables);
-        stacks = omega (arith, r.even.stacks);
-        heaps = omega (arith, r.even.heaps);
+        conserves = λ w. omega (arith, r.even w, ap (λ (x : Asked). phase_instances p * instances_for x * w.counts counted_instance) r.kept.asked);
         settings = r.kept.settings;
         plan = r.kept.plan;
         answer = sym r.shape.0;
-        instances_by_one = r.kept.instances_by_one;
-        memories_by_one = r.kept.memories_by_one;
-        tables_by_one = r.kept.tables_by_one;
-        stacks_by_one = r.kept.stacks_by_one;
-        heaps_by_one = r.kept.heaps_by_one;
+        by_one = r.kept.by_one;
         asked = λ on. r.kept.asked;
         fewer = r.fewer;
         way = r.way;
@@ -317,20 +289,11 @@ module _ {P H : Type 0} (maker : MakerTold) (old new : PartyTold) (d : PoolCore 
         core = r.kept.core;
         frame = frame_of maker c.settings c.plan (after f (ends o)).frame r.kept.held r.shape.0;
         granted_is = r.shape.1;
-        places = λ t. omega (arith, r.even.places t);
-        instances = omega (arith, r.even.instances, ended_instances maker c.settings c.plan e.asked o r.shape.1);
-        memories = omega (arith, r.even.memories);
-        tables = omega (arith, r.even.tables);
-        stacks = omega (arith, r.even.stacks);
-        heaps = omega (arith, r.even.heaps);
+        conserves = λ w. omega (arith, r.even w);
         settings = r.kept.settings;
         plan = r.kept.plan;
         answer = refl;
-        instances_by_one = r.kept.instances_by_one;
-        memories_by_one = r.kept.memories_by_one;
-        tables_by_one = r.kept.tables_by_one;
-        stacks_by_one = r.kept.stacks_by_one;
-        heaps_by_one = r.kept.heaps_by_one;
+        by_one = r.kept.by_one;
         asked = λ on. absurd cc;
         fewer = r.fewer;
         way = r.way;
@@ -339,16 +302,16 @@ module _ {P H : Type 0} (maker : MakerTold) (old new : PartyTold) (d : PoolCore 
 
   -- what was granted so far is given back, or is still to be
   abbrev GoesBack : PoolCore P H → Frame P H → Type 0
-  GoesBack c f = Kept c f × HasNoneWaiting f × IsReturning f × Even (hand {P = P} {H = H} next) c f × (returns_left (sizes_of d.settings d.plan) f.objects + 1 ≤ steps_left d e) × GoesNow (stage_by f.asked f.ending (objects_in f.objects)) None
+  GoesBack c f = Kept c f × HasNoneWaiting f × IsReturning f × Even (hand {P = P} {H = H} e.asked next) c f × (returns_left (sizes_of d.settings d.plan) f.objects + 1 ≤ steps_left d e) × GoesNow (stage_by f.asked f.ending (objects_in f.objects)) None
 
   -- with one object less
   less_ok : (c : PoolCore P H) (f : Frame P H) (objects : InstanceLease P) (object : Object P) → GoesBack c f → objects_in f.objects ≡ objects_in objects + 1 → AreLeasesOf maker c.settings c.plan objects → IsObjectOf maker c.settings c.plan object
-      → ((t : Thing) → instance_count t f.objects ≡ instance_count t objects + taken_count t (slot_of_object object)) → length f.objects.memories.items ≡ length objects.memories.items + memory_in object → length f.objects.tables.items ≡ length objects.tables.items + table_in object → stack_in object ≡ 0
+      → ((w : Weight) → instance_count w.unit f.objects + instance_counted w.counts f.objects ≡ instance_count w.unit objects + instance_counted w.counts objects + (taken_count w.unit (slot_of_object object) + w.counts (counted_object (slot_of_object object).name.kind)))
       → RowOk (finished c (after (record f { objects = objects }) (goes (UncountObject object))))
-  less_ok c f objects object back long leases is counts memories tables stacks =
+  less_ok c f objects object back long leases is counts =
       let kept : Kept c f = back.0 in
       let returning : IsReturning f = back.2 in
-      let even : Even (hand {P = P} {H = H} next) c f = back.3 in
+      let even : Even (hand {P = P} {H = H} e.asked next) c f = back.3 in
       let W : Stage → Type 0 = λ stage. GoesNow stage None in
       goes_ok c (record f { objects = objects }) (UncountObject object)
       (record {
@@ -358,14 +321,10 @@ module _ {P H : Type 0} (maker : MakerTold) (old new : PartyTold) (d : PoolCore 
           asked = kept.asked;
           settings = kept.settings;
           plan = kept.plan;
-          instances_by_one = kept.instances_by_one;
-          memories_by_one = kept.memories_by_one;
-          tables_by_one = kept.tables_by_one;
-          stacks_by_one = kept.stacks_by_one;
-          heaps_by_one = kept.heaps_by_one;
+          by_one = kept.by_one;
         };
         shape = (refl, (back.1, returning, is));
-        even = record { places = λ t. omega (arith, even.places t, counts t); instances = even.instances; memories = omega (arith, even.memories, memories); tables = omega (arith, even.tables, tables); stacks = omega (arith, even.stacks, stacks); heaps = omega (arith, even.heaps, stacks) };
+        even = λ w. omega (arith, even w, counts w);
         fewer = omega (arith, back.4, one_more (objects_in f.objects) (objects_in objects) (give_back_bound (sizes_of d.settings d.plan)) long);
         way = subst W (stage_still f.asked f.ending (objects_in f.objects) (objects_in objects) returning) back.5;
         searched = λ s. tt;
@@ -412,14 +371,7 @@ module _ {P H : Type 0} (maker : MakerTold) (old new : PartyTold) (d : PoolCore 
       ends_ok c f (answer_of f.ending) (record {
         kept = kept;
         shape = (rest, none_granted (IsGrantOf maker c.settings c.plan e.asked) f.ending);
-        even = record {
-          places = λ t. omega (arith, back.3.places t, none_counted {P = P} {H = H} (grant_count t) f.ending);
-          instances = omega (arith, back.3.instances, counts, counts_none e.asked, ap (instances_for e.asked) (none_counted {P = P} {H = H} grant_instances f.ending));
-          memories = omega (arith, back.3.memories, none_counted {P = P} {H = H} grant_memories f.ending);
-          tables = omega (arith, back.3.tables, none_counted {P = P} {H = H} grant_tables f.ending);
-          stacks = omega (arith, back.3.stacks, none_counted {P = P} {H = H} grant_stacks f.ending);
-          heaps = omega (arith, back.3.heaps, none_counted {P = P} {H = H} grant_heaps f.ending);
-        };
+        even = λ w. omega (arith, back.3 w, none_counted {P = P} {H = H} (grant_weight w) f.ending, ap (λ (n : ℕ). n * w.counts counted_instance) counts);
         fewer = omega (arith, back.4);
         way = ends_all (stage_of e) f.asked f.ending (objects_in f.objects) back.2 empty (may counts) back.5;
         searched = λ s. tt;
@@ -429,7 +381,7 @@ module _ {P H : Type 0} (maker : MakerTold) (old new : PartyTold) (d : PoolCore 
   all_ok stack_asked c f is rest back may = none_left_ok stack_asked c f is refl rest back may
   all_ok (heap_asked ty) c f is rest back may = none_left_ok (heap_asked ty) c f is refl rest back may
   all_ok asked c f is rest back may =
-      goes_ok c f UncountInstance (record { kept = back.0; shape = (refl, (rest, back.2, rw is (record { no_stack = refl; no_heap = refl }))); even = back.3; fewer = omega (arith, back.4); way = back.5; searched = λ s. tt })
+      goes_ok c f UncountInstance (record { kept = back.0; shape = (refl, (rest, back.2, rw is (record { no_stack = refl; no_heap = refl }))); even = λ w. omega (arith, back.3 w); fewer = omega (arith, back.4); way = back.5; searched = λ s. tt })
 
   back_ok : (c : PoolCore P H) (f : Frame P H) (memories : List Lease) (tables : List LeasedTable) → f.objects.memories.items ≡ memories → f.objects.tables.items ≡ tables → GoesBack c f → (CountsNone e.asked → MayEnd (objects_in f.objects) (stage_of e)) → RowOk (finished c (returned_next memories tables f))
   back_ok c f [] [] none none_more back may =
@@ -440,14 +392,14 @@ module _ {P H : Type 0} (maker : MakerTold) (old new : PartyTold) (d : PoolCore 
       let all : All L (lease ∷ rest) = All-same L (lease ∷ rest) f.objects.memories.items (sym is) kept.held.objects.0 in
       let long : length f.objects.memories.items ≡ length rest + 1 = ap (length {A = Lease}) is ∙ omega arith in
       less_ok c f (record f.objects { memories = record f.objects.memories { items = rest } }) (Memory lease) back (omega (arith, long)) (All-tail L lease rest all, kept.held.objects.1) (All-head L lease rest all)
-      (λ t. omega (arith, leased_first t lease rest, ap (leased_count t) is)) long (omega arith) refl
+      (λ w. omega (arith, leased_first w.unit lease rest, ap (leased_count w.unit) is, one_more (length f.objects.memories.items) (length rest) (w.counts (counted_object memory_kind)) long))
   back_ok c f [] (lease ∷ rest) none is back may =
       let L : LeasedTable → Type 0 = IsTableLease maker c.settings c.plan in
       let kept : Kept c f = back.0 in
       let all : All L (lease ∷ rest) = All-same L (lease ∷ rest) f.objects.tables.items (sym is) kept.held.objects.1 in
       let long : length f.objects.tables.items ≡ length rest + 1 = ap (length {A = LeasedTable}) is ∙ omega arith in
       less_ok c f (record f.objects { tables = record f.objects.tables { items = rest } }) (Table lease) back (omega (arith, long)) (kept.held.objects.0, All-tail L lease rest all) (All-head L lease rest all)
-      (λ t. omega (arith, tables_first t lease rest, ap (tables_count t) is)) (omega arith) long refl
+      (λ w. omega (arith, tables_first w.unit lease rest, ap (tables_count w.unit) is, one_more (length f.objects.tables.items) (length rest) (w.counts (counted_object table_kind)) long))
 
   -- a request for which all is granted goes on to its answer
   granted_way : (stage : Stage) (n : ℕ) (lease : InstanceLease P) → Goes maker old new d e stage (asks (admitted n)) None → n ≡ objects_wanted e.asked → AreSupported d.settings (memories_wanted e.asked) (images_wanted e.asked) → AreTablesSupported d.settings d.plan.totals.table (tables_wanted e.asked) → Goes maker old new d e stage no_call (Some (answer.Granted (Instance lease)))
@@ -463,7 +415,7 @@ module _ {P H : Type 0} (maker : MakerTold) (old new : PartyTold) (d : PoolCore 
   granted_way releasing n lease way is supported tables = absurd way
 
   -- the instance is whole: the call ends with it
-  whole_ready : (c : PoolCore P H) (f : Frame P H) → Kept c f → HasNoneWaiting f → IsToGrant c.settings c.plan f.asked f.queues f.objects → Even (hand {P = P} {H = H} next) c f → 1 ≤ steps_left d e → GoesNow (asks (progress_by f.asked (objects_in f.objects))) None → objects_wanted f.asked ≤ objects_in f.objects → Ready c (record f { objects = no_objects }) (ends (answer.Granted (Instance f.objects)))
+  whole_ready : (c : PoolCore P H) (f : Frame P H) → Kept c f → HasNoneWaiting f → IsToGrant c.settings c.plan f.asked f.queues f.objects → Even (hand {P = P} {H = H} e.asked next) c f → 1 ≤ steps_left d e → GoesNow (asks (progress_by f.asked (objects_in f.objects))) None → objects_wanted f.asked ≤ objects_in f.objects → Ready c (record f { objects = no_objects }) (ends (answer.Granted (Instance f.objects)))
   whole_ready c f kept settled to_grant even fewer way all =
       let W : Asked → Type 0 = λ a. (length f.objects.memories.items ≡ length (memories_wanted a)) × (length f.objects.tables.items ≡ length (tables_wanted a)) in
       let B : Asked → Type 0 = λ a. AreBegun c.settings a f.objects in
@@ -482,14 +434,10 @@ module _ {P H : Type 0} (maker : MakerTold) (old new : PartyTold) (d : PoolCore 
           asked = kept.asked;
           settings = kept.settings;
           plan = kept.plan;
-          instances_by_one = kept.instances_by_one;
-          memories_by_one = kept.memories_by_one;
-          tables_by_one = kept.tables_by_one;
-          stacks_by_one = kept.stacks_by_one;
-          heaps_by_one = kept.heaps_by_one;
+          by_one = kept.by_one;
         };
         shape = (record { settled = settled; no_memories = refl; no_tables = refl }, (kept.held.objects, long.0, subst B kept.asked to_grant.begun, long.1, here));
-        even = record { places = λ t. omega (arith, even.places t); instances = even.instances; memories = omega (arith, even.memories); tables = omega (arith, even.tables); stacks = even.stacks; heaps = even.heaps };
+        even = λ w. omega (arith, even w, ap (λ (n : ℕ). n * w.counts counted_instance) (counts_one e.asked here));
         fewer = omega (arith, fewer);
         way = granted_way (stage_of e) (objects_in f.objects) f.objects (subst G (is_admitted f.asked (objects_in f.objects) one) way) (omega (arith, long.0, long.1, here.no_stack, here.no_heap)) supported tables;
         searched = λ s. tt;
@@ -510,7 +458,7 @@ module _ {P H : Type 0} (maker : MakerTold) (old new : PartyTold) (d : PoolCore 
       goes_ok c f (Pick 0) (record {
         kept = r.kept;
         shape = (refl, (r.shape.0, record { ending = is; to_grant = aim; more = ltb-true _ _ more }, (allocator_is c.plan (length c.parts) (kind_next f) f.stripe r.kept.core.plan r.kept.held.stripe).some));
-        even = r.even;
+        even = λ w. omega (arith, r.even w);
         fewer = left_of_picks;
         way = r.way;
         searched = λ s. (subst S is (r.searched s), λ j below. absurd (omega (arith, below)));
@@ -532,17 +480,17 @@ module _ {P H : Type 0} (maker : MakerTold) (old new : PartyTold) (d : PoolCore 
   after_ok c f flush r may =
       either_ok c (is_flushed f) _ _
       (λ done. next_ok c f f.ending refl (record { kept = r.kept; shape = (flushed maker c.settings c.plan f r.kept.held done, r.shape); even = r.even; fewer = omega (arith, r.fewer); way = r.way; searched = r.searched }) may)
-      (λ more. goes_ok c f Flush (record { kept = r.kept; shape = (refl, (r.shape, more)); even = r.even; fewer = r.fewer; way = r.way; searched = r.searched }))
+      (λ more. goes_ok c f Flush (record { kept = r.kept; shape = (refl, (r.shape, more)); even = λ w. omega (arith, r.even w); fewer = r.fewer; way = r.way; searched = r.searched }))
   after_ok c f (search queues x) r may =
       either_ok c (nat_lt f.queues queues) _ _
-      (λ more. goes_ok c f TakeQueue (record { kept = r.kept; shape = (refl, (r.shape.1, r.shape.2, omega (arith, ltb-true _ _ more, r.shape.0, queues_few c.plan (kind_next f)))); even = r.even; fewer = r.fewer; way = r.way.0; searched = r.searched }))
+      (λ more. goes_ok c f TakeQueue (record { kept = r.kept; shape = (refl, (r.shape.1, r.shape.2, omega (arith, ltb-true _ _ more, r.shape.0, queues_few c.plan (kind_next f)))); even = λ w. omega (arith, r.even w); fewer = r.fewer; way = r.way.0; searched = r.searched }))
       (λ last.
       let few : returns_left (sizes_of d.settings d.plan) f.objects ≤ 1 + objects_left (sizes_of d.settings d.plan) f.asked f.objects = returns_few f.asked (sizes_of d.settings d.plan) f.objects (λ stack. none_for_stack c.settings c.plan f.asked f.queues f.objects r.shape.2.to_grant stack) in
       back_ok c (failing x f) f.objects.memories.items f.objects.tables.items refl refl (
-        record { core = r.kept.core; held = r.kept.held; asked = r.kept.asked; settings = r.kept.settings; plan = r.kept.plan; instances_by_one = r.kept.instances_by_one; memories_by_one = r.kept.memories_by_one; tables_by_one = r.kept.tables_by_one; stacks_by_one = r.kept.stacks_by_one; heaps_by_one = r.kept.heaps_by_one },
+        record { core = r.kept.core; held = r.kept.held; asked = r.kept.asked; settings = r.kept.settings; plan = r.kept.plan; by_one = r.kept.by_one },
         r.shape.1,
         refl,
-        record { places = r.even.places; instances = r.even.instances; memories = r.even.memories; tables = r.even.tables; stacks = r.even.stacks; heaps = r.even.heaps },
+        r.even,
         omega (arith, r.fewer, few),
         r.way.1 (ltb-false _ _ last),
       ) may)

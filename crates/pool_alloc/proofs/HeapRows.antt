@@ -1,25 +1,23 @@
 -- The rows of a call for a heap: its test, the heap's slot out of the list and back, the making, the counts.
-use Rattle.std.proofs.Common.{◌≡◌, ℕ, ◌+◌, ◌<◌, Bool, true, false, List, [], ◌∷◌, length, refl, sym, ap, subst, ◌∙◌, arith, Option, None, Some, Result, Ok, Err, inl, inr, All, ◌-◌, slice_get, slice_index_or, IfSome}
-use Rattle.pool_alloc.proofs.Imports.{RegionNumbers, length-set, nil_from_length, All-nil, All-head, ShardState, after_free, MakerTold, MemoryType, Unsupported, IsHere, heap_in, heap_taken, heap_returned, heap_slot, home_of, of_kind, AllocError, HeapEntry, HeapMakeFault, SlotName}
+use Rattle.std.proofs.Common.{◌≡◌, ℕ, ◌+◌, ◌<◌, Bool, true, false, List, [], ◌∷◌, length, refl, sym, ap, subst, ◌∙◌, arith, Option, None, Some, Result, Ok, Err, inl, inr, All, ◌-◌, slice_get, slice_index_or, IfSome, ◌*◌}
+use Rattle.pool_alloc.proofs.Imports.{RegionNumbers, length-set, nil_from_length, All-nil, All-head, ShardState, after_free, MakerTold, MemoryType, Unsupported, heap_in, heap_taken, heap_returned, heap_slot, home_of, of_kind, AllocError, HeapEntry, HeapMakeFault, SlotName, memory_kind, table_kind, heap_kind}
 use Rattle.pool_alloc.specs.declared.frame.Ending.TheVariants.{Granted as granted}
 use Rattle.pool_slots.specs.declared.errors.AllocError.TheVariants as refusal
 use Rattle.pool_slots.specs.declared.heap_list.HeapEntry.TheVariants as entry
-use Rattle.pool_alloc.specs.Bounds.{PoolSizes, sizes_of, allocation_bound, give_back_bound, flush_bound, objects_left}
-use Rattle.pool_alloc.specs.Calls.{IsHeapOf}
-use Rattle.pool_alloc.specs.HeapLeases.{LeasedHeap, heap_numbers, heap_slot_taken}
-use Rattle.pool_alloc.specs.Leases.{Lease, first_index, slot_taken}
-use Rattle.pool_alloc.specs.Objects.{objects_in, no_objects, objects_wanted}
+use Rattle.pool_alloc.specs.Bounds.{PoolSizes, sizes_of, flush_bound, objects_left}
+use Rattle.pool_alloc.specs.HeapLeases.{LeasedHeap, heap_numbers}
+use Rattle.pool_alloc.specs.Leases.{Lease, first_index}
+use Rattle.pool_alloc.specs.Objects.{objects_in, objects_wanted}
 use Rattle.pool_alloc.specs.Own.{heap_refusal}
 use Rattle.pool_alloc.specs.PartyTold.{PartyTold, MakesHeap}
-use Rattle.pool_alloc.specs.Places.{Thing, region_count, taken_count, leased_count, tables_count, instances_for, both_count, away_count, kept_count}
+use Rattle.pool_alloc.specs.Places.{Thing, region_count, leased_count, tables_count, both_count, away_count, kept_count, counted_instance, counted_object, only}
 use Rattle.pool_alloc.specs.PoolTables.{IsTableLease}
-use Rattle.pool_alloc.specs.Refusals.{heap_refused, type_refused}
+use Rattle.pool_alloc.specs.Refusals.{heap_refused}
 use Rattle.pool_alloc.specs.Rows.{heaps_tested, test_heap_row, validated, reserved, take_heap_on, heap_next, put_heap_on, make_heap_row, heap_granted, count_heap_row, uncount_heap_row, free_heap_on, in_heaps, in_shard, refused_at_once}
-use Rattle.pool_alloc.specs.Sound.{IsCore, IsHeapName, IsLeaseOf, IsEnabled, IsToGrant, IsAllocating, IsHeapNext, IsNew, AreBegun}
-use Rattle.pool_alloc.specs.Stages.{Stage, asks, tests_heap, seeks_heap, progress_by, stage_by, IsUntested, IsHeapUntested, SeeksHeap, Goes, Progress, counts_heap, refusing}
-use Rattle.pool_alloc.specs.Steps.{memories_wanted, images_wanted, tables_wanted, heaps_wanted, plain_decl, kind_next, shard_at, with_shard, heaps_at, with_heaps, stacks_wanted}
-use Rattle.pool_alloc.specs.TableLeases.{LeasedTable}
-use Rattle.pool_alloc.specs.Turns.{Row, goes}
+use Rattle.pool_alloc.specs.Sound.{IsCore, IsHeapName, IsLeaseOf, IsEnabled, IsToGrant, IsNew}
+use Rattle.pool_alloc.specs.Stages.{Stage, asks, tests_heap, seeks_heap, progress_by, stage_by, IsUntested, IsHeapUntested, Goes, Progress, counts_heap, refusing}
+use Rattle.pool_alloc.specs.Steps.{memories_wanted, images_wanted, tables_wanted, heaps_wanted, kind_next, shard_at, with_shard, heaps_at, with_heaps, stacks_wanted}
+use Rattle.pool_alloc.specs.Turns.{Row}
 use Rattle.pool_alloc.specs.declared.frame.Asked.{Asked}
 use Rattle.pool_alloc.specs.declared.frame.Asked.TheVariants.{Heap as heap_asked}
 use Rattle.pool_alloc.specs.declared.frame.Ending.{Ending}
@@ -29,22 +27,22 @@ use Rattle.pool_alloc.specs.declared.frame.Phase.TheVariants.{Idle, TestHeap, Pi
 use Rattle.pool_alloc.specs.declared.frame.TakenSlot.{TakenSlot}
 use Rattle.pool_alloc.specs.declared.lease.InstanceLease.{InstanceLease}
 use Rattle.pool_alloc.specs.declared.pool_core.PoolCore.{PoolCore}
-use Rattle.pool_alloc.specs.declared.pool_core.Settings.{Settings}
 use Rattle.pool_alloc.proofs.AskingRows.{refused_ready}
 use Rattle.pool_alloc.proofs.CoreChanges.{core_with_heaps, core_with_shard, core_with_counters}
 use Rattle.pool_alloc.proofs.Frees.{freed_one}
-use Rattle.pool_alloc.proofs.Hands.{in_phase, held_of, counts_none, returns_less, one_more, Even, Kept, Ready, IsReadyRow, CountsNone}
+use Rattle.pool_alloc.proofs.Hands.{in_phase, held_of, returns_less, Kept, Ready, IsReadyRow, CountsNone, one_less, only_one, none_weighs}
 use Rattle.pool_alloc.proofs.HeapSlots.{heap_name, heap_inside, has_memory, IsHeapFor, heap_for, taken_is_home, no_heap_is_away, heap_back_is_away}
 use Rattle.pool_alloc.proofs.Held.{held_is_out}
 use Rattle.pool_alloc.proofs.KeptCounts.{away_shard, kept_shard, heap_leaves, heap_comes_back}
 use Rattle.pool_alloc.proofs.PlanPlaces.{IsShardPlace, home_place, allocator_is}
-use Rattle.pool_alloc.proofs.PoolParts.{place_of, shard_part, sound_shard, heaps_long}
+use Rattle.pool_alloc.proofs.PoolParts.{place_of, shard_part, sound_shard}
 use Rattle.pool_alloc.proofs.QueueCounts.{leased_first}
 use Rattle.pool_alloc.proofs.RegionRows.{some_used}
 use Rattle.pool_alloc.proofs.ShardFrees.{freed_shard, IsShardOf}
 use Rattle.pool_alloc.proofs.SlotCounts.{slot_once}
 use Rattle.pool_alloc.proofs.Supporting.{heap_supported}
 use Rattle.pool_alloc.proofs.Ways.{Can, kept_part, same_way, same_times}
+use Rattle.pool_alloc.proofs.Weights.{counted_fits}
 
 -- a call for a heap is one of those that count no instance, at its stage
 counts_no_instance : (asked : Asked) → heaps_wanted asked ≡ 1 → CountsNone asked
@@ -76,7 +74,7 @@ module _ {P H : Type 0} (maker : MakerTold) (old new : PartyTold) where
 
   -- The request is tested. Where it passes, the list for its memory is reserved, and the memory's slot is sought.
   untested_ready : (x : AllocError) (c : PoolCore P H) (f : Frame P H) → Can maker TestHeap c f → IsHeapUntested c (in_phase TestHeap f) x → Shows TestHeap c f (refused_at_once x c (in_phase Idle f))
-  untested_ready x c f can why = refused_ready maker old new TestHeap x c f can can.frame.shape.0 (λ t. refl) (refl, refl, refl, refl, refl) (omega arith) why
+  untested_ready x c f can why = refused_ready maker old new TestHeap x c f can can.frame.shape.0 (λ w. refl) refl (omega arith) why
 
   reserved_heap_ready : (c : PoolCore P H) (f : Frame P H) → Can maker TestHeap c f → c.settings.tunables.tunables.collector ≡ true → heap_refused c.settings f.asked ≡ None → Shows TestHeap c f (reserved false (Pick 0) c (in_phase Idle f))
   reserved_heap_ready c f can enabled passes =
@@ -111,7 +109,7 @@ module _ {P H : Type 0} (maker : MakerTold) (old new : PartyTold) where
             (record { stripe = can.frame.stripe; queue = can.frame.queue; freed_room = can.frame.freed_room; freed_each = can.frame.freed_each; freed_order = can.frame.freed_order; objects = (All-nil (IsLeaseOf maker c.settings c.plan), All-nil (IsTableLease maker c.settings c.plan)) })
             refl refl refl refl;
         shape = (refl, (rest.settled, record { ending = can.frame.shape.1.0; to_grant = subst S (sym for.is) to_grant; more = omega (arith, some) }, (allocator_is c.plan (length c.parts) (kind_next has) f.stripe can.core.plan can.frame.stripe).some));
-        even = record { places = λ t. omega (arith, ap (leased_count t) rest.no_memories, ap (tables_count t) rest.no_tables); instances = omega (arith, counts, counts_none f.asked); memories = omega (arith, ap (length {A = Lease}) rest.no_memories); tables = omega (arith, ap (length {A = LeasedTable}) rest.no_tables); stacks = omega arith; heaps = omega arith };
+        even = λ w. omega (arith, none_weighs w f.objects rest.no_memories rest.no_tables, ap (λ (n : ℕ). n * w.counts counted_instance) counts);
         fewer = omega (arith, left, can.frame.shape.1.1, same_times z.queues (z.queues - f.queues) (flush_bound z + z.shards) (omega (arith, can.frame.shape.1.1)));
         way = subst W (sym for.is) (subst E (sym can.frame.shape.1.0) (refl, record { enabled = enabled; rules = passes }));
         searched = λ s. (λ j below. absurd (omega (arith, below, can.frame.shape.1.1)), λ j below. absurd (omega (arith, below)));
@@ -158,7 +156,7 @@ module _ {P H : Type 0} (maker : MakerTold) (old new : PartyTold) where
       record {
         kept = goes_out.kept;
         shape = (refl, (can.frame.shape.0, allocating, can.frame.shape.2.inside, refl, can.frame.shape.3));
-        even = record { places = λ t. omega (arith, goes_out.places t); instances = omega arith; memories = omega arith; tables = omega arith; stacks = omega arith; heaps = omega arith };
+        even = λ w. omega (arith, goes_out.places w.unit);
         fewer = omega arith;
         way = seeks_way c e f.asked f.ending (objects_in f.objects) (asks counts_heap) allocating.ending can.frame.shape.3.1 (record { number = refl; allocating = allocating; next = can.frame.shape.3 }, inl same);
         searched = λ s. tt;
@@ -169,7 +167,7 @@ module _ {P H : Type 0} (maker : MakerTold) (old new : PartyTold) where
       record {
         kept = goes_out.kept;
         shape = (refl, (can.frame.shape.0, can.frame.shape.1, can.frame.shape.2, refl, can.frame.shape.3));
-        even = record { places = λ t. omega (arith, goes_out.places t); instances = omega arith; memories = omega arith; tables = omega arith; stacks = omega arith; heaps = omega arith };
+        even = λ w. omega (arith, goes_out.places w.unit);
         fewer = omega arith;
         way = same_way maker old new c e f.asked f.ending (objects_in f.objects);
         searched = λ s. tt;
@@ -191,7 +189,7 @@ module _ {P H : Type 0} (maker : MakerTold) (old new : PartyTold) where
       record {
         kept = kept_part maker old new c e c _ can.core (held_of maker c.settings c.plan e can.frame) refl refl refl refl;
         shape = (refl, (can.frame.shape.0, allocating, named.inside, can.frame.shape.3, can.frame.shape.4));
-        even = record { places = λ t. omega (arith, ap (λ (n : SlotName). both_count t n at.numbers) (heap_name c.plan at.name named)); instances = omega arith; memories = omega arith; tables = omega arith; stacks = omega arith; heaps = omega arith };
+        even = λ w. omega (arith, ap (λ (n : SlotName). both_count w.unit n at.numbers) (heap_name c.plan at.name named));
         fewer = omega arith;
         way = seeks_way c e f.asked f.ending (objects_in f.objects) (asks counts_heap) allocating.ending can.frame.shape.4.1 (record { number = refl; allocating = allocating; next = can.frame.shape.4 }, inr (heap, makes));
         searched = λ s. tt;
@@ -202,7 +200,7 @@ module _ {P H : Type 0} (maker : MakerTold) (old new : PartyTold) where
       record {
         kept = kept_part maker old new c e c _ can.core (held_of maker c.settings c.plan e can.frame) refl refl refl refl;
         shape = (refl, (can.frame.shape.0, refl, can.frame.shape.2));
-        even = record { places = λ t. omega arith; instances = omega arith; memories = omega arith; tables = omega arith; stacks = omega arith; heaps = omega arith };
+        even = λ w. omega arith;
         fewer = omega (arith, returns_less f.asked (sizes_of c.settings c.plan) f.objects (no_stack_for f.asked can.frame.shape.4.1));
         way = seeks_way c e f.asked f.ending (objects_in f.objects) (refusing (heap_refusal fault)) allocating.ending can.frame.shape.4.1 (inr (inr (inr (fault, (record { number = refl; allocating = allocating; next = can.frame.shape.4 }, (makes, refl))))));
         searched = λ s. tt;
@@ -219,6 +217,7 @@ module _ {P H : Type 0} (maker : MakerTold) (old new : PartyTold) where
       let long : length f.objects.memories.items ≡ 1 + length rest = ap (length {A = Lease}) is ∙ omega arith in
       let none : length rest ≡ 0 = omega (arith, long, was.few, has_memory f.asked can.frame.shape.4.1) in
       let last : rest ≡ [] = nil_from_length rest (omega (arith, none)) in
+      let one_memory : length f.objects.memories.items ≡ 1 = omega (arith, long, none) in
       let no_table : length f.objects.tables.items ≡ 0 = omega (arith, was.few_tables, ap (λ (a : Asked). length (tables_wanted a)) of.1) in
       let no_tables : f.objects.tables.items ≡ [] = nil_from_length f.objects.tables.items (omega (arith, no_table)) in
       let L : List Lease → Type 0 = λ ls. All (IsLeaseOf maker c.settings c.plan) ls in
@@ -234,11 +233,7 @@ module _ {P H : Type 0} (maker : MakerTold) (old new : PartyTold) where
           asked = refl;
           settings = refl;
           plan = refl;
-          instances_by_one = omega arith;
-          memories_by_one = omega arith;
-          tables_by_one = omega arith;
-          stacks_by_one = omega arith;
-          heaps_by_one = omega arith;
+          by_one = λ k. omega (arith, only_one k (counted_object heap_kind));
         };
         shape = (
           record { settled = can.frame.shape.0; no_memories = refl; no_tables = refl },
@@ -251,14 +246,16 @@ module _ {P H : Type 0} (maker : MakerTold) (old new : PartyTold) where
             begins = begins;
           },
         );
-        even = record {
-          places = λ t. omega (arith, ap (leased_count t) is, leased_first t memory rest, ap (leased_count t) last, ap (tables_count t) no_tables);
-          instances = omega (arith, counts, counts_none f.asked);
-          memories = omega (arith, long, none);
-          tables = omega (arith, no_table);
-          stacks = omega arith;
-          heaps = omega arith;
-        };
+        even = λ w. omega (
+          arith,
+          ap (leased_count w.unit) is,
+          leased_first w.unit memory rest,
+          ap (leased_count w.unit) last,
+          ap (tables_count w.unit) no_tables,
+          ap (λ (n : ℕ). n * w.counts (counted_object memory_kind)) one_memory,
+          ap (λ (n : ℕ). n * w.counts (counted_object table_kind)) no_table,
+          ap (λ (n : ℕ). n * w.counts counted_instance) counts,
+        );
         fewer = omega arith;
         way = (enabled, was.supported);
         searched = λ s. tt;
@@ -283,7 +280,7 @@ module _ {P H : Type 0} (maker : MakerTold) (old new : PartyTold) where
       record {
         kept = kept_part maker old new c e (with_heaps (heap_returned slot None (heaps_at c)) c) (in_phase Idle f) (back_core slot None c can.core inside) (held_of maker c.settings c.plan e can.frame) refl refl refl refl;
         shape = (refl, (can.frame.shape.0, can.frame.shape.1, inside));
-        even = record { places = λ t. let back = heap_comes_back maker t slot None c can.core inside gone.out in omega (arith, back.0, back.1, ap (region_count t (heap_slot slot)) gone.notes); instances = omega arith; memories = omega arith; tables = omega arith; stacks = omega arith; heaps = omega arith };
+        even = λ w. let back = heap_comes_back maker w.unit slot None c can.core inside gone.out in omega (arith, back.0, back.1, ap (region_count w.unit (heap_slot slot)) gone.notes);
         fewer = omega arith;
         way = same_way maker old new c e f.asked f.ending (objects_in f.objects);
         searched = λ s. tt;
@@ -300,6 +297,7 @@ module _ {P H : Type 0} (maker : MakerTold) (old new : PartyTold) where
   pub uncount_heap_ready : (lease : LeasedHeap H) (memory : Lease) (c : PoolCore P H) (f : Frame P H) → Can maker (UncountHeap lease memory) c f → Shows (UncountHeap lease memory) c f (uncount_heap_row lease memory c (in_phase Idle f))
   uncount_heap_ready lease memory c f can =
       let e : Frame P H = in_phase (UncountHeap lease memory) f in
+      let some : 0 < c.counters.gc_heaps = omega (arith, counted_fits c e can.fits (only (counted_object heap_kind))) in
       record {
         kept = record {
           core = core_with_counters maker (record c.counters { gc_heaps = c.counters.gc_heaps - 1 }) c can.core;
@@ -307,14 +305,10 @@ module _ {P H : Type 0} (maker : MakerTold) (old new : PartyTold) where
           asked = refl;
           settings = refl;
           plan = refl;
-          instances_by_one = omega arith;
-          memories_by_one = omega arith;
-          tables_by_one = omega arith;
-          stacks_by_one = omega arith;
-          heaps_by_one = omega arith;
+          by_one = λ k. omega (arith, one_less c.counters.gc_heaps (only k (counted_object heap_kind)) some);
         };
         shape = (refl, (can.frame.shape.0, can.frame.shape.1, can.frame.shape.2, can.frame.shape.3));
-        even = record { places = λ t. omega arith; instances = omega arith; memories = omega arith; tables = omega arith; stacks = omega arith; heaps = omega (arith, can.fits.heaps) };
+        even = λ w. omega (arith, one_less c.counters.gc_heaps (w.counts (counted_object heap_kind)) some);
         fewer = omega arith;
         way = same_way maker old new c e f.asked f.ending (objects_in f.objects);
         searched = λ s. tt;
@@ -329,7 +323,7 @@ module _ {P H : Type 0} (maker : MakerTold) (old new : PartyTold) where
       record {
         kept = kept_part maker old new c e (with_heaps (heap_returned lease.index (Some lease.heap) (heaps_at c)) c) (in_phase Idle f) (back_core lease.index (Some lease.heap) c can.core inside) (held_of maker c.settings c.plan e can.frame) refl refl refl refl;
         shape = (refl, (can.frame.shape.0, can.frame.shape.1, record { kind = refl; inside = inside }, can.frame.shape.3));
-        even = record { places = λ t. let back = heap_comes_back maker t lease.index (Some lease.heap) c can.core inside gone.out in omega (arith, back.0, back.1, ap (region_count t (heap_slot lease.index)) gone.notes); instances = omega arith; memories = omega arith; tables = omega arith; stacks = omega arith; heaps = omega arith };
+        even = λ w. let back = heap_comes_back maker w.unit lease.index (Some lease.heap) c can.core inside gone.out in omega (arith, back.0, back.1, ap (region_count w.unit (heap_slot lease.index)) gone.notes);
         fewer = omega arith;
         way = same_way maker old new c e f.asked f.ending (objects_in f.objects);
         searched = λ s. tt;
@@ -350,7 +344,7 @@ module _ {P H : Type 0} (maker : MakerTold) (old new : PartyTold) where
       record {
         kept = kept_part maker old new c e (with_shard j freed c) (in_phase Idle f) (core_with_shard maker j freed c can.core there next_shard.sound next_shard.same) (held_of maker c.settings c.plan e can.frame) refl refl refl refl;
         shape = (refl, (can.frame.shape.0, can.frame.shape.1, can.frame.shape.3));
-        even = record { places = λ t. omega (arith, kept_shard t j freed c (shard_part maker j c can.core there), away_shard t j freed c (shard_part maker j c can.core there), freed_one t c.plan shard name 0 place used); instances = omega arith; memories = omega arith; tables = omega arith; stacks = omega arith; heaps = omega arith };
+        even = λ w. omega (arith, kept_shard w.unit j freed c (shard_part maker j c can.core there), away_shard w.unit j freed c (shard_part maker j c can.core there), freed_one w.unit c.plan shard name 0 place used);
         fewer = omega arith;
         way = same_way maker old new c e f.asked f.ending (objects_in f.objects);
         searched = λ s. tt;

@@ -5,7 +5,7 @@ use Rattle.pool_hall.specs.Sum.{one_if}
 use Rattle.pool_slots.specs.declared.part.PoolPart.TheVariants as part
 use Rattle.pool_alloc.specs.HeapLeases.{heap_numbers, heap_slot_taken}
 use Rattle.pool_alloc.specs.Leases.{slot_taken}
-use Rattle.pool_alloc.specs.Places.{Thing, right_to, region_of, region_count, taken_count, kept_count, away_count, phase_count, frame_count, release_count, purge_count}
+use Rattle.pool_alloc.specs.Places.{Thing, right_to, region_of, region_count, taken_count, kept_count, away_count, phase_count, frame_count, release_count, purge_count, of_units}
 use Rattle.pool_alloc.specs.Objects.{slot_of_object}
 use Rattle.pool_alloc.specs.declared.frame.TakenSlot.{TakenSlot}
 use Rattle.pool_alloc.specs.Steps.{shard_in, heaps_in, shard_at, heaps_at, cell_named}
@@ -263,13 +263,13 @@ module _ {P H : Type 0} where
 
   pub held_once : (maker : MakerTold) (name : SlotName) (c : PoolCore P H) (f : Frame P H) → IsCore maker c → FitsCore c f → 1 ≤ frame_count (right_to name) f → IsHeldOnce c f name
   held_once maker name c f core fits some =
-      let once = fits.once (right_to name) in
+      let once = fits.once (of_units (right_to name)) in
       let out = (out_once maker name c core).0 in
       record { held = omega arith; kept = omega arith; away = omega arith }
 
   -- It is one of the pool, and used in its shard;
   pub held_is_out : (maker : MakerTold) (name : SlotName) (c : PoolCore P H) (f : Frame P H) → IsCore maker c → FitsCore c f → 1 ≤ frame_count (right_to name) f → IsOut c name
-  held_is_out maker name c f core fits some = right_is_out maker name c core (omega (arith, fits.once (right_to name)))
+  held_is_out maker name c f core fits some = right_is_out maker name c core (omega (arith, fits.once (of_units (right_to name))))
 
   -- its cell has its region where the frame hasn't,
   pub region_is_home : (maker : MakerTold) (name : SlotName) (c : PoolCore P H) (f : Frame P H) → IsCore maker c → FitsCore c f → HasCells name.kind → 1 ≤ frame_count (right_to name) f → frame_count (region_of name) f ≡ 0 → is_taken (cell_named name c).holds ≡ false
@@ -284,7 +284,7 @@ module _ {P H : Type 0} where
 
   -- and is empty where the frame has it, with the numbers that the region went out with.
   pub region_is_away : (maker : MakerTold) (name : SlotName) (n : RegionNumbers) (c : PoolCore P H) (f : Frame P H) → IsCore maker c → FitsCore c f → HasCells name.kind → 1 ≤ frame_count (unit_weight name n) f → HasGone c name n
-  region_is_away maker name n c f core fits cells some = region_is_gone maker name n c core cells (omega (arith, fits.once (unit_weight name n)))
+  region_is_away maker name n c f core fits cells some = region_is_gone maker name n c core cells (omega (arith, fits.once (of_units (unit_weight name n))))
 
   -- A heap whose slot the frame has is in the list where the frame hasn't taken it out,
   pub heap_is_home : (maker : MakerTold) (slot : ℕ) (c : PoolCore P H) (f : Frame P H) → IsCore maker c → FitsCore c f → slot < c.plan.totals.heap → 1 ≤ frame_count (right_to (heap_slot slot)) f → frame_count (region_of (heap_slot slot)) f ≡ 0 → IsHere slot (heaps_at c)
@@ -297,4 +297,4 @@ module _ {P H : Type 0} where
 
   -- and else is out, and notes the memory that it went out with.
   pub heap_is_away : (maker : MakerTold) (slot : ℕ) (n : RegionNumbers) (c : PoolCore P H) (f : Frame P H) → IsCore maker c → FitsCore c f → 1 ≤ frame_count (unit_weight (heap_slot slot) n) f → IsHeapOut c slot n
-  heap_is_away maker slot n c f core fits some = heap_is_out maker slot n c core (omega (arith, fits.once (unit_weight (heap_slot slot) n)))
+  heap_is_away maker slot n c f core fits some = heap_is_out maker slot n c core (omega (arith, fits.once (of_units (unit_weight (heap_slot slot) n))))

@@ -7,7 +7,7 @@ pub mod BegunCalls
 pub mod Below
 pub mod Closings
 pub mod ComponentRows
-pub mod Components
+pub mod Weights
 pub mod CoreChanges
 pub mod Fitting
 pub mod FlushCalls

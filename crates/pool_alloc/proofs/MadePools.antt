@@ -1,6 +1,6 @@
 -- A pool as it is made is sound, and nothing of it is used.
 use Rattle.std.proofs.Common.{◌≡◌, ℕ, zero, suc, ◌+◌, ◌*◌, ◌^◌, ◌<◌, ◌≤◌, List, [], ◌∷◌, ◌++◌, length, refl, sym, ap, subst, ◌∙◌, arith, replicate, Option, None, map, ◌-◌}
-use Rattle.pool_alloc.proofs.Imports.{IsGivenBack, length-replicate, none_at_first, div_ceil, AllByRecursion, range_with_len, div_ceil_times, All-nil, SlotKind, memory_kind, table_kind, stack_kind, heap_kind, UnitName, count, rounded_up, IsPageSize, IsWithinLimits, MakerTold, slab_stripes, IsWithinRules, PoolingAllocationConfig, Tunables, Offered, rounded_within, rounded_leaves, rounded_is_whole, rounded_same, used_units, ShardState, MemoryInModule, all_away, all_kept, coloured_region, part_away, part_kept, part_at, AreMadeTo, IsCellMade, IsMadeAs, queue_made, shard_made, Role, shard_role, cell_role, queue_role, heaps_role, no_role, role_at, IsPlacedAllocator, places_planned, of_kind, empty_queue, divided, stripe_allocator, IsStripedPlanOf, PoolPart, PartSettings, Allocator, Plan, OfKinds, SlotName, StripedPlanSettings, each_both, made_shard_of, allocators_placed, planned}
+use Rattle.pool_alloc.proofs.Imports.{IsGivenBack, length-replicate, none_at_first, div_ceil, AllByRecursion, range_with_len, div_ceil_times, All-nil, SlotKind, memory_kind, table_kind, stack_kind, heap_kind, UnitName, count, rounded_up, IsPageSize, IsWithinLimits, MakerTold, slab_stripes, IsWithinRules, PoolingAllocationConfig, Tunables, Offered, rounded_within, rounded_leaves, rounded_is_whole, rounded_same, used_units, ShardState, MemoryInModule, all_away, all_kept, coloured_region, part_away, part_kept, part_at, AreMadeTo, IsCellMade, IsMadeAs, queue_made, shard_made, Role, shard_role, cell_role, queue_role, heaps_role, no_role, role_at, IsPlacedAllocator, places_planned, empty_queue, divided, stripe_allocator, IsStripedPlanOf, PoolPart, PartSettings, Allocator, Plan, OfKinds, StripedPlanSettings, each_both, made_shard_of, allocators_placed, planned}
 use Rattle.pool_slots.specs.declared.heap_list.HeapEntry.TheVariants as entry
 use Rattle.pool_slots.specs.declared.part.PoolPart.TheVariants as part
 use Rattle.pool_alloc.specs.Made.{settings_of, plan_settings, part_settings, IsMadeCore}
@@ -11,6 +11,8 @@ use Rattle.pool_alloc.specs.declared.pool_core.Settings.{Settings}
 use Rattle.pool_alloc.proofs.Striping.{few_stripes, some_stripes, some_times, within_slots}
 use Rattle.pool_alloc.proofs.StackRegions.{stack_region_made}
 use Rattle.pool_alloc.proofs.TableRegions.{table_region_made}
+use Rattle.pool_alloc.specs.Places.{counters_counted}
+use Rattle.pool_alloc.specs.declared.pool_core.Counters.{Counters}
 
 settings_sound : (page : ℕ) (config : PoolingAllocationConfig) (tunables : Tunables) (offered : Offered) → IsPageSize page → IsWithinLimits config → offered.keys ≤ 15 → config.limits.max_memory_size + page ≤ 2 ^ 64 → IsSettings (settings_of page config tunables offered)
 settings_sound page config tunables offered paged within keys small =
@@ -183,10 +185,5 @@ module _ {P H : Type 0} where
       record {
         none_away = none_of_all part_away all_away refl (λ x xs. refl) c.parts (λ p below. (nothing p below).0);
         none_kept = none_of_all part_kept all_kept refl (λ x xs. refl) c.parts (λ p below. (nothing p below).1);
-        instances = ap (λ n. n.core_instances) made.counters;
-        components = ap (λ n. n.component_instances) made.counters;
-        memories = ap (λ n. n.memories) made.counters;
-        tables = ap (λ n. n.tables) made.counters;
-        stacks = ap (λ n. n.stacks) made.counters;
-        heaps = ap (λ n. n.gc_heaps) made.counters;
+        counted = λ n. ap (λ (x : Counters). counters_counted n x) made.counters ∙ omega arith;
       }

@@ -7,6 +7,7 @@ use Rattle.pool_alloc.specs.Stepping.{Conserves, count_granted, grant_count}
 use Rattle.pool_alloc.specs.Turns.{After}
 use Rattle.pool_alloc.specs.declared.pool_core.PoolCore.{PoolCore}
 use Rattle.pool_alloc.specs.declared.frame.Frame.{Frame}
+use Rattle.pool_alloc.proofs.Weights.{conserves_units}
 
 module _ {P H : Type 0} where
   pub flows_on_part : (c : PoolCore P H) (f : Frame P H) (a : After P H) (place : ℕ) (x : PoolPart P H) → Conserves c f a → place < length c.parts → a.core.parts ≡ set c.parts place x → FlowsOnPart (part_at place c.parts) x f a
@@ -15,7 +16,7 @@ module _ {P H : Type 0} where
       record {
         places = λ t. omega (
           arith,
-          conserves.places t,
+          conserves_units c f a conserves t,
           ap (λ (xs : List (PoolPart P H)). total t (all_away xs)) is,
           ap (λ (xs : List (PoolPart P H)). total t (all_kept xs)) is,
           away_follows P H t place (λ y. x) c.parts (total t (part_away x)) (total t (part_away old)) below (omega arith),
@@ -24,4 +25,4 @@ module _ {P H : Type 0} where
       }
 
   pub flows_on_none : (c : PoolCore P H) (f : Frame P H) (a : After P H) (t : Thing) → Conserves c f a → a.core.parts ≡ c.parts → frame_count t a.frame + count_granted (grant_count t) a.outcome ≡ frame_count t f
-  flows_on_none c f a t conserves is = omega (arith, conserves.places t, ap (λ (xs : List (PoolPart P H)). total t (all_away xs)) is, ap (λ (xs : List (PoolPart P H)). total t (all_kept xs)) is)
+  flows_on_none c f a t conserves is = omega (arith, conserves_units c f a conserves t, ap (λ (xs : List (PoolPart P H)). total t (all_away xs)) is, ap (λ (xs : List (PoolPart P H)). total t (all_kept xs)) is)

@@ -1,15 +1,15 @@
 -- The steps of a purge, as they show.
-use Rattle.std.proofs.Common.{◌≡◌, ℕ, ◌+◌, ◌*◌, ◌-◌, ◌<◌, ◌≤◌, Bool, true, false, List, length, refl, sym, ap, subst, ◌∙◌, arith, Option, Some, None, inr, IfSome, nat_lt, if◌then◌else◌, option_map, ◌&&◌}
-use Rattle.pool_alloc.proofs.Imports.{told_weaker, of_kind, ltb-true, lt-ltb, and_parts, true≢false, MakerTold, Told, PageCall, remapping, Slot, IsClean, forgotten, called, without_image, without_mapped, ImageName, same_called, pick_unit, SlotKind, memory_kind, ShardState, affine_answer, after_affine_pick, after_free, slot_number, SlotId, Cell, is_taken, unmapped, unknown, previously_used, taken, cell_of, home_of, shard_role, CellState, cell_numbers, cell_emptied, cell_filled, ImageSlot, Unmapped, Unknown, PreviouslyUsed, Taken, Allocator, Plan, SlotName}
+use Rattle.std.proofs.Common.{◌≡◌, ℕ, ◌+◌, ◌*◌, ◌-◌, ◌<◌, ◌≤◌, Bool, true, false, length, refl, sym, ap, subst, ◌∙◌, arith, Option, Some, None, inr, IfSome, nat_lt}
+use Rattle.pool_alloc.proofs.Imports.{told_weaker, of_kind, ltb-true, lt-ltb, and_parts, true≢false, MakerTold, PageCall, remapping, Slot, IsClean, forgotten, called, without_mapped, ImageName, same_called, pick_unit, SlotKind, memory_kind, ShardState, affine_answer, after_affine_pick, after_free, slot_number, SlotId, Cell, is_taken, unmapped, unknown, previously_used, taken, cell_of, home_of, CellState, cell_emptied, cell_filled, ImageSlot, Unmapped, Unknown, PreviouslyUsed, Taken, Allocator, Plan, SlotName}
 use Rattle.pool_alloc.specs.PartyTold.{PartyTold}
-use Rattle.pool_alloc.specs.Answers.{Empties, Forgets, PurgeTold, RemovesImage}
+use Rattle.pool_alloc.specs.Answers.{Forgets, PurgeTold, RemovesImage}
 use Rattle.pool_alloc.specs.Bounds.{PoolSizes, sizes_of, memories_left, turns_left, purge_left}
 use Rattle.pool_alloc.specs.Leases.{memory_slot}
-use Rattle.pool_alloc.specs.Places.{Thing, region_of, right_to, slot_count, region_count, taken_count}
-use Rattle.pool_alloc.specs.Purges.{has_turns, purged_memory, purged_stripe, found_one, behind_memory, behind_turn, image_in, after_forgetting, known_after, purge_to, affine_picked, pick_affine_row, pick_affine_on, take_affine_on, put_affine_on, free_affine_on, purge_row}
-use Rattle.pool_alloc.specs.Sound.{IsCore, IsAtRest, IsPoolPlan, IsSlotName, IsPurging, IsPicking, MayHold, HasRegion, IsPoolSlot}
+use Rattle.pool_alloc.specs.Places.{Thing, slot_count, region_count}
+use Rattle.pool_alloc.specs.Purges.{has_turns, purged_memory, purged_stripe, behind_memory, behind_turn, image_in, after_forgetting, known_after, purge_to, affine_picked, pick_affine_row, take_affine_on, put_affine_on, free_affine_on, purge_row}
+use Rattle.pool_alloc.specs.Sound.{IsAtRest, IsSlotName, IsPurging, IsPicking, MayHold, HasRegion, IsPoolSlot}
 use Rattle.pool_alloc.specs.Steps.{StepGiven, shard_at, cell_named, with_shard, with_cell}
-use Rattle.pool_alloc.specs.Turns.{Turn, goes, ends, Row, lifted}
+use Rattle.pool_alloc.specs.Turns.{goes, Row, lifted}
 use Rattle.pool_alloc.specs.declared.frame.Frame.{Frame}
 use Rattle.pool_alloc.specs.declared.frame.Outcome.TheVariants as answer
 use Rattle.pool_alloc.specs.declared.frame.Phase.{Phase}
@@ -23,7 +23,7 @@ use Rattle.pool_alloc.specs.declared.purge.PurgeStep.TheVariants.{Pick, TakeRegi
 use Rattle.pool_alloc.proofs.AffinePicks.{affine_count, affine_sound, affine_same, affine_inside, affine_counts}
 use Rattle.pool_alloc.proofs.CoreChanges.{core_with_shard, core_with_cell}
 use Rattle.pool_alloc.proofs.Frees.{freed_one}
-use Rattle.pool_alloc.proofs.Hands.{Hand, counts_none, in_phase, held_of, one_more, Even, Kept, Ready, IsReadyRow, either_ready}
+use Rattle.pool_alloc.proofs.Hands.{Hand, in_phase, held_of, one_more, Even, Kept, Ready, IsReadyRow, either_ready}
 use Rattle.pool_alloc.proofs.Held.{unit_once}
 use Rattle.pool_alloc.proofs.KeptCounts.{kept_shard, away_shard, region_leaves, region_returns}
 use Rattle.pool_alloc.proofs.PhaseSlots.{phase_out, phase_home, phase_gone}
@@ -38,7 +38,7 @@ use Rattle.pool_alloc.proofs.Ways.{Can, kept_part}
 
 -- nothing in hand
 abbrev pub nothing_held : Hand
-nothing_held = record { things = λ t. 0; instances = 0; memories = 0; tables = 0; stacks = 0; heaps = 0 }
+nothing_held w = 0
 
 -- there are turns where there are slots and memories
 has_some : (per_module : ℕ) (plan : Plan) → 0 < plan.totals.memory → 0 < per_module → has_turns per_module plan ≡ true
@@ -104,7 +104,7 @@ module _ {P H : Type 0} (maker : MakerTold) (old new : PartyTold) where
   to_ready p q step place shard c f None left kept rest even has on few = record {
     kept = kept;
     shape = (rest, tt);
-    even = record { places = even.places; instances = even.instances; memories = even.memories; tables = even.tables; stacks = even.stacks; heaps = even.heaps };
+    even = λ w. omega (arith, even w);
     fewer = omega (arith, few);
     way = tt;
     searched = λ s. tt;
@@ -114,7 +114,7 @@ module _ {P H : Type 0} (maker : MakerTold) (old new : PartyTold) where
       record {
         kept = kept;
         shape = (refl, (rest, inr on.0));
-        even = record { places = even.places; instances = even.instances; memories = even.memories; tables = even.tables; stacks = even.stacks; heaps = even.heaps };
+        even = λ w. omega (arith, even w);
         fewer = omega (arith, few, on.1, number);
         way = tt;
         searched = λ s. tt;
@@ -122,7 +122,7 @@ module _ {P H : Type 0} (maker : MakerTold) (old new : PartyTold) where
 
   -- A slot is picked by affinity, or none is.
   affine_ready : (p : PurgeCursor) (tried place : ℕ) (next : ShardState) (o : Option SlotId) (shard : ShardState) (c : PoolCore P H) (f : Frame P H) → Can maker (Purge p (Pick tried)) c f → has_turns c.settings.max_memories_per_module c.plan ≡ true → IsPicking c.settings c.plan p tried → Kept maker old new c (in_phase (Purge p (Pick tried)) f) (with_shard place next c) (in_phase Idle f) →
-      IfSome o (λ k. IsSlotName c.plan (memory_slot (slot_number shard k.0))) → Even maker old new c (in_phase (Purge p (Pick tried)) f) (record nothing_held { things = λ t. found_count t shard o }) (with_shard place next c) (in_phase Idle f) → Ready maker old new c (in_phase (Purge p (Pick tried)) f) (with_shard place next c) (in_phase Idle f) (affine_picked c.settings.max_memories_per_module c.plan p o shard tried)
+      IfSome o (λ k. IsSlotName c.plan (memory_slot (slot_number shard k.0))) → Even maker old new c (in_phase (Purge p (Pick tried)) f) (λ w. found_count w.unit shard o) (with_shard place next c) (in_phase Idle f) → Ready maker old new c (in_phase (Purge p (Pick tried)) f) (with_shard place next c) (in_phase Idle f) (affine_picked c.settings.max_memories_per_module c.plan p o shard tried)
   affine_ready p tried place next (Some k) shard c f can has picking kept named even =
       let z : PoolSizes = sizes_of c.settings c.plan in
       let now : Left p (Pick tried) c ≡ picks_of z p tried = rw has refl in
@@ -133,7 +133,7 @@ module _ {P H : Type 0} (maker : MakerTold) (old new : PartyTold) where
       record {
         kept = kept;
         shape = (refl, (can.frame.shape.0, (record { stripe = at.stripe; memory = at.memory; turn = at.turn; some = at.some }, named, refl)));
-        even = record { places = λ t. omega (arith, even.places t); instances = even.instances; memories = even.memories; tables = even.tables; stacks = even.stacks; heaps = even.heaps };
+        even = λ w. omega (arith, even w);
         fewer = omega (arith, now, turn, most, picking.tried);
         way = tt;
         searched = λ s. tt;
@@ -145,14 +145,14 @@ module _ {P H : Type 0} (maker : MakerTold) (old new : PartyTold) where
       let d : PoolCore P H = with_shard place next c in
       let e : Frame P H = in_phase (Purge p (Pick tried)) f in
       let rest = can.frame.shape.0 in
-      let none : Even maker old new c e nothing_held d (in_phase Idle f) = record { places = λ t. omega (arith, even.places t); instances = even.instances; memories = even.memories; tables = even.tables; stacks = even.stacks; heaps = even.heaps } in
+      let none : Even maker old new c e nothing_held d (in_phase Idle f) = λ w. omega (arith, even w) in
       either_ready maker old new c e d (in_phase Idle f) (nat_lt (tried + 1) (purged_stripe c.plan p).shards) (goes (Purge p (Pick (tried + 1)))) (purge_to p (behind_memory c.settings.max_memories_per_module c.plan p))
       (λ more.
       let later : Left p (Pick (tried + 1)) c ≡ picks_of z p (tried + 1) = rw has refl in
       record {
         kept = kept;
         shape = (refl, (rest, inr (record { purging = picking.purging; tried = ltb-true _ _ more })));
-        even = record { places = none.places; instances = none.instances; memories = none.memories; tables = none.tables; stacks = none.stacks; heaps = none.heaps };
+        even = λ w. omega (arith, none w);
         fewer = omega (arith, now, later, most, picking.tried);
         way = tt;
         searched = λ s. tt;
@@ -176,14 +176,14 @@ module _ {P H : Type 0} (maker : MakerTold) (old new : PartyTold) where
       (kept_part maker old new c e (with_shard j next c) (in_phase Idle f) (core_with_shard maker j next c can.core place (affine_sound of shard sound) (affine_same of shard sound)) (held_of maker c.settings c.plan e can.frame) refl refl refl refl)
       (told_weaker (λ (k : SlotId). k.0 < shard.capacity) (λ (k : SlotId). IsSlotName c.plan (memory_slot (slot_number shard k.0))) (affine_answer of shard)
       (λ k within. record { cells = tt; inside = subst (λ (x : SlotKind). slot_number shard k.0 < of_kind x c.plan.totals) kind (slot_of_shard maker j k.0 c can.core place within).inside }) (affine_inside of shard sound))
-      (record { places = λ t. omega (arith, kept_shard t j next c (shard_part maker j c can.core place), away_shard t j next c (shard_part maker j c can.core place), affine_counts of shard sound t, found_as t shard (affine_answer of shard) kind); instances = omega (arith, counts_none f.asked); memories = omega arith; tables = omega arith; stacks = omega arith; heaps = omega arith })
+      (λ w. omega (arith, kept_shard w.unit j next c (shard_part maker j c can.core place), away_shard w.unit j next c (shard_part maker j c can.core place), affine_counts of shard sound w.unit, found_as w.unit shard (affine_answer of shard) kind))
   pick_affine_ready false p tried c f can none =
       let e : Frame P H = in_phase (Purge p (Pick tried)) f in
       let one : Left p (Pick tried) c ≡ 1 = rw none refl in
       record {
         kept = kept_part maker old new c e c (in_phase Idle f) can.core (held_of maker c.settings c.plan e can.frame) refl refl refl refl;
         shape = (can.frame.shape.0, tt);
-        even = record { places = λ t. omega arith; instances = omega (arith, counts_none f.asked); memories = omega arith; tables = omega arith; stacks = omega arith; heaps = omega arith };
+        even = λ w. omega arith;
         fewer = omega (arith, one);
         way = tt;
         searched = λ s. tt;
@@ -201,7 +201,7 @@ module _ {P H : Type 0} (maker : MakerTold) (old new : PartyTold) where
       record {
         kept = kept_part maker old new c e (with_cell name (cell_emptied cell) c) (in_phase Idle f) (core_with_cell maker name (cell_emptied cell) c can.core named (record { named = was.named; holds = emptied_holds maker c.settings name.kind name.slot named.cells })) (held_of maker c.settings c.plan e can.frame) refl refl refl refl;
         shape = (refl, (can.frame.shape.0, (can.frame.shape.1.0, held_in P maker c.settings c.plan name cell.holds named was.holds there, can.frame.shape.1.2)));
-        even = record { places = λ t. let leaves = region_leaves maker t name c can.core named there in omega (arith, leaves.0, leaves.1); instances = omega (arith, counts_none f.asked); memories = omega arith; tables = omega arith; stacks = omega arith; heaps = omega arith };
+        even = λ w. let leaves = region_leaves maker w.unit name c can.core named there in omega (arith, leaves.0, leaves.1);
         fewer = omega arith;
         way = tt;
         searched = λ s. tt;
@@ -214,7 +214,7 @@ module _ {P H : Type 0} (maker : MakerTold) (old new : PartyTold) where
       record {
         kept = kept_part maker old new c e c (in_phase Idle f) can.core (held_of maker c.settings c.plan e can.frame) refl refl refl refl;
         shape = (refl, (can.frame.shape.0, (can.frame.shape.1.0, forgotten_held P maker c.settings c.plan g.fault at.name held g.slot can.frame.shape.1.2 can.frame.shape.1.1 told, can.frame.shape.1.2)));
-        even = record { places = λ t. omega arith; instances = omega (arith, counts_none f.asked); memories = omega arith; tables = omega arith; stacks = omega arith; heaps = omega arith };
+        even = λ w. omega arith;
         fewer = omega arith;
         way = tt;
         searched = λ s. tt;
@@ -231,7 +231,7 @@ module _ {P H : Type 0} (maker : MakerTold) (old new : PartyTold) where
       record {
         kept = kept_part maker old new c e (with_cell at.name cell c) (in_phase Idle f) (core_with_cell maker at.name cell c can.core region.named (record { named = (sound_cell maker at.name c can.core region.named).named; holds = region.holds })) (held_of maker c.settings c.plan e can.frame) refl refl refl refl;
         shape = (refl, (can.frame.shape.0, (can.frame.shape.1.0, region.named)));
-        even = record { places = λ t. let back = region_returns maker t at.name (cell_of held) c can.core region.named gone.away region.there in omega (arith, back.0, back.1, ap (region_count t at.name) gone.out); instances = omega (arith, counts_none f.asked); memories = omega arith; tables = omega arith; stacks = omega arith; heaps = omega arith };
+        even = λ w. let back = region_returns maker w.unit at.name (cell_of held) c can.core region.named gone.away region.there in omega (arith, back.0, back.1, ap (region_count w.unit at.name) gone.out);
         fewer = omega arith;
         way = tt;
         searched = λ s. tt;
@@ -255,7 +255,7 @@ module _ {P H : Type 0} (maker : MakerTold) (old new : PartyTold) where
       to_ready p p (Free name) j freed c f (behind_turn c.settings.max_memories_per_module c.plan p) (turns_left (sizes_of c.settings c.plan) p)
       (kept_part maker old new c e (with_shard j freed c) (in_phase Idle f) (core_with_shard maker j freed c can.core there next_shard.sound next_shard.same) (held_of maker c.settings c.plan e can.frame) refl refl refl refl)
       can.frame.shape.0
-      (record { places = λ t. omega (arith, kept_shard t j freed c (shard_part maker j c can.core there), away_shard t j freed c (shard_part maker j c can.core there), freed_one t c.plan shard name 0 place used); instances = omega (arith, counts_none f.asked); memories = omega arith; tables = omega arith; stacks = omega arith; heaps = omega arith })
+      (λ w. omega (arith, kept_shard w.unit j freed c (shard_part maker j c can.core there), away_shard w.unit j freed c (shard_part maker j c can.core there), freed_one w.unit c.plan shard name 0 place used))
       turns (turn_goes c.settings c.plan (length c.parts) can.core.plan at.some p at) (omega arith)
 
   pub purge_ready : (g : StepGiven H) (p : PurgeCursor) (step : PurgeStep P) (c : PoolCore P H) (f : Frame P H) → Can maker (Purge p step) c f → PurgeTold g step → Shows p step c f (purge_row g p step c (in_phase Idle f))

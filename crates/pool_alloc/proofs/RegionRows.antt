@@ -1,6 +1,6 @@
 -- The rows of a request that has a slot.
-use Rattle.std.proofs.Common.{◌≡◌, ℕ, ◌+◌, ◌<◌, ◌≤◌, Bool, true, false, List, [], ◌∷◌, ◌++◌, length, refl, sym, ap, subst, inl, inr, arith, Option, Some, None, Result, Ok, Err, ◌∙◌, ◌⊎◌, ◌^◌, nat_le, nat_lt, if◌then◌else◌, IfSome, IsSome, IfOk, slice_get, slice_index_or, is_some}
-use Rattle.pool_alloc.proofs.Imports.{told_both, told_weaker, TableType, cases_Bool, ltb-true, ltb-false, kind_number, Plan, length_push, nil_from_length, All-push, count, Told, minimum_byte_size, allow_growth_to, MemoryDecl, Image, Slot, forgotten, hides, IsClean, IsLeft, ShardState, after_free, InitialSize, AddressSpace, MemoryMinimum, LimiterError, MemoryState, slot_of, static_capacity, maximum_asked, Cell, unmapped, unknown, previously_used, taken, is_taken, CellState, cell_numbers, cell_emptied, cell_filled, AllocError, least_most, MakerTold, SlotName, SlotKind, ImageSlot, home_of, cell_of, memory_kind, table_kind, stack_kind, heap_kind, of_kind}
+use Rattle.std.proofs.Common.{◌≡◌, ℕ, ◌+◌, ◌<◌, ◌≤◌, Bool, true, false, List, [], ◌∷◌, ◌++◌, length, refl, sym, ap, subst, inl, inr, arith, Option, Some, None, Result, Ok, Err, ◌∙◌, ◌⊎◌, ◌^◌, nat_le, nat_lt, if◌then◌else◌, IfSome, IsSome, IfOk, slice_get, slice_index_or, is_some, ◌*◌}
+use Rattle.pool_alloc.proofs.Imports.{told_both, told_weaker, TableType, ltb-true, ltb-false, kind_number, Plan, length_push, nil_from_length, All-push, Told, minimum_byte_size, allow_growth_to, MemoryDecl, Image, Slot, forgotten, hides, IsClean, IsLeft, ShardState, after_free, InitialSize, AddressSpace, MemoryMinimum, LimiterError, MemoryState, slot_of, static_capacity, maximum_asked, Cell, unmapped, unknown, previously_used, taken, is_taken, CellState, cell_numbers, cell_emptied, cell_filled, AllocError, least_most, MakerTold, SlotName, SlotKind, ImageSlot, home_of, cell_of, memory_kind, table_kind, stack_kind, heap_kind, of_kind}
 use Rattle.pool_alloc.specs.declared.pool_core.Counters.{Counters}
 use Rattle.pool_alloc.specs.PoolStacks.{stack_made}
 use Rattle.pool_alloc.specs.StackLeases.{stack_taken}
@@ -28,16 +28,16 @@ use Rattle.pool_alloc.specs.declared.frame.Phase.TheVariants.{Idle, TakeRegion, 
 use Rattle.pool_alloc.specs.Bounds.{sizes_of, objects_left, steps_at, steps_left}
 use Rattle.pool_alloc.specs.Leases.{IsUsable, memory_slot}
 use Rattle.pool_alloc.specs.Own.{made_of, made_of_limits, made_for, memory_made, image_made}
-use Rattle.pool_alloc.specs.Places.{Thing, right_to, both_count, phase_count, phase_instances, phase_memories, region_count, taken_count, phase_tables, phase_stacks, phase_heaps, instances_for}
+use Rattle.pool_alloc.specs.Places.{Thing, right_to, both_count, phase_count, phase_instances, region_count, taken_count, instances_for, Counts, counted_instance, counted_object, phase_counted}
 use Rattle.pool_alloc.specs.Rows.{in_cell, in_shard, region_next, take_region_on, paged, empty_row, instantiate_row, was_made, make_memory_row, count_object_row, put_back_on, free_one_on, unmapped_next, was_made_table, make_table_row}
 use Rattle.pool_alloc.specs.Searches.{AreEmpty, IsSearchedBy, IsSearchedAt, IsSearched}
 use Rattle.pool_alloc.specs.Sound.{IsCore, IsLeaseOf, IsToGrant, IsAllocating, HasNoneWaiting, IsShapedAt, IsSupported, HasSlot, HasBegun, IsMadeOf, IsNew, IsPoolSlot, MayHold, HasRegion, HasCells, IsSlotName, IsTableSupported, HasTable, IsMemoryNext, IsTableNext, IsStackNext, IsEnabled, AreLeasesOf, IsHeapNext}
 use Rattle.pool_alloc.specs.Stages.{Stage, refusing, stage_by, stage_at, Goes, stage_of}
-use Rattle.pool_alloc.specs.Stepping.{is_idle}
+use Rattle.pool_alloc.specs.Stepping.{is_idle, RiseByOne}
 use Rattle.pool_alloc.specs.Steps.{memories_wanted, images_wanted, image_wanted, shard_at, with_shard, with_cell, memory_slots, cell_named, tables_wanted, stacks_wanted, heaps_wanted, IsForInstance, kind_next, kind_by, kind_last}
 use Rattle.pool_alloc.specs.Turns.{Row, gone_to, next}
 use Rattle.pool_alloc.proofs.CoreChanges.{core_with_shard, core_with_cell, core_with_counters}
-use Rattle.pool_alloc.proofs.Hands.{returns_less, none_for_stack, in_phase, held_of, Even, Kept, Ready, IsReadyRow, hand}
+use Rattle.pool_alloc.proofs.Hands.{returns_less, none_for_stack, in_phase, held_of, Even, Kept, Ready, IsReadyRow, hand, only_one, one_more}
 use Rattle.pool_alloc.proofs.PoolParts.{place_of, sound_shard, sound_cell, shard_part}
 use Rattle.pool_alloc.proofs.KeptCounts.{kept_shard, away_shard, region_leaves, region_returns}
 use Rattle.pool_alloc.proofs.QueueCounts.{leased_last, tables_last}
@@ -253,8 +253,8 @@ module _ {P H : Type 0} (maker : MakerTold) (old new : PartyTold) where
       let was = sound_cell maker name c can.core named in
       kept_part maker old new c (in_phase (TakeRegion name) f) (emptied name c) (in_phase Idle f) (core_with_cell maker name (cell_emptied (cell_named name c)) c can.core named (record { named = was.named; holds = emptied_holds maker c.settings name.kind name.slot named.cells })) (held_of maker c.settings c.plan (in_phase (TakeRegion name) f) can.frame) refl refl refl refl
 
-  taken_even : (at : TakenSlot) (c : PoolCore P H) (f : Frame P H) → Can maker (TakeRegion at.name) c f → at.numbers ≡ cell_numbers (cell_named at.name c) → Even maker old new c (in_phase (TakeRegion at.name) f) (record { things = λ t. taken_count t at; instances = 1; memories = 0; tables = 0; stacks = 0; heaps = 0 }) (emptied at.name c) (in_phase Idle f)
-  taken_even at c f can its = record { places = λ t. let leaves = region_leaves maker t at.name c can.core can.frame.shape.2 (picked_is_home maker at.name c f can.frame.shape.2.cells can.core can.fits) in omega (arith, leaves.0, leaves.1, ap (region_count t at.name) its); instances = omega arith; memories = omega arith; tables = omega arith; stacks = omega arith; heaps = omega arith }
+  taken_even : (at : TakenSlot) (c : PoolCore P H) (f : Frame P H) → Can maker (TakeRegion at.name) c f → at.numbers ≡ cell_numbers (cell_named at.name c) → Even maker old new c (in_phase (TakeRegion at.name) f) (λ w. taken_count w.unit at + instances_for f.asked * w.counts counted_instance) (emptied at.name c) (in_phase Idle f)
+  taken_even at c f can its = λ w. let leaves = region_leaves maker w.unit at.name c can.core can.frame.shape.2 (picked_is_home maker at.name c f can.frame.shape.2.cells can.core can.fits) in omega (arith, leaves.0, leaves.1, ap (region_count w.unit at.name) its)
 
   -- It is that of a slot of this kind.
   record HasLeft (kind : SlotKind) (at : TakenSlot) (c : PoolCore P H) (f : Frame P H) : Type 0 where
@@ -274,7 +274,7 @@ module _ {P H : Type 0} (maker : MakerTold) (old new : PartyTold) where
       let made : T memory_kind = record {
         kept = taken_kept at.name c f can;
         shape = (refl, (can.frame.shape.0, can.frame.shape.1, has_left at (image_made s at.name.slot region) c f left (slot_made maker s at.name.slot region can.core.page holds), clean_made maker s at.name.slot region can.core.page can.core.settings holds, memory_next f left.next));
-        even = taken_even at c f can left.numbers;
+        even = λ w. omega (arith, taken_even at c f can left.numbers w);
         fewer = omega arith;
         way = same_way maker old new c (in_phase (TakeRegion at.name) f) f.asked f.ending (objects_in f.objects);
         searched = λ s. tt;
@@ -285,7 +285,7 @@ module _ {P H : Type 0} (maker : MakerTold) (old new : PartyTold) where
       record {
         kept = taken_kept at.name c f can;
         shape = (refl, (can.frame.shape.0, can.frame.shape.1, has_left at had c f left holds, memory_next f left.next));
-        even = taken_even at c f can left.numbers;
+        even = λ w. omega (arith, taken_even at c f can left.numbers w);
         fewer = omega arith;
         way = same_way maker old new c (in_phase (TakeRegion at.name) f) f.asked f.ending (objects_in f.objects);
         searched = λ s. tt;
@@ -295,7 +295,7 @@ module _ {P H : Type 0} (maker : MakerTold) (old new : PartyTold) where
       record {
         kept = taken_kept at.name c f can;
         shape = (refl, (can.frame.shape.0, can.frame.shape.1, has_left at had c f left holds.0, holds.1, memory_next f left.next));
-        even = taken_even at c f can left.numbers;
+        even = λ w. omega (arith, taken_even at c f can left.numbers w);
         fewer = omega arith;
         way = same_way maker old new c (in_phase (TakeRegion at.name) f) f.asked f.ending (objects_in f.objects);
         searched = λ s. tt;
@@ -310,7 +310,7 @@ module _ {P H : Type 0} (maker : MakerTold) (old new : PartyTold) where
       let made : T table_kind = record {
         kept = taken_kept at.name c f can;
         shape = (refl, (can.frame.shape.0, can.frame.shape.1, record { kind = left.kind_is; inside = inside; region = holds }, table_next f left.next));
-        even = taken_even at c f can left.numbers;
+        even = λ w. omega (arith, taken_even at c f can left.numbers w);
         fewer = omega arith;
         way = same_way maker old new c (in_phase (TakeRegion at.name) f) f.asked f.ending (objects_in f.objects);
         searched = λ s. tt;
@@ -330,7 +330,7 @@ module _ {P H : Type 0} (maker : MakerTold) (old new : PartyTold) where
       let made : T stack_kind = record {
         kept = taken_kept at.name c f can;
         shape = (refl, (can.frame.shape.0, can.frame.shape.1, lease_made maker c.settings c.plan at region inside holds, stack_begins maker c.settings at region holds, stack_next f left.next));
-        even = record { places = λ t. omega (arith, even.places t, ap (taken_count t) taken); instances = even.instances; memories = even.memories; tables = even.tables; stacks = even.stacks; heaps = even.heaps };
+        even = λ w. omega (arith, even w, ap (taken_count w.unit) taken);
         fewer = omega arith;
         way = sought_way maker old new c (in_phase (TakeRegion at.name) f) f.asked f.ending (objects_in f.objects) (stack_next f left.next);
         searched = λ s. tt;
@@ -366,7 +366,7 @@ module _ {P H : Type 0} (maker : MakerTold) (old new : PartyTold) where
       ((t : Thing) → phase_count t p ≡ taken_count t at) →
       ((t : Thing) → phase_count t phase ≡ taken_count t at) →
       (phase_instances p ≡ 1) × (phase_instances phase ≡ 1) →
-      (phase_memories p ≡ 0) × (phase_memories phase ≡ 0) × (phase_tables p ≡ 0) × (phase_tables phase ≡ 0) × (phase_stacks p ≡ 0) × (phase_stacks phase ≡ 0) × (phase_heaps p ≡ 0) × (phase_heaps phase ≡ 0) →
+      ((n : Counts) → (phase_counted n p ≡ 0) × (phase_counted n phase ≡ 0)) →
       (stage_at p f.asked f.ending (objects_in f.objects) ≡ stage_by f.asked f.ending (objects_in f.objects)) × (stage_at phase f.asked f.ending (objects_in f.objects) ≡ stage_by f.asked f.ending (objects_in f.objects)) →
       (fault ≡ true → IsLeft had held) →
       (fault ≡ false → (is_idle phase ≡ false) × IsShapedAt maker c.settings c.plan phase (gone_to phase f)) →
@@ -376,7 +376,7 @@ module _ {P H : Type 0} (maker : MakerTold) (old new : PartyTold) where
   paged_ready p phase true at had held c f can settled allocating more has one here there counted none stages left shape steps searched = record {
     kept = kept_part maker old new c (in_phase p f) c _ can.core (held_of maker c.settings c.plan (in_phase p f) can.frame) refl refl refl refl;
     shape = (refl, (settled, refl, goes_back maker c.settings c.plan at.name (forgotten held) (has_of_one maker c.settings c.plan at.name had (forgotten held) one has)));
-    even = record { places = λ t. omega (arith, here t); instances = omega (arith, ap (instances_for f.asked) counted.0); memories = omega (arith, none.0); tables = omega (arith, none.2); stacks = omega (arith, none.4); heaps = omega (arith, none.6) };
+    even = λ w. omega (arith, here w.unit, (none w.counts).0, ap (λ (n : ℕ). n * instances_for f.asked * w.counts counted_instance) counted.0);
     fewer = omega (arith, steps.1, returns_less f.asked (sizes_of c.settings c.plan) f.objects (no_stack f more));
     way = subst (λ (x : Stage). Goes maker old new c (in_phase p f) x (refusing refusal.PageFault) None) (sym stages.0)
         (memory_fails_way maker old new c (in_phase p f) f.asked f.ending (objects_in f.objects) refusal.PageFault allocating.ending (no_stack f more) (inl (record {
@@ -396,7 +396,7 @@ module _ {P H : Type 0} (maker : MakerTold) (old new : PartyTold) where
   paged_ready p phase false at had held c f can settled allocating more has one here there counted none stages left shape steps searched = record {
     kept = kept_part maker old new c (in_phase p f) c _ can.core (held_of maker c.settings c.plan (in_phase p f) can.frame) refl refl refl refl;
     shape = shape refl;
-    even = record { places = λ t. omega (arith, here t, there t); instances = omega (arith, ap (instances_for f.asked) counted.0, ap (instances_for f.asked) counted.1); memories = omega (arith, none.0, none.1); tables = omega (arith, none.2, none.3); stacks = omega (arith, none.4, none.5); heaps = omega (arith, none.6, none.7) };
+    even = λ w. omega (arith, here w.unit, there w.unit, (none w.counts).0, (none w.counts).1, ap (λ (n : ℕ). n * instances_for f.asked * w.counts counted_instance) counted.0, ap (λ (n : ℕ). n * instances_for f.asked * w.counts counted_instance) counted.1);
     fewer = steps.0;
     way = subst (λ (x : Stage). Goes maker old new c (in_phase p f) x (stage_at phase f.asked f.ending (objects_in f.objects)) None) (sym stages.0)
         (subst (λ (x : Stage). Goes maker old new c (in_phase p f) (stage_by f.asked f.ending (objects_in f.objects)) x None) (sym stages.1) (same_way maker old new c (in_phase p f) f.asked f.ending (objects_in f.objects)));
@@ -408,7 +408,7 @@ module _ {P H : Type 0} (maker : MakerTold) (old new : PartyTold) where
   empty_ready fault held at had c f can told =
       let one = one_emptied fault had held told in
       paged_ready (Empty at had) (Instantiate at held) fault at had held c f can can.frame.shape.0 can.frame.shape.1 can.frame.shape.3 can.frame.shape.2 one
-      (λ t. refl) (λ t. refl) (refl, refl) (refl, refl, refl, refl, refl, refl, refl, refl) (refl, refl)
+      (λ t. refl) (λ t. refl) (refl, refl) (λ n. (refl, refl)) (refl, refl)
       (left_emptied fault had held told)
       (λ done. (refl, (can.frame.shape.0, can.frame.shape.1, has_of_one maker c.settings c.plan at.name had held one can.frame.shape.2, clean_emptied fault had held told done, can.frame.shape.3)))
       (omega arith, omega arith) (λ s. tt)
@@ -424,7 +424,7 @@ module _ {P H : Type 0} (maker : MakerTold) (old new : PartyTold) where
   instantiate_ready fault held at had c f can told =
       let one = one_told c.settings fault held had (in_phase (Instantiate at had) f) can.frame.shape.4 told in
       paged_ready (Instantiate at had) (MakeMemory at held) fault at had held c f can can.frame.shape.0 can.frame.shape.1 can.frame.shape.4 can.frame.shape.2 one
-      (λ t. refl) (λ t. refl) (refl, refl) (refl, refl, refl, refl, refl, refl, refl, refl) (refl, refl)
+      (λ t. refl) (λ t. refl) (refl, refl) (λ n. (refl, refl)) (refl, refl)
       (left_told c.settings fault had held f can.frame.shape.4 told)
       (λ done. (
         refl,
@@ -449,7 +449,7 @@ module _ {P H : Type 0} (maker : MakerTold) (old new : PartyTold) where
       record {
         kept = kept_part maker old new c e c _ can.core (held_of maker c.settings c.plan e can.frame) refl refl refl refl;
         shape = (refl, (can.frame.shape.0, can.frame.shape.1, record { inside = has.inside; slot = has.region; memory = memory_of c.settings c.plan e memory can.frame.shape.1 can.frame.shape.4 begins }, begins, can.frame.shape.4));
-        even = record { places = λ t. omega (arith, ap (λ (n : SlotName). both_count t n at.numbers) (name_of at.name has.kind)); instances = omega arith; memories = omega arith; tables = omega arith; stacks = omega arith; heaps = omega arith };
+        even = λ w. omega (arith, ap (λ (n : SlotName). both_count w.unit n at.numbers) (name_of at.name has.kind));
         fewer = omega arith;
         way = memory_made_way maker old new c e f.asked f.ending (objects_in f.objects) memory can.frame.shape.1.ending (no_stack f can.frame.shape.4) (record { number = refl; allocating = can.frame.shape.1; next = can.frame.shape.4; given = given; held = had; asked = asked; is = is });
         searched = λ s. tt;
@@ -459,7 +459,7 @@ module _ {P H : Type 0} (maker : MakerTold) (old new : PartyTold) where
       record {
         kept = kept_part maker old new c e c _ can.core (held_of maker c.settings c.plan e can.frame) refl refl refl refl;
         shape = (refl, (can.frame.shape.0, refl, goes_back maker c.settings c.plan at.name (forgotten had) (has_of_one maker c.settings c.plan at.name had (forgotten had) refl can.frame.shape.2)));
-        even = record { places = λ t. omega arith; instances = omega arith; memories = omega arith; tables = omega arith; stacks = omega arith; heaps = omega arith };
+        even = λ w. omega arith;
         fewer = omega (arith, returns_less f.asked (sizes_of c.settings c.plan) f.objects (no_stack f can.frame.shape.4));
         way = memory_fails_way maker old new c e f.asked f.ending (objects_in f.objects) x can.frame.shape.1.ending (no_stack f can.frame.shape.4) (inr (record { number = refl; allocating = can.frame.shape.1; next = can.frame.shape.4; given = given; held = had; asked = asked; is = is }));
         searched = λ s. tt;
@@ -495,7 +495,7 @@ module _ {P H : Type 0} (maker : MakerTold) (old new : PartyTold) where
       record {
         kept = kept_part maker old new c e c _ can.core (held_of maker c.settings c.plan e can.frame) refl refl refl refl;
         shape = (refl, (can.frame.shape.0, allocating, leased, told_weaker B (IsBegunTable c.settings lease) (slice_get (tables_wanted f.asked) k) (λ ty b. b.0.1) begun, can.frame.shape.3));
-        even = record { places = λ t. omega (arith, ap (taken_count t) (slot ∙ named)); instances = omega arith; memories = omega arith; tables = omega arith; stacks = omega arith; heaps = omega arith };
+        even = λ w. omega (arith, ap (taken_count w.unit) (slot ∙ named));
         fewer = omega arith;
         way = made_way maker old new c e f.asked f.ending (objects_in f.objects) allocating.ending can.frame.shape.3.1 (inr (refl, inr (lease, record { number = refl; allocating = allocating; next = can.frame.shape.3; given = given; at = at; region = region; asked = asked; is = is })));
         searched = λ s. tt;
@@ -505,7 +505,7 @@ module _ {P H : Type 0} (maker : MakerTold) (old new : PartyTold) where
       record {
         kept = kept_part maker old new c e c _ can.core (held_of maker c.settings c.plan e can.frame) refl refl refl refl;
         shape = (refl, (can.frame.shape.0, refl, table_goes_back at region c can.frame.shape.2));
-        even = record { places = λ t. omega arith; instances = omega arith; memories = omega arith; tables = omega arith; stacks = omega arith; heaps = omega arith };
+        even = λ w. omega arith;
         fewer = omega (arith, returns_less f.asked (sizes_of c.settings c.plan) f.objects can.frame.shape.3.1.no_stack);
         way = admitted_way maker old new c e f.asked f.ending (objects_in f.objects) x can.frame.shape.1.ending can.frame.shape.3.1 (inr (inr (inr (record { number = refl; allocating = can.frame.shape.1; next = can.frame.shape.3; given = given; at = at; region = region; asked = asked; is = is }))));
         searched = λ s. tt;
@@ -527,9 +527,9 @@ module _ {P H : Type 0} (maker : MakerTold) (old new : PartyTold) where
       AreLeasesOf maker c.settings c.plan objects →
       IsToGrant c.settings c.plan f.asked 0 objects →
       objects_in objects ≡ objects_in f.objects + 1 →
-      Even maker old new c e (hand {P = P} {H = H} next) d has →
+      Even maker old new c e (hand {P = P} {H = H} f.asked next) d has →
       1 + objects_left (sizes_of c.settings c.plan) f.asked f.objects ≤ steps_left c e →
-      (counters.core_instances ≤ c.counters.core_instances + 1) × (counters.memories ≤ c.counters.memories + 1) × (counters.tables ≤ c.counters.tables + 1) × (counters.stacks ≤ c.counters.stacks + 1) × (counters.gc_heaps ≤ c.counters.gc_heaps + 1) →
+      RiseByOne c.counters counters →
       stacks_wanted f.asked ≡ 0 →
       stage_of e ≡ stage_by f.asked f.ending (objects_in f.objects + 1) →
       Ready maker old new c e d has next)
@@ -545,11 +545,7 @@ module _ {P H : Type 0} (maker : MakerTold) (old new : PartyTold) where
           asked = refl;
           settings = refl;
           plan = refl;
-          instances_by_one = by_one.0;
-          memories_by_one = by_one.1;
-          tables_by_one = by_one.2;
-          stacks_by_one = by_one.3;
-          heaps_by_one = by_one.4;
+          by_one = by_one;
         };
         shape = (settled, aims_grant c.settings c.plan f.ending f.asked 0 objects allocating.ending to_grant);
         even = even;
@@ -580,7 +576,7 @@ module _ {P H : Type 0} (maker : MakerTold) (old new : PartyTold) where
         begun = (push_at (λ k l. IfSome (slice_get (memories_wanted f.asked) k) (IsNew c.settings.max_memory_size (slice_index_or (images_wanted f.asked) k None) l.memory)) f.objects.memories.items lease was.begun.0 can.frame.shape.3, was.begun.1);
         taken = omega arith;
       })
-      (omega (arith, long)) (record { places = λ t. omega (arith, leased_last t f.objects.memories.items lease); instances = omega arith; memories = omega (arith, long); tables = omega arith; stacks = omega arith; heaps = omega arith }) (omega arith) (omega arith, omega arith, omega arith, omega arith, omega arith) (no_stack f can.frame.shape.4) refl
+      (omega (arith, long)) (λ w. omega (arith, leased_last w.unit f.objects.memories.items lease, one_more (length objects.memories.items) (length f.objects.memories.items) (w.counts (counted_object memory_kind)) long)) (omega arith) (λ k. omega (arith, only_one k (counted_object memory_kind))) (no_stack f can.frame.shape.4) refl
   count_object_ready (Table lease) c f can =
       let allocating = can.frame.shape.1 in
       let was = allocating.to_grant in
@@ -601,7 +597,7 @@ module _ {P H : Type 0} (maker : MakerTold) (old new : PartyTold) where
         begun = (was.begun.0, push_at (λ k l. IfSome (slice_get (tables_wanted f.asked) k) (IsBegunTable c.settings l)) f.objects.tables.items lease was.begun.1 can.frame.shape.3);
         taken = omega arith;
       })
-      (omega (arith, long)) (record { places = λ t. omega (arith, tables_last t f.objects.tables.items lease); instances = omega arith; memories = omega arith; tables = omega (arith, long); stacks = omega arith; heaps = omega arith }) (omega arith) (omega arith, omega arith, omega arith, omega arith, omega arith) can.frame.shape.4.1.no_stack refl
+      (omega (arith, long)) (λ w. omega (arith, tables_last w.unit f.objects.tables.items lease, one_more (length objects.tables.items) (length f.objects.tables.items) (w.counts (counted_object table_kind)) long)) (omega arith) (λ k. omega (arith, only_one k (counted_object table_kind))) can.frame.shape.4.1.no_stack refl
   count_object_ready (Stack lease) c f can =
       let e : Frame P H = in_phase (CountObject (Stack lease)) f in
       let allocating = can.frame.shape.1 in
@@ -618,14 +614,10 @@ module _ {P H : Type 0} (maker : MakerTold) (old new : PartyTold) where
           asked = refl;
           settings = refl;
           plan = refl;
-          instances_by_one = omega arith;
-          memories_by_one = omega arith;
-          tables_by_one = omega arith;
-          stacks_by_one = omega arith;
-          heaps_by_one = omega arith;
+          by_one = λ k. omega (arith, only_one k (counted_object stack_kind));
         };
         shape = (record { settled = can.frame.shape.0; no_memories = no_memories; no_tables = no_tables }, (can.frame.shape.2, can.frame.shape.3, stack));
-        even = record { places = λ t. omega arith; instances = omega (arith, ap (λ (a : Asked). instances_for a 1) stack, ap (λ (a : Asked). instances_for a 0) stack); memories = omega arith; tables = omega arith; stacks = omega arith; heaps = omega arith };
+        even = λ w. omega (arith, ap (λ (a : Asked). instances_for a * w.counts counted_instance) stack);
         fewer = omega arith;
         way = granted_stack_way maker old new c e f.asked f.ending (objects_in f.objects) lease stack allocating.ending enabled;
         searched = λ s. tt;
@@ -641,7 +633,7 @@ module _ {P H : Type 0} (maker : MakerTold) (old new : PartyTold) where
       record {
         kept = kept_part maker old new c e (with_cell at.name cell c) (in_phase Idle f) (core_with_cell maker at.name cell c can.core region.named (record { named = (sound_cell maker at.name c can.core region.named).named; holds = region.holds })) (held_of maker c.settings c.plan e can.frame) refl refl refl refl;
         shape = (refl, (can.frame.shape.0, can.frame.shape.1, region.named.inside));
-        even = record { places = λ t. let back = region_returns maker t at.name (cell_of held) c can.core region.named gone.away region.there in omega (arith, back.0, back.1, ap (region_count t at.name) gone.out); instances = omega arith; memories = omega arith; tables = omega arith; stacks = omega arith; heaps = omega arith };
+        even = λ w. let back = region_returns maker w.unit at.name (cell_of held) c can.core region.named gone.away region.there in omega (arith, back.0, back.1, ap (region_count w.unit at.name) gone.out);
         fewer = omega arith;
         way = same_way maker old new c e f.asked f.ending (objects_in f.objects);
         searched = λ s. tt;
@@ -662,7 +654,7 @@ module _ {P H : Type 0} (maker : MakerTold) (old new : PartyTold) where
       record {
         kept = kept_part maker old new c e (with_shard j freed c) (in_phase Idle f) (core_with_shard maker j freed c can.core there next_shard.sound next_shard.same) (held_of maker c.settings c.plan e can.frame) refl refl refl refl;
         shape = (can.frame.shape.0, aims_back c.settings c.plan f.ending f.asked f.queues f.objects can.frame.shape.1);
-        even = record { places = λ t. omega (arith, kept_shard t j freed c (shard_part maker j c can.core there), away_shard t j freed c (shard_part maker j c can.core there), freed_one t c.plan shard name 0 place used); instances = omega arith; memories = omega arith; tables = omega arith; stacks = omega arith; heaps = omega arith };
+        even = λ w. omega (arith, kept_shard w.unit j freed c (shard_part maker j c can.core there), away_shard w.unit j freed c (shard_part maker j c can.core there), freed_one w.unit c.plan shard name 0 place used);
         fewer = omega (arith, next_returns (sizes_of c.settings c.plan) f.ending f.queues f.asked f.objects can.frame.shape.1);
         way = same_way maker old new c e f.asked f.ending (objects_in f.objects);
         searched = λ s. searched_back f.ending _ can.frame.shape.1;

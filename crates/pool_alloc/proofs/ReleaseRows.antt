@@ -1,16 +1,16 @@
 -- The steps of a release, as they show.
-use Rattle.std.proofs.Common.{◌≡◌, ℕ, ◌+◌, ◌*◌, ◌-◌, ◌<◌, ◌≤◌, ◌^◌, Bool, true, false, List, [], ◌∷◌, ◌++◌, length, refl, sym, ap, subst, ◌∙◌, arith, All, get_or, Option, Some, None, nat_lt, if◌then◌else◌, drop, remove, sum_by, ◌||◌}
-use Rattle.pool_alloc.proofs.Imports.{ltb-true, true≢false, length-append, sum_by-append, sum_by-remove, All-nil, All-append, All-head, All-tail, All-same, All-get_or, MakerTold, decommitting, Slot, IsClean, same_called, same_faulted, SlotKind, memory_kind, ShardState, after_take_warm, after_free, taken_slots, SlotId, Cell, is_taken, unknown, previously_used, cell_of, home_of, CellState, cell_numbers, cell_emptied, cell_filled, ImageSlot, Unmapped, Unknown, PreviouslyUsed, Taken, Allocator, Plan, SlotName}
+use Rattle.std.proofs.Common.{◌≡◌, ℕ, ◌+◌, ◌*◌, ◌-◌, ◌<◌, ◌≤◌, Bool, true, false, List, [], ◌∷◌, ◌++◌, length, refl, sym, ap, subst, ◌∙◌, arith, All, get_or, Some, None, nat_lt, if◌then◌else◌, drop, remove}
+use Rattle.pool_alloc.proofs.Imports.{ltb-true, true≢false, length-append, sum_by-append, sum_by-remove, All-nil, All-append, All-head, All-tail, All-get_or, MakerTold, decommitting, Slot, same_called, same_faulted, SlotKind, memory_kind, ShardState, after_take_warm, after_free, taken_slots, Cell, unknown, previously_used, cell_of, home_of, CellState, cell_emptied, cell_filled, ImageSlot, Unmapped, Unknown, PreviouslyUsed, Taken, Allocator, Plan, SlotName}
 use Rattle.pool_alloc.specs.PartyTold.{PartyTold}
 use Rattle.pool_alloc.specs.Answers.{DecommitsWhole, Drains, ReleaseTold}
-use Rattle.pool_alloc.specs.Bounds.{PoolSizes, sizes_of, stripe_bound, stripes_left, drains_left, residents, release_left}
+use Rattle.pool_alloc.specs.Bounds.{PoolSizes, sizes_of, stripe_bound, stripes_left, drains_left, release_left}
 use Rattle.pool_alloc.specs.Leases.{memory_slot}
-use Rattle.pool_alloc.specs.Places.{Thing, region_of, right_to, slot_count, region_count, taken_count, freed_count}
-use Rattle.pool_alloc.specs.Releases.{slots_in, release_begun, released_stripe, slots_outside, taking, nth_taken, not_resident, bytes_kept, releasing, behind_stripe, free_first, drain_at, drain_from, reserve_row, warm_taken, take_warm_on, take_resident_on, after_decommit, put_resident_on, free_taken_on, release_row}
-use Rattle.pool_alloc.specs.Sound.{IsCore, IsAtRest, IsPoolPlan, IsReleaseAt, IsSlotName, IsFreedOf, IsReleasing, IsDraining, MayHold, HasRegion, IsPoolSlot, slots_left}
+use Rattle.pool_alloc.specs.Places.{Thing, right_to, slot_count, region_count, freed_count}
+use Rattle.pool_alloc.specs.Releases.{slots_in, release_begun, released_stripe, slots_outside, taking, nth_taken, not_resident, bytes_kept, releasing, behind_stripe, free_first, drain_from, reserve_row, take_warm_on, take_resident_on, after_decommit, put_resident_on, free_taken_on, release_row}
+use Rattle.pool_alloc.specs.Sound.{IsAtRest, IsPoolPlan, IsReleaseAt, IsSlotName, IsFreedOf, IsReleasing, MayHold, HasRegion, IsPoolSlot, slots_left}
 use Rattle.pool_alloc.specs.Stages.{Stage, no_call, stage_of_release, releasing as releasing_stage, Goes}
 use Rattle.pool_alloc.specs.Steps.{StepGiven, no_allocator, shard_at, cell_named, with_shard, with_cell}
-use Rattle.pool_alloc.specs.Turns.{Turn, goes, ends, Row, lifted}
+use Rattle.pool_alloc.specs.Turns.{goes, ends, Row, lifted}
 use Rattle.pool_alloc.specs.declared.frame.Frame.{Frame}
 use Rattle.pool_alloc.specs.declared.frame.FreedSlot.{FreedSlot}
 use Rattle.pool_alloc.specs.declared.frame.Outcome.TheVariants as answer
@@ -24,7 +24,7 @@ use Rattle.pool_alloc.specs.declared.release.ReleaseStep.{ReleaseStep}
 use Rattle.pool_alloc.specs.declared.release.ReleaseStep.TheVariants.{Reserve, TakeWarm, TakeRegion, Decommit, PutRegion, Free}
 use Rattle.pool_alloc.proofs.CoreChanges.{core_with_shard, core_with_cell}
 use Rattle.pool_alloc.proofs.Frees.{freed_one}
-use Rattle.pool_alloc.proofs.Hands.{Hand, counts_none, in_phase, held_of, Even, Kept, Ready, IsReadyRow, either_ready}
+use Rattle.pool_alloc.proofs.Hands.{Hand, in_phase, held_of, Even, Kept, Ready, IsReadyRow, either_ready}
 use Rattle.pool_alloc.proofs.Held.{unit_once}
 use Rattle.pool_alloc.proofs.KeptCounts.{kept_shard, away_shard, region_leaves, region_returns}
 use Rattle.pool_alloc.proofs.PhaseSlots.{phase_out, phase_home, phase_gone}
@@ -43,7 +43,7 @@ use Rattle.pool_alloc.proofs.Ways.{Can, kept_part}
 
 -- these slots in hand
 abbrev holding : List FreedSlot → Hand
-holding slots = record { things = λ t. freed_count t slots; instances = 0; memories = 0; tables = 0; stacks = 0; heaps = 0 }
+holding slots w = freed_count w.unit slots
 
 freed_appended : (t : Thing) (xs ys : List FreedSlot) → freed_count t (xs ++ ys) ≡ freed_count t xs + freed_count t ys
 freed_appended t xs ys = sum_by-append (λ (x : FreedSlot). slot_count t x.name) xs ys
@@ -135,7 +135,7 @@ module _ {P H : Type 0} (maker : MakerTold) (old new : PartyTold) where
       record {
         kept = going.kept;
         shape = (refl, (going.rest, subst F (sym going.plan) there));
-        even = record { places = going.even.places; instances = going.even.instances; memories = going.even.memories; tables = going.even.tables; stacks = going.even.stacks; heaps = going.even.heaps };
+        even = λ w. omega (arith, going.even w);
         fewer = omega (arith, going.few, few, drop_sum (stripe_bound z) c.plan.memories (r.stripe + 1) no_allocator inside);
         way = on_way step c f going.stage;
         searched = λ s. tt;
@@ -143,7 +143,7 @@ module _ {P H : Type 0} (maker : MakerTold) (old new : PartyTold) where
       (λ last. record {
         kept = going.kept;
         shape = (going.rest, tt);
-        even = record { places = going.even.places; instances = going.even.instances; memories = going.even.memories; tables = going.even.tables; stacks = going.even.stacks; heaps = going.even.heaps };
+        even = λ w. omega (arith, going.even w);
         fewer = omega (arith, going.few);
         way = end_way step r.released c f going.stage;
         searched = λ s. tt;
@@ -172,7 +172,7 @@ module _ {P H : Type 0} (maker : MakerTold) (old new : PartyTold) where
       record {
         kept = going.kept;
         shape = (refl, (going.rest, subst F (sym going.plan) there));
-        even = record { places = λ t. omega (arith, going.even.places t, freed_first t x rest); instances = going.even.instances; memories = going.even.memories; tables = going.even.tables; stacks = going.even.stacks; heaps = going.even.heaps };
+        even = λ w. omega (arith, going.even w, freed_first w.unit x rest);
         fewer = omega (arith, going.few, steps);
         way = on_way step c f going.stage;
         searched = λ s. tt;
@@ -190,7 +190,7 @@ module _ {P H : Type 0} (maker : MakerTold) (old new : PartyTold) where
       record {
         kept = going.kept;
         shape = (refl, (going.rest, subst F (sym going.plan) there));
-        even = record { places = going.even.places; instances = going.even.instances; memories = going.even.memories; tables = going.even.tables; stacks = going.even.stacks; heaps = going.even.heaps };
+        even = λ w. omega (arith, going.even w);
         fewer = omega (arith, going.few, steps, one_drained k r.taken.items no_slot inside);
         way = on_way step c f going.stage;
         searched = λ s. tt;
@@ -202,7 +202,7 @@ module _ {P H : Type 0} (maker : MakerTold) (old new : PartyTold) where
   reserve_ready true c f can = record {
     kept = kept_part maker old new c (in_phase (Release Reserve) f) c (in_phase Idle f) can.core (held_of maker c.settings c.plan (in_phase (Release Reserve) f) can.frame) refl refl refl refl;
     shape = (can.frame.shape.0, tt);
-    even = record { places = λ t. omega arith; instances = omega (arith, counts_none f.asked); memories = omega arith; tables = omega arith; stacks = omega arith; heaps = omega arith };
+    even = λ w. omega arith;
     fewer = omega arith;
     way = refl;
     searched = λ s. tt;
@@ -231,7 +231,7 @@ module _ {P H : Type 0} (maker : MakerTold) (old new : PartyTold) where
             ),
           ),
         );
-        even = record { places = λ t. omega arith; instances = omega (arith, counts_none f.asked); memories = omega arith; tables = omega arith; stacks = omega arith; heaps = omega arith };
+        even = λ w. omega arith;
         fewer = omega (arith, drop_sum (stripe_bound z) c.plan.memories 0 no_allocator can.core.plan.stripes);
         way = tt;
         searched = λ s. tt;
@@ -269,12 +269,12 @@ module _ {P H : Type 0} (maker : MakerTold) (old new : PartyTold) where
         taken_room = at.taken_room;
       } in
       let kept = kept_part maker old new c e d (in_phase Idle f) (core_with_shard maker p next c can.core place (warm_sound shard sound) (warm_same shard)) (held_of maker c.settings c.plan e can.frame) refl refl refl refl in
-      let even : Even maker old new c e (holding q.taken.items) d (in_phase Idle f) = record { places = λ t. omega (arith, kept_shard t p next c (shard_part maker p c can.core place), away_shard t p next c (shard_part maker p c can.core place), warm_counts t shard sound kind, freed_appended t r.taken.items (slots_outside shard)); instances = omega (arith, counts_none f.asked); memories = omega arith; tables = omega arith; stacks = omega arith; heaps = omega arith } in
+      let even : Even maker old new c e (holding q.taken.items) d (in_phase Idle f) = λ w. omega (arith, kept_shard w.unit p next c (shard_part maker p c can.core place), away_shard w.unit p next c (shard_part maker p c can.core place), warm_counts w.unit shard sound kind, freed_appended w.unit r.taken.items (slots_outside shard)) in
       either_ready maker old new c e d (in_phase Idle f) (nat_lt (j + 1) a.shards) (goes (Release (TakeWarm q (j + 1)))) (drain_from c.plan q 0)
       (λ more. record {
         kept = kept;
         shape = (refl, (can.frame.shape.0, (now, ltb-true _ _ more)));
-        even = record { places = even.places; instances = even.instances; memories = even.memories; tables = even.tables; stacks = even.stacks; heaps = even.heaps };
+        even = λ w. omega (arith, even w);
         fewer = omega (arith, most, inside);
         way = tt;
         searched = λ s. tt;
@@ -299,7 +299,7 @@ module _ {P H : Type 0} (maker : MakerTold) (old new : PartyTold) where
       record {
         kept = kept_part maker old new c e (with_cell name (cell_emptied cell) c) (in_phase Idle f) (core_with_cell maker name (cell_emptied cell) c can.core named (record { named = was.named; holds = emptied_holds maker c.settings name.kind name.slot named.cells })) (held_of maker c.settings c.plan e can.frame) refl refl refl refl;
         shape = (refl, (can.frame.shape.0, record { releasing = at; place = inside; named = refl; region = held_in P maker c.settings c.plan name cell.holds named was.holds there }));
-        even = record { places = λ t. let leaves = region_leaves maker t name c can.core named there in omega (arith, leaves.0, leaves.1, freed_at t r k inside); instances = omega (arith, counts_none f.asked); memories = omega arith; tables = omega arith; stacks = omega arith; heaps = omega arith };
+        even = λ w. let leaves = region_leaves maker w.unit name c can.core named there in omega (arith, leaves.0, leaves.1, freed_at w.unit r k inside);
         fewer = omega arith;
         way = tt;
         searched = λ s. tt;
@@ -326,7 +326,7 @@ module _ {P H : Type 0} (maker : MakerTold) (old new : PartyTold) where
             },
           ),
         );
-        even = record { places = λ t. omega arith; instances = omega (arith, counts_none f.asked); memories = omega arith; tables = omega arith; stacks = omega arith; heaps = omega arith };
+        even = λ w. omega arith;
         fewer = omega arith;
         way = tt;
         searched = λ s. tt;
@@ -346,7 +346,7 @@ module _ {P H : Type 0} (maker : MakerTold) (old new : PartyTold) where
       (record {
         kept = kept_part maker old new c e (with_cell at.name cell c) (in_phase Idle f) (core_with_cell maker at.name cell c can.core region.named (record { named = (sound_cell maker at.name c can.core region.named).named; holds = region.holds })) (held_of maker c.settings c.plan e can.frame) refl refl refl refl;
         rest = can.frame.shape.0;
-        even = record { places = λ t. let back = region_returns maker t at.name (cell_of held) c can.core region.named gone.away region.there in omega (arith, back.0, back.1, ap (region_count t at.name) gone.out, freed_at t r k has.place, ap (slot_count t) has.named); instances = omega (arith, counts_none f.asked); memories = omega arith; tables = omega arith; stacks = omega arith; heaps = omega arith };
+        even = λ w. let back = region_returns maker w.unit at.name (cell_of held) c can.core region.named gone.away region.there in omega (arith, back.0, back.1, ap (region_count w.unit at.name) gone.out, freed_at w.unit r k has.place, ap (slot_count w.unit) has.named);
         few = omega arith;
         stage = refl;
         plan = refl;
@@ -375,7 +375,7 @@ module _ {P H : Type 0} (maker : MakerTold) (old new : PartyTold) where
       (record {
         kept = kept_part maker old new c e (with_shard j freed c) (in_phase Idle f) (core_with_shard maker j freed c can.core there next_shard.sound next_shard.same) (held_of maker c.settings c.plan e can.frame) refl refl refl refl;
         rest = can.frame.shape.0;
-        even = record { places = λ t. omega (arith, kept_shard t j freed c (shard_part maker j c can.core there), away_shard t j freed c (shard_part maker j c can.core there), freed_one t c.plan shard x.name bytes place used); instances = omega (arith, counts_none f.asked); memories = omega arith; tables = omega arith; stacks = omega arith; heaps = omega arith };
+        even = λ w. omega (arith, kept_shard w.unit j freed c (shard_part maker j c can.core there), away_shard w.unit j freed c (shard_part maker j c can.core there), freed_one w.unit c.plan shard x.name bytes place used);
         few = omega arith;
         stage = refl;
         plan = refl;

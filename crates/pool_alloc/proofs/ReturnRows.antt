@@ -1,6 +1,6 @@
 -- The rows of a give-back, and of a flush.
-use Rattle.std.proofs.Common.{map, ◌≡◌, ℕ, ◌+◌, ◌-◌, ◌%◌, ◌^◌, ◌<◌, ◌≤◌, Bool, true, false, List, [], ◌∷◌, ◌++◌, length, refl, sym, ap, subst, ◌∙◌, arith, All, inl, Option, None, Some, ◌==◌, ◌||◌, ◌&&◌, not, nat_le, nat_lt, filter, if◌then◌else◌, IfSome}
-use Rattle.pool_alloc.proofs.Imports.{of_kind, long_by_kind, Plan, leb-false, or_parts, length_push, length-append, All-head, All-nil, All-push, All-filter, All-weaker, All-tail, length-filter_both, MakerTold, DecommitBehavior, Zero, RestoreOriginalMapping, Slot, forgotten, left_ranges, reset_slot, ByteRange, ShardState, image_slot_of, CellState, cell_filled, Queue, Queued, LeavesClean, empty_queue, taken_into, drained, after_append, IsSettled, first_of_kind, first_zeroed, is_to_zero, others_of_kind, plain_slot, SlotKind, memory_kind, home_of, cell_place, AllByRecursion, list_any, SlotName, Told, StackState, above_bottom, stack_kept, stack_ranges, stack_zeroed, stack_item, leaves_clean, first_settled, zeroed_long}
+use Rattle.std.proofs.Common.{map, ◌≡◌, ℕ, ◌+◌, ◌-◌, ◌%◌, ◌^◌, ◌<◌, ◌≤◌, Bool, true, false, List, [], ◌∷◌, ◌++◌, length, refl, sym, ap, subst, ◌∙◌, arith, All, inl, Option, None, Some, ◌==◌, ◌||◌, ◌&&◌, not, nat_le, nat_lt, filter, if◌then◌else◌, IfSome, ◌*◌}
+use Rattle.pool_alloc.proofs.Imports.{of_kind, long_by_kind, Plan, leb-false, or_parts, length_push, length-append, All-head, All-nil, All-push, All-filter, All-weaker, All-tail, length-filter_both, MakerTold, DecommitBehavior, Zero, RestoreOriginalMapping, Slot, forgotten, left_ranges, reset_slot, ByteRange, ShardState, image_slot_of, CellState, cell_filled, Queue, Queued, LeavesClean, empty_queue, taken_into, drained, after_append, IsSettled, first_of_kind, first_zeroed, is_to_zero, others_of_kind, plain_slot, SlotKind, memory_kind, home_of, cell_place, AllByRecursion, list_any, SlotName, Told, StackState, above_bottom, stack_kept, stack_ranges, stack_zeroed, stack_item, leaves_clean, first_settled, zeroed_long, table_kind, stack_kind}
 use Rattle.pool_alloc.proofs.Below.{queued_cells}
 use Rattle.pool_alloc.proofs.PlanPlaces.{IsShardPlace, IsQueuePlace, apart_places, queue_no_cell, tried_is_queue}
 use Rattle.pool_alloc.specs.PartyTold.{PartyTold}
@@ -14,20 +14,20 @@ use Rattle.pool_alloc.specs.Bounds.{all_slots, sizes_of}
 use Rattle.pool_alloc.specs.Freeing.{AreUsedInTurn}
 use Rattle.pool_alloc.specs.Leases.{Lease, memory_slot, slot_taken}
 use Rattle.pool_alloc.specs.Own.{slot_ended, reset_into}
-use Rattle.pool_alloc.specs.Places.{Thing, both_count, queued_count, region_count, right_to, taken_count}
+use Rattle.pool_alloc.specs.Places.{Thing, both_count, queued_count, region_count, right_to, taken_count, counted_instance, counted_object, only, instances_for, of_units}
 use Rattle.pool_alloc.specs.Reserved.{with_item}
 use Rattle.pool_alloc.specs.Rows.{stack_reset_row, FlushStep, run, zero, put, free, flush_step, merged, merge_on, in_queue, uncount_object_row, was_reset, reset_turn, reset_row, uncount_instance_row, decommit_row, zero_row, put_first, free_row, flush_row}
 use Rattle.pool_slots.specs.declared.queued_range.QueueKind.TheVariants as queued
 use Rattle.pool_alloc.specs.declared.frame.Object.{Object}
 use Rattle.pool_alloc.specs.declared.frame.Object.TheVariants.{Memory, Table, Stack}
 use Rattle.pool_alloc.specs.Objects.{objects_in, slot_of_object}
-use Rattle.pool_alloc.specs.Sound.{IsPoolSlot, IsCore, IsShared, IsLocal, IsByHand, IsQueuedOf, MayBeRanged, IsFreedOf, IsSlotName, HasCells}
+use Rattle.pool_alloc.specs.Sound.{IsPoolSlot, IsCore, IsShared, IsLocal, IsByHand, IsQueuedOf, MayBeRanged, IsFreedOf, HasCells}
 use Rattle.pool_alloc.specs.Steps.{StepGiven, shard_at, cell_named, queue_at, freed_of, freed_elsewhere, first_shard, after_frees, cell_returned, queue_tried, with_shard, with_cell, with_queue}
-use Rattle.pool_alloc.specs.Turns.{goes, next, flush, Row, is_flushed, answer_of}
+use Rattle.pool_alloc.specs.Turns.{goes, next, flush, Row, is_flushed}
 use Rattle.pool_alloc.proofs.CoreChanges.{core_with_shard, core_with_cell, core_with_queue, core_with_counters}
 use Rattle.pool_alloc.proofs.FlushSteps.{few_in_both, flush_few, decommit_fewer, put_fewer, free_fewer, zero_fewer}
 use Rattle.pool_alloc.proofs.FreedSlots.{freed_counts}
-use Rattle.pool_alloc.proofs.Hands.{some_length, counts_one, none_granted, none_counted, in_phase, hand, held_of, Even, Kept, IsReadyRow, either_ready}
+use Rattle.pool_alloc.proofs.Hands.{some_length, counts_one, none_granted, none_counted, in_phase, hand, held_of, Even, Kept, IsReadyRow, either_ready, one_less}
 use Rattle.pool_alloc.proofs.KeptCounts.{kept_shard, kept_queue, away_shard, away_queue, region_returns}
 use Rattle.pool_alloc.proofs.LocalQueues.{IsStillLocal, listed_may, reset_local, drained_shared, taken_local, drained_local, joined_local, joined_shared, decommitted_local, rest_local, IsResetLocal, zeroed_local}
 use Rattle.pool_alloc.proofs.QueueCounts.{queued_last, queued_joined, freed_last, freed_parted, run_counts, faulted_counts}
@@ -35,7 +35,7 @@ use Rattle.pool_alloc.proofs.RegionRows.{goes_back}
 use Rattle.pool_alloc.proofs.ShardFrees.{IsShardOf, frees_shard}
 use Rattle.pool_alloc.proofs.SlotIdentity.{one_reset, slot_of_one}
 use Rattle.pool_alloc.proofs.Stages.{local_is_apart, first_can_be_put, first_can_be_freed}
-use Rattle.pool_alloc.specs.Stepping.{grant_count, count_granted, grant_instances, grant_memories, grant_tables, grant_stacks, grant_heaps}
+use Rattle.pool_alloc.specs.Stepping.{grant_weight}
 use Rattle.pool_alloc.proofs.Ways.{Can, searched_back, aims_back, next_returns, kept_part, same_way, ends_way, searched_still}
 use Rattle.pool_alloc.proofs.PoolParts.{sound_shard, sound_cell, sound_queue, shard_part, queue_part}
 use Rattle.pool_alloc.proofs.Searching.{still_empty}
@@ -52,6 +52,7 @@ use Rattle.pool_alloc.specs.declared.pool_core.Settings.{Settings}
 use Rattle.pool_alloc.proofs.StackRegions.{few_ranges, stack_by_hand, stack_given_back, stack_leaves, stack_name, stack_page, stack_queued_of, stack_small}
 use Rattle.pool_alloc.proofs.TableReturns.{few_above, returned_has, returned_may, table_leaves, table_still}
 use Rattle.pool_alloc.proofs.Held.{right_is_out}
+use Rattle.pool_alloc.proofs.Weights.{counted_fits}
 
 -- a reset leaves one range at most
 one_if_more : (b : Bool) (r : ByteRange) → length (if b then r ∷ [] else []) ≤ 1
@@ -101,7 +102,7 @@ module _ {P H : Type 0} where
   -- Where slots are freed, there are some, and no others that are at home there.
   pub first_freed : (maker : MakerTold) (c : PoolCore P H) (f : Frame P H) → Can maker Flush c f → FindsFreed f.local.slots f.freed.items → FreesFirst c.plan f.local.slots f.freed.items
   first_freed maker c f can found =
-      let named : (name : SlotName) → 0 < queued_count (right_to name) f.local.slots → name.slot < of_kind name.kind c.plan.totals = λ name some. (right_is_out maker name c can.core (omega (arith, some, can.fits.once (right_to name)))).inside in
+      let named : (name : SlotName) → 0 < queued_count (right_to name) f.local.slots → name.slot < of_kind name.kind c.plan.totals = λ name some. (right_is_out maker name c can.core (omega (arith, some, can.fits.once (of_units (right_to name))))).inside in
       let cells : All (λ m. HasCells m.name.kind) f.local.slots = All-weaker (IsQueuedOf maker c.settings) (λ m. HasCells m.name.kind) (queued_cells maker c.settings) f.local.slots can.frame.queue.regions in
       frees_first c.plan (length c.parts) f.local.slots f.freed.items can.core.plan can.frame.freed_each (names_of c.plan f.local.slots cells named) can.frame.freed_order found (left_freed f can.frame.shape.1)
 
@@ -113,30 +114,33 @@ module _ {P H : Type 0} (maker : MakerTold) (old new : PartyTold) where
   pub uncount_object_ready : (object : Object P) (c : PoolCore P H) (f : Frame P H) → Can maker (UncountObject object) c f → Shows (UncountObject object) c f (uncount_object_row object c (in_phase Idle f))
   uncount_object_ready (Memory lease) c f can =
       let e : Frame P H = in_phase (UncountObject (Memory lease)) f in
+      let some : 0 < c.counters.memories = omega (arith, counted_fits c e can.fits (only (counted_object memory_kind))) in
       record {
-        kept = record { core = core_with_counters maker (record c.counters { memories = c.counters.memories - 1 }) c can.core; held = held_of maker c.settings c.plan e can.frame; asked = refl; settings = refl; plan = refl; instances_by_one = omega arith; memories_by_one = omega arith; tables_by_one = omega arith; stacks_by_one = omega arith; heaps_by_one = omega arith };
+        kept = record { core = core_with_counters maker (record c.counters { memories = c.counters.memories - 1 }) c can.core; held = held_of maker c.settings c.plan e can.frame; asked = refl; settings = refl; plan = refl; by_one = λ k. omega (arith, one_less c.counters.memories (only k (counted_object memory_kind)) some) };
         shape = (refl, can.frame.shape);
-        even = record { places = λ t. omega arith; instances = omega arith; memories = omega (arith, can.fits.memories); tables = omega arith; stacks = omega arith; heaps = omega arith };
+        even = λ w. omega (arith, one_less c.counters.memories (w.counts (counted_object memory_kind)) some);
         fewer = omega arith;
         way = same_way maker old new c e f.asked f.ending (objects_in f.objects);
         searched = λ s. tt;
       }
   uncount_object_ready (Table lease) c f can =
       let e : Frame P H = in_phase (UncountObject (Table lease)) f in
+      let some : 0 < c.counters.tables = omega (arith, counted_fits c e can.fits (only (counted_object table_kind))) in
       record {
-        kept = record { core = core_with_counters maker (record c.counters { tables = c.counters.tables - 1 }) c can.core; held = held_of maker c.settings c.plan e can.frame; asked = refl; settings = refl; plan = refl; instances_by_one = omega arith; memories_by_one = omega arith; tables_by_one = omega arith; stacks_by_one = omega arith; heaps_by_one = omega arith };
+        kept = record { core = core_with_counters maker (record c.counters { tables = c.counters.tables - 1 }) c can.core; held = held_of maker c.settings c.plan e can.frame; asked = refl; settings = refl; plan = refl; by_one = λ k. omega (arith, one_less c.counters.tables (only k (counted_object table_kind)) some) };
         shape = (refl, can.frame.shape);
-        even = record { places = λ t. omega arith; instances = omega arith; memories = omega arith; tables = omega (arith, can.fits.tables); stacks = omega arith; heaps = omega arith };
+        even = λ w. omega (arith, one_less c.counters.tables (w.counts (counted_object table_kind)) some);
         fewer = omega arith;
         way = same_way maker old new c e f.asked f.ending (objects_in f.objects);
         searched = λ s. tt;
       }
   uncount_object_ready (Stack lease) c f can =
       let e : Frame P H = in_phase (UncountObject (Stack lease)) f in
+      let some : 0 < c.counters.stacks = omega (arith, counted_fits c e can.fits (only (counted_object stack_kind))) in
       record {
-        kept = record { core = core_with_counters maker (record c.counters { stacks = c.counters.stacks - 1 }) c can.core; held = held_of maker c.settings c.plan e can.frame; asked = refl; settings = refl; plan = refl; instances_by_one = omega arith; memories_by_one = omega arith; tables_by_one = omega arith; stacks_by_one = omega arith; heaps_by_one = omega arith };
+        kept = record { core = core_with_counters maker (record c.counters { stacks = c.counters.stacks - 1 }) c can.core; held = held_of maker c.settings c.plan e can.frame; asked = refl; settings = refl; plan = refl; by_one = λ k. omega (arith, one_less c.counters.stacks (only k (counted_object stack_kind)) some) };
         shape = (refl, can.frame.shape);
-        even = record { places = λ t. omega arith; instances = omega arith; memories = omega arith; tables = omega arith; stacks = omega (arith, can.fits.stacks); heaps = omega (arith, can.fits.heaps) };
+        even = λ w. omega (arith, one_less c.counters.stacks (w.counts (counted_object stack_kind)) some);
         fewer = omega arith;
         way = same_way maker old new c e f.asked f.ending (objects_in f.objects);
         searched = λ s. tt;
@@ -160,14 +164,14 @@ module _ {P H : Type 0} (maker : MakerTold) (old new : PartyTold) where
         objects = can.frame.objects;
       })
       refl refl refl refl in
-      let even : Even maker old new c e (hand {P = P} {H = H} next) c has = record { places = λ t. omega (arith, counts t); instances = omega arith; memories = omega arith; tables = omega arith; stacks = omega arith; heaps = omega arith } in
+      let even : Even maker old new c e (hand {P = P} {H = H} f.asked next) c has = λ w. omega (arith, counts w.unit) in
       let few = flush_few (sizes_of c.settings c.plan) (all_slots c.plan) q f.freed is.queue.grouped (omega (arith, is.one, slots)) in
       let stays = same_way maker old new c e f.asked f.ending (objects_in f.objects) in
       either_ready maker old new c e c has ((length q.ranges == 0) || nat_le c.settings.batch (length q.ranges)) flush (goes Merge)
       (λ full. record {
         kept = kept;
         shape = aims_back c.settings c.plan f.ending f.asked f.queues f.objects back;
-        even = even;
+        even = λ w. omega (arith, even w);
         fewer = omega (arith, few, next_returns (sizes_of c.settings c.plan) f.ending f.queues f.asked f.objects back);
         way = stays;
         searched = λ s. searched_back f.ending _ back;
@@ -177,7 +181,7 @@ module _ {P H : Type 0} (maker : MakerTold) (old new : PartyTold) where
       record {
         kept = kept;
         shape = (refl, (back, settled.none_freed, is.one, some_length q.ranges parts.0, omega (arith, leb-false c.settings.batch (length q.ranges) parts.1), is.known));
-        even = even;
+        even = λ w. omega (arith, even w);
         fewer = omega arith;
         way = stays;
         searched = λ s. tt;
@@ -191,7 +195,7 @@ module _ {P H : Type 0} (maker : MakerTold) (old new : PartyTold) where
       record {
         kept = kept_part maker old new c e c (in_phase Idle f) can.core (held_of maker c.settings c.plan e can.frame) refl refl refl refl;
         shape = (refl, (can.frame.shape.0, can.frame.shape.1, goes_back maker c.settings c.plan (memory_slot lease.index) (forgotten held) (record { kind = refl; inside = of.inside; region = slot_of_one maker c.settings lease.index (image_slot_of lease.memory) (forgotten held) told.1.same of.slot })));
-        even = record { places = λ t. omega arith; instances = omega arith; memories = omega arith; tables = omega arith; stacks = omega arith; heaps = omega arith };
+        even = λ w. omega arith;
         fewer = omega arith;
         way = same_way maker old new c e f.asked f.ending (objects_in f.objects);
         searched = λ s. tt;
@@ -273,7 +277,7 @@ module _ {P H : Type 0} (maker : MakerTold) (old new : PartyTold) where
             })
             refl refl refl refl;
         shape = aims_back c.settings c.plan f.ending f.asked f.queues f.objects shape.0;
-        even = record { places = λ t. omega (arith, kept_queue t i (drained whole) c (queue_part maker i c can.core below), away_queue t i (drained whole) c (queue_part maker i c can.core below), queued_joined t q.slots f.local.slots); instances = omega arith; memories = omega arith; tables = omega arith; stacks = omega arith; heaps = omega arith };
+        even = λ w. omega (arith, kept_queue w.unit i (drained whole) c (queue_part maker i c can.core below), away_queue w.unit i (drained whole) c (queue_part maker i c can.core below), queued_joined w.unit q.slots f.local.slots);
         fewer = omega (arith, flush_few (sizes_of c.settings c.plan) (all_slots c.plan) (taken_into (drained f.local) whole) f.freed both.grouped (few_in_both maker i c e can below), next_returns (sizes_of c.settings c.plan) f.ending f.queues f.asked f.objects shape.0);
         way = same_way maker old new c e f.asked f.ending (objects_in f.objects);
         searched = λ s. searched_back f.ending _ shape.0;
@@ -301,7 +305,7 @@ module _ {P H : Type 0} (maker : MakerTold) (old new : PartyTold) where
             })
             refl refl refl refl;
         shape = (record { no_ranges = refl; no_slots = refl; none_freed = shape.1 }, aims_back c.settings c.plan f.ending f.asked f.queues f.objects shape.0);
-        even = record { places = λ t. omega (arith, kept_queue t i whole c (queue_part maker i c can.core below), away_queue t i whole c (queue_part maker i c can.core below), queued_joined t q.slots f.local.slots); instances = omega arith; memories = omega arith; tables = omega arith; stacks = omega arith; heaps = omega arith };
+        even = λ w. omega (arith, kept_queue w.unit i whole c (queue_part maker i c can.core below), away_queue w.unit i whole c (queue_part maker i c can.core below), queued_joined w.unit q.slots f.local.slots);
         fewer = omega (arith, next_returns (sizes_of c.settings c.plan) f.ending f.queues f.asked f.objects shape.0);
         way = same_way maker old new c e f.asked f.ending (objects_in f.objects);
         searched = λ s. searched_back f.ending _ shape.0;
@@ -314,10 +318,12 @@ module _ {P H : Type 0} (maker : MakerTold) (old new : PartyTold) where
   pub uncount_instance_ready : (c : PoolCore P H) (f : Frame P H) → Can maker UncountInstance c f → Shows UncountInstance c f (uncount_instance_row c (in_phase Idle f))
   uncount_instance_ready c f can =
       let e : Frame P H = in_phase UncountInstance f in
+      let one : instances_for f.asked ≡ 1 = counts_one f.asked can.frame.shape.2 in
+      let some : 0 < c.counters.core_instances = omega (arith, counted_fits c e can.fits (only counted_instance), one) in
       record {
-        kept = record { core = core_with_counters maker (record c.counters { core_instances = c.counters.core_instances - 1 }) c can.core; held = held_of maker c.settings c.plan e can.frame; asked = refl; settings = refl; plan = refl; instances_by_one = omega arith; memories_by_one = omega arith; tables_by_one = omega arith; stacks_by_one = omega arith; heaps_by_one = omega arith };
+        kept = record { core = core_with_counters maker (record c.counters { core_instances = c.counters.core_instances - 1 }) c can.core; held = held_of maker c.settings c.plan e can.frame; asked = refl; settings = refl; plan = refl; by_one = λ k. omega (arith, one_less c.counters.core_instances (only k counted_instance) some) };
         shape = (can.frame.shape.0, none_granted _ f.ending);
-        even = record { places = λ t. omega (arith, none_counted {P = P} {H = H} (grant_count t) f.ending); instances = omega (arith, can.fits.instances, counts_one f.asked 1 can.frame.shape.2, counts_one f.asked (count_granted {P = P} {H = H} grant_instances (Some (answer_of f.ending))) can.frame.shape.2, none_counted {P = P} {H = H} grant_instances f.ending); memories = omega (arith, none_counted {P = P} {H = H} grant_memories f.ending); tables = omega (arith, none_counted {P = P} {H = H} grant_tables f.ending); stacks = omega (arith, none_counted {P = P} {H = H} grant_stacks f.ending); heaps = omega (arith, none_counted {P = P} {H = H} grant_heaps f.ending) };
+        even = λ w. omega (arith, none_counted {P = P} {H = H} (grant_weight w) f.ending, one_less c.counters.core_instances (w.counts counted_instance) some, ap (λ (n : ℕ). n * w.counts counted_instance) one);
         fewer = omega arith;
         way = ends_way maker old new c e f.asked f.ending (objects_in f.objects) can.frame.shape.1;
         searched = λ s. tt;
@@ -334,7 +340,7 @@ module _ {P H : Type 0} (maker : MakerTold) (old new : PartyTold) where
             (record { stripe = can.frame.stripe; queue = still.queue; freed_room = (can.frame.freed_room.0, rw still.long can.frame.freed_room.1); freed_each = can.frame.freed_each; freed_order = can.frame.freed_order; objects = can.frame.objects })
             refl refl refl refl;
         shape = can.frame.shape.0;
-        even = record { places = λ t. omega (arith, decommit_counts t fault f.local queue told); instances = omega arith; memories = omega arith; tables = omega arith; stacks = omega arith; heaps = omega arith };
+        even = λ w. omega (arith, decommit_counts w.unit fault f.local queue told);
         fewer = omega (arith, decommit_fewer (sizes_of c.settings c.plan) fault f.local queue f.freed told some);
         way = same_way maker old new c e f.asked f.ending (objects_in f.objects);
         searched = λ s. s;
@@ -359,7 +365,7 @@ module _ {P H : Type 0} (maker : MakerTold) (old new : PartyTold) where
             })
             refl refl refl refl;
         shape = can.frame.shape.0;
-        even = record { places = λ t. omega (arith, zeroed_counts t kind f.local.slots); instances = omega arith; memories = omega arith; tables = omega arith; stacks = omega arith; heaps = omega arith };
+        even = λ w. omega (arith, zeroed_counts w.unit kind f.local.slots);
         fewer = omega (arith, zero_fewer (sizes_of c.settings c.plan) kind f.local f.freed none some);
         way = same_way maker old new c e f.asked f.ending (objects_in f.objects);
         searched = λ s. s;
@@ -392,7 +398,7 @@ module _ {P H : Type 0} (maker : MakerTold) (old new : PartyTold) where
             })
             refl refl refl refl;
         shape = can.frame.shape.0;
-        even = record { places = λ t. omega (arith, counts_first t kind m f.local.slots is, (region_returns maker t m.name (cell_returned m) c can.core can_put.named can_put.away (returned_has m.name.kind m)).0, (region_returns maker t m.name (cell_returned m) c can.core can_put.named can_put.away (returned_has m.name.kind m)).1, ap (region_count t m.name) can_put.out, freed_last t f.freed.items x); instances = omega arith; memories = omega arith; tables = omega arith; stacks = omega arith; heaps = omega arith };
+        even = λ w. omega (arith, counts_first w.unit kind m f.local.slots is, (region_returns maker w.unit m.name (cell_returned m) c can.core can_put.named can_put.away (returned_has m.name.kind m)).0, (region_returns maker w.unit m.name (cell_returned m) c can.core can_put.named can_put.away (returned_has m.name.kind m)).1, ap (region_count w.unit m.name) can_put.out, freed_last w.unit f.freed.items x);
         fewer = omega (arith, put_fewer (sizes_of c.settings c.plan) kind m f.local f.freed is);
         way = same_way maker old new c e f.asked f.ending (objects_in f.objects);
         searched = searched_still f.ending (AreEmpty f.queues c f) (AreEmpty f.queues d f) (still_empty f.queues (cell_place c.plan m.name) _ c f can.core.plan (λ q queue. queue_no_cell c.plan (length c.parts) q m.name can.core.plan can_put.named queue));
@@ -426,7 +432,7 @@ module _ {P H : Type 0} (maker : MakerTold) (old new : PartyTold) where
             })
             refl refl refl refl;
         shape = can.frame.shape.0;
-        even = record { places = λ t. omega (arith, kept_shard t j shard c (shard_part maker j c can.core first.shard), away_shard t j shard c (shard_part maker j c can.core first.shard), freed_counts t maker j c e can.core can.fits can.frame.freed_each first.shard, freed_parted t (λ x. (home_of c.plan x.name).place == j) f.freed.items); instances = omega arith; memories = omega arith; tables = omega arith; stacks = omega arith; heaps = omega arith };
+        even = λ w. omega (arith, kept_shard w.unit j shard c (shard_part maker j c can.core first.shard), away_shard w.unit j shard c (shard_part maker j c can.core first.shard), freed_counts w.unit maker j c e can.core can.fits can.frame.freed_each first.shard, freed_parted w.unit (λ x. (home_of c.plan x.name).place == j) f.freed.items);
         fewer = omega (arith, free_fewer c.settings c.plan (length c.parts) f.local.slots f.freed.items can.core.plan can.frame.freed_each frees.apart frees.some);
         way = same_way maker old new c e f.asked f.ending (objects_in f.objects);
         searched = searched_still f.ending (AreEmpty f.queues c f) (AreEmpty f.queues d f) (still_empty f.queues j (part.Shard shard) c f can.core.plan (λ q queue e. apart_places c.plan j q first.shard queue (sym e)));

@@ -4,7 +4,7 @@ use Rattle.pool_alloc.proofs.Imports.{MakerTold, is_used, is_taken, Queue, Queue
 use Rattle.pool_alloc.proofs.PlanPlaces.{IsShardPlace, IsQueuePlace, tried_is_queue}
 use Rattle.pool_alloc.proofs.KindCounts.{counts_first}
 use Rattle.pool_alloc.specs.Freeing.{AreUsedInTurn}
-use Rattle.pool_alloc.specs.Places.{Thing, right_to, frame_count}
+use Rattle.pool_alloc.specs.Places.{Thing, right_to, frame_count, of_units}
 use Rattle.pool_alloc.specs.Sound.{IsCore, IsFrame, FitsCore, HasCells}
 use Rattle.pool_alloc.specs.Steps.{shard_at, queue_at, freed_of, first_shard, queue_tried, cell_named}
 use Rattle.pool_alloc.specs.Stepping.{CanStep}
@@ -57,7 +57,7 @@ module _ {P H : Type 0} where
   pub local_is_apart : (maker : MakerTold) (i : ℕ) (c : PoolCore P H) (f : Frame P H) → IsCore maker c → FitsCore c f → IsQueuePlace c.plan i → AreApart (queue_at i c).slots f.local.slots
   local_is_apart maker i c f core fits place =
       apart_by_count (queue_at i c).slots f.local.slots
-      (λ name. omega (arith, fits.once (right_to name), (out_once maker name c core).0, queue_kept maker (right_to name) i c core place))
+      (λ name. omega (arith, fits.once (of_units (right_to name)), (out_once maker name c core).0, queue_kept maker (right_to name) i c core place))
 
   -- The home queue has room for the local one.
   pub home_has_room : (maker : MakerTold) (c : PoolCore P H) (f : Frame P H) → CanStep maker c (in_phase Merge f) → HasRoomFor (queue_at (queue_tried 0 c.plan f) c) f.local

@@ -1,6 +1,6 @@
 -- What the code of a step needs follows of what holds between steps, and what a step leaves is as its row shows.
 use Rattle.std.proofs.Common.{◌≡◌, ℕ, ◌+◌, ◌<◌, ◌≤◌, true, false, length, get_or, refl, sym, ap, subst, ◌∙◌, arith, Option, Some, None, List, Result, Ok, Err, Bool, IfSome, IsSome, is_some, nat_lt, slice_get}
-use Rattle.pool_alloc.proofs.Imports.{length_push, told_both, told_weaker, rounded_same, HeapMakeFault, of_kind, heap_slot, IsHere, IsOut, heap_in, Queued, Queue, first_of_kind, others_of_kind, QueuedRange, Told, each_weaker, AllByRecursion, SlotKind, memory_kind, table_kind, stack_kind, heap_kind, cell_of, Cell, unmapped, unknown, previously_used, taken, IsCleanOnceUsed, IsPlacedAllocator, allocators_of, home_of, SlotName, Plan, MakerTold, minimum_byte_size, Image, Slot, SlotIdentity, FitsInto, image_slot_of, All-weaker}
+use Rattle.pool_alloc.proofs.Imports.{length_push, told_both, told_weaker, rounded_same, HeapMakeFault, of_kind, heap_slot, IsHere, IsOut, heap_in, Queued, Queue, first_of_kind, others_of_kind, QueuedRange, Told, SlotKind, memory_kind, table_kind, stack_kind, heap_kind, cell_of, Cell, unmapped, unknown, previously_used, taken, IsCleanOnceUsed, home_of, SlotName, Plan, MakerTold, minimum_byte_size, Image, Slot, SlotIdentity, FitsInto, image_slot_of, All-weaker}
 use Rattle.pool_alloc.specs.declared.frame.Object.{Object}
 use Rattle.pool_alloc.specs.declared.frame.TakenSlot.{TakenSlot}
 use Rattle.pool_alloc.specs.declared.lease.InstanceLease.{InstanceLease}
@@ -22,7 +22,7 @@ use Rattle.pool_alloc.specs.Calls.{IsGrantOf, IfGranted}
 use Rattle.pool_alloc.specs.CanStep.{CanStepAt, CanFlush, HasNext, CanBegin, CanMake, CanPlace, CanTryQueue, HasTableNext, CanMakeTable}
 use Rattle.pool_alloc.specs.Rows.{FlushStep, run, zero, put, free, flush_step, component_counted, row_of, heap_next, make_heap_row, flush_row, put_first, count_object_row}
 use Rattle.pool_alloc.specs.Searches.{IsSearched}
-use Rattle.pool_alloc.specs.Sound.{IsPoolSlot, IsPoolPlan, HasCells, IsSlotName, MayHold, IsCore, IsFrame, IsSettings, IsAllocating, IsSupported, HasSlot, HasBegun, IsStripe, IsFreedOf, IsTableSupported, HasTable, IsMemoryNext, IsTableNext, IsShapedAt, IsHeapName, IsQueuedOf}
+use Rattle.pool_alloc.specs.Sound.{IsPoolSlot, HasCells, IsSlotName, MayHold, IsCore, IsFrame, IsSettings, IsAllocating, IsSupported, HasSlot, HasBegun, IsFreedOf, IsTableSupported, HasTable, IsMemoryNext, IsTableNext, IsShapedAt, IsHeapName, IsQueuedOf}
 use Rattle.pool_alloc.specs.Objects.{objects_in}
 use Rattle.pool_alloc.specs.declared.frame.Ending.{Ending}
 use Rattle.pool_alloc.specs.declared.frame.Ending.TheVariants.{Granted as granted, Returned as returned, Refused as refused}
@@ -43,7 +43,6 @@ use Rattle.pool_alloc.specs.declared.frame.Phase.{Phase}
 use Rattle.pool_alloc.specs.declared.frame.Phase.TheVariants.{Idle, Key, Validate, TestStack, CountInstance, Pick, TakeQueue, TakeRegion, Empty, Instantiate, MakeMemory, MakeTable, CountObject, PutBack, FreeOne, UncountObject, Reset, Merge, Flush, UncountInstance, ValidateComponent, CountComponent, UncountComponent, TestHeap, TakeHeap, MakeHeap, CountHeap, PutNoHeap, UncountHeap, PutHeap, FreeHeap, Purge, Release}
 use Rattle.pool_alloc.proofs.AskingRows.{key_ready, validate_ready, test_stack_ready, count_instance_ready, pick_ready, take_queue_ready}
 use Rattle.pool_alloc.proofs.ComponentRows.{validate_component_ready, count_component_ready, uncount_component_ready}
-use Rattle.pool_alloc.proofs.Components.{CountsComponents, counts_components}
 use Rattle.pool_alloc.proofs.Fitting.{fits_after}
 use Rattle.pool_alloc.proofs.Hands.{MayEnd, counts_one, in_phase, IsReadyRow, RowOk, goes_ok, ends_ok, row_ok, CountsNone, Ready}
 use Rattle.pool_alloc.proofs.SlotIdentity.{region_page}
@@ -58,6 +57,8 @@ use Rattle.pool_alloc.proofs.PoolParts.{shard_part, cell_part, queue_part, sound
 use Rattle.pool_alloc.proofs.PurgeRows.{purge_ready}
 use Rattle.pool_alloc.proofs.ReleaseRows.{release_ready}
 use Rattle.pool_alloc.proofs.SweepSteps.{placed_of, can_purge, can_release, can_free_of}
+use Rattle.pool_alloc.specs.Places.{counted_instance, counted_component, counted_object, only}
+use Rattle.pool_alloc.proofs.Weights.{counted_fits}
 
 some_of : {X : Type 0} (o : Option X) → is_some o ≡ true → IsSome o
 some_of None e = absurd cc
@@ -212,14 +213,14 @@ module _ {P H : Type 0} where
         here = taken_here maker name c f can named;
       }
   can_at maker (MakeHeap at) c f can counts = tt
-  can_at maker (CountHeap lease) c f can counts = (counts.heaps, omega (arith, can.frame.shape.4.0, has_memory f.asked can.frame.shape.4.1))
+  can_at maker (CountHeap lease) c f can counts = (omega (arith, counts (counted_object heap_kind)), omega (arith, can.frame.shape.4.0, has_memory f.asked can.frame.shape.4.1))
   can_at maker (PutNoHeap at) c f can counts =
       let named : IsHeapName c.plan at.name = can.frame.shape.2 in
       record { list = heaps_part maker c can.core (omega (arith, named.inside)); out = put_out maker at c f can named }
-  can_at maker (UncountHeap lease memory) c f can counts = omega (arith, can.fits.heaps)
+  can_at maker (UncountHeap lease memory) c f can counts = omega (arith, counted_fits c (in_phase (UncountHeap lease memory) f) can.fits (only (counted_object heap_kind)))
   can_at maker (PutHeap lease memory) c f can counts = record { list = heaps_part maker c can.core (omega (arith, can.frame.shape.2)); out = (heap_back_is_away maker lease memory c f can.core can.fits).out }
   can_at maker (FreeHeap name memory) c f can counts = can_free_of maker name (FreeHeap name memory) c f can (heap_inside c.plan name can.frame.shape.2) (omega (arith, slot_once name))
-  can_at maker CountInstance c f can counts = counts.instances
+  can_at maker CountInstance c f can counts = omega (arith, counts counted_instance)
   can_at maker (Pick tried) c f can counts = (record { memories = can.frame.stripe; tables = can.core.plan.tables; stacks = can.core.plan.stacks; heaps = can.core.plan.heaps }, record { inside = can.frame.shape.2; placed = (allocator_is c.plan (length c.parts) (kind_next f) f.stripe can.core.plan can.frame.stripe).placed }, shard_part maker (shard_tried tried c.plan f) c can.core (tried_is_shard tried c.plan (length c.parts) f can.core.plan can.frame.stripe), omega (arith, can.frame.shape.1.to_grant.few, can.frame.shape.1.to_grant.supported.few))
   can_at maker TakeQueue c f can counts =
       let settled = can.frame.shape.0 in
@@ -235,9 +236,9 @@ module _ {P H : Type 0} where
       (has_next c.settings c.plan (in_phase (MakeMemory slot held) f) can.frame.shape.1 can.frame.shape.4, can_make maker c.settings c.plan slot.name held (in_phase (MakeMemory slot held) f) can.core.page can.core.settings can.frame.shape.1 can.frame.shape.2 can.frame.shape.3)
   can_at maker (MakeTable slot region) c f can counts =
       (has_table_next c.settings c.plan (in_phase (MakeTable slot region) f) can.frame.shape.1 can.frame.shape.3, can_make_table maker c.settings c.plan slot.name region (in_phase (MakeTable slot region) f) can.core.settings can.frame.shape.1 can.frame.shape.2)
-  can_at maker (CountObject (Memory lease)) c f can counts = (counts.memories, omega (arith, can.frame.shape.4, can.frame.shape.1.to_grant.room))
-  can_at maker (CountObject (Table lease)) c f can counts = (counts.tables, omega (arith, can.frame.shape.1.more, can.frame.shape.4.0, can.frame.shape.4.1, can.frame.shape.1.to_grant.few, can.frame.shape.1.to_grant.table_room))
-  can_at maker (CountObject (Stack lease)) c f can counts = counts.stacks
+  can_at maker (CountObject (Memory lease)) c f can counts = (omega (arith, counts (counted_object memory_kind)), omega (arith, can.frame.shape.4, can.frame.shape.1.to_grant.room))
+  can_at maker (CountObject (Table lease)) c f can counts = (omega (arith, counts (counted_object table_kind)), omega (arith, can.frame.shape.1.more, can.frame.shape.4.0, can.frame.shape.4.1, can.frame.shape.1.to_grant.few, can.frame.shape.1.to_grant.table_room))
+  can_at maker (CountObject (Stack lease)) c f can counts = omega (arith, counts (counted_object stack_kind))
   can_at maker (PutBack at held) c f can counts =
       let region = can.frame.shape.2 in
       let gone = phase_gone maker (PutBack at held) at.name c f can.core can.fits at.numbers region.named.cells (omega (arith, unit_once at.name at.numbers)) in
@@ -249,9 +250,9 @@ module _ {P H : Type 0} where
       used = some_of _ (back_is_used maker name c f can);
     },
   )
-  can_at maker (UncountObject (Memory lease)) c f can counts = omega (arith, can.fits.memories)
-  can_at maker (UncountObject (Table lease)) c f can counts = omega (arith, can.fits.tables)
-  can_at maker (UncountObject (Stack lease)) c f can counts = omega (arith, can.fits.stacks)
+  can_at maker (UncountObject (Memory lease)) c f can counts = omega (arith, counted_fits c (in_phase (UncountObject (Memory lease)) f) can.fits (only (counted_object memory_kind)))
+  can_at maker (UncountObject (Table lease)) c f can counts = omega (arith, counted_fits c (in_phase (UncountObject (Table lease)) f) can.fits (only (counted_object table_kind)))
+  can_at maker (UncountObject (Stack lease)) c f can counts = omega (arith, counted_fits c (in_phase (UncountObject (Stack lease)) f) can.fits (only (counted_object stack_kind)))
   can_at maker (Reset (Memory lease)) c f can counts =
       let settled = can.frame.shape.0 in
       record {
@@ -309,10 +310,10 @@ module _ {P H : Type 0} where
         },
       )
   can_at maker Flush c f can counts = can_flush maker (flush_step f.local f.freed.items) c f can (finds f.local f.freed.items)
-  can_at maker UncountInstance c f can counts = omega (arith, can.fits.instances, counts_one f.asked 1 can.frame.shape.2)
+  can_at maker UncountInstance c f can counts = omega (arith, counted_fits c (in_phase UncountInstance f) can.fits (only counted_instance), counts_one f.asked can.frame.shape.2)
   can_at maker (ValidateComponent info) c f can counts = tt
-  can_at maker CountComponent c f can counts = counts.components
-  can_at maker UncountComponent c f can counts = omega (arith, can.fits.components)
+  can_at maker CountComponent c f can counts = omega (arith, counts counted_component)
+  can_at maker UncountComponent c f can counts = omega (arith, counted_fits c (in_phase UncountComponent f) can.fits (only counted_component))
   can_at maker (Purge p step) c f can counts = can_purge maker p step c f can
   can_at maker (Release step) c f can counts = can_release maker step c f can
 
@@ -512,15 +513,15 @@ module _ {P H : Type 0} (maker : MakerTold) (old new : PartyTold) where
     pub fewer : is_idle f.phase ≡ false → steps_at (sizes_of c.settings c.plan) a.frame.phase a.frame + 1 ≤ steps_left c f
     pub searched : IsSearched c f → IsSearched a.core a.frame
 
-  told_ok : (p : Phase P H) (c : PoolCore P H) (f : Frame P H) (a : After P H) → is_idle p ≡ false → CountsComponents c p a → RowOk maker old new c (in_phase p f) a → StepOk c (in_phase p f) a
-  told_ok p c f a on components ok = record {
+  told_ok : (p : Phase P H) (c : PoolCore P H) (f : Frame P H) (a : After P H) → is_idle p ≡ false → RowOk maker old new c (in_phase p f) a → StepOk c (in_phase p f) a
+  told_ok p c f a on ok = record {
     core = ok.core;
     frame = ok.frame;
     granted = ok.granted_is;
-    conserves = record { places = ok.places; instances = ok.instances; components = components.same; memories = ok.memories; tables = ok.tables; stacks = ok.stacks; heaps = ok.heaps };
+    conserves = ok.conserves;
     settings = ok.settings;
     plan = ok.plan;
-    ends = record { answer = rw on ok.answer; instances = ok.instances_by_one; components = components.by_one; memories = ok.memories_by_one; tables = ok.tables_by_one; stacks = ok.stacks_by_one; heaps = ok.heaps_by_one };
+    ends = record { answer = rw on ok.answer; by_one = ok.by_one };
     goes = record { asked = ok.asked; way = ok.way };
     fewer = λ busy. ok.fewer;
     searched = ok.searched;
@@ -531,15 +532,15 @@ module _ {P H : Type 0} (maker : MakerTold) (old new : PartyTold) where
     core = can.core;
     frame = can.frame;
     granted = tt;
-    conserves = record { places = λ t. omega arith; instances = omega arith; components = omega arith; memories = omega arith; tables = omega arith; stacks = omega arith; heaps = omega arith };
+    conserves = λ w. omega arith;
     settings = refl;
     plan = refl;
-    ends = record { answer = refl; instances = omega arith; components = omega arith; memories = omega arith; tables = omega arith; stacks = omega arith; heaps = omega arith };
+    ends = record { answer = refl; by_one = λ k. omega arith };
     goes = record { asked = λ on. absurd cc; way = tt };
     fewer = λ busy. absurd cc;
     searched = λ s. tt;
   }
-  steps_at_ok g p c f can told asks makes = told_ok p c f _ refl (counts_components g p c f can.fits.components) (rows_ok g p c f refl can told asks makes)
+  steps_at_ok g p c f can told asks makes = told_ok p c f _ refl (rows_ok g p c f refl can told asks makes)
 
   pub step_ok : (c : PoolCore P H) (f : Frame P H) (a : After P H) → CanStep maker c f → StepsTo old new c f a → StepOk c f a
   step_ok c f a can steps =

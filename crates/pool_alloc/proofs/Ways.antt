@@ -25,6 +25,7 @@ use Rattle.pool_alloc.specs.declared.frame.Asked.{Asked}
 use Rattle.pool_alloc.specs.declared.frame.Asked.TheVariants.{Stack as stack_asked, Heap as heap_asked}
 use Rattle.pool_alloc.specs.declared.frame.Phase.{Phase}
 use Rattle.pool_alloc.proofs.Hands.{one_more, in_phase, is_admitted, Held, Kept}
+use Rattle.pool_alloc.specs.Places.{number_counted}
 
 -- what holds of each element by its place, with one more at the end
 pub push_at : {X : Type 0} (Q : ℕ → X → Type 0) (xs : List X) (x : X) → ((k : ℕ) → IfSome (slice_get xs k) (Q k)) → Q (length xs) x → (k : ℕ) → IfSome (slice_get (xs ++ x ∷ []) k) (Q k)
@@ -140,11 +141,7 @@ module _ {P H : Type 0} (maker : MakerTold) (old new : PartyTold) (d : PoolCore 
     asked = asked;
     settings = settings;
     plan = plan;
-    instances_by_one = omega (arith, ap (λ (n : Counters). n.core_instances) counters);
-    memories_by_one = omega (arith, ap (λ (n : Counters). n.memories) counters);
-    tables_by_one = omega (arith, ap (λ (n : Counters). n.tables) counters);
-    stacks_by_one = omega (arith, ap (λ (n : Counters). n.stacks) counters);
-    heaps_by_one = omega (arith, ap (λ (n : Counters). n.gc_heaps) counters);
+    by_one = λ k. omega (arith, ap (λ (x : Counters). number_counted k x) counters);
   }
 
   -- a call stays at its stage,

@@ -3,7 +3,7 @@ use Rattle.std.specs.Prelude.{◌≡◌, ◌+◌, List, [], ◌∷◌, None}
 use Rattle.pool_alloc.specs.declared.frame.Call.TheVariants as call
 use Rattle.pool_alloc.specs.declared.frame.Call.{Call}
 use Rattle.pool_alloc.specs.PartyTold.{PartyTold}
-use Rattle.pool_alloc.specs.Places.{Thing, kept_count, away_count}
+use Rattle.pool_alloc.specs.Places.{Weight, kept_count, away_weight}
 use Rattle.pool_alloc.specs.Stepping.{StepsTo}
 use Rattle.pool_alloc.specs.Turns.{After}
 use Rattle.pool_alloc.specs.declared.pool_core.PoolCore.{PoolCore}
@@ -25,13 +25,7 @@ module _ {P H : Type 0} where
   IsAsking (call.GiveBack grant) = ⊥
   IsAsking _ = Unit {0}
 
-  -- Every count is as it was: how many instances, components, memories, tables, stacks and heaps there are, and what is given
-  -- out less what queues keep of it.
-  pub record HasSameCounts (old new : PoolCore P H) : Type 0 where
-    pub given : (t : Thing) → away_count t new + kept_count t old ≡ away_count t old + kept_count t new
-    pub instances : new.counters.core_instances ≡ old.counters.core_instances
-    pub components : new.counters.component_instances ≡ old.counters.component_instances
-    pub memories : new.counters.memories ≡ old.counters.memories
-    pub tables : new.counters.tables ≡ old.counters.tables
-    pub stacks : new.counters.stacks ≡ old.counters.stacks
-    pub heaps : new.counters.gc_heaps ≡ old.counters.gc_heaps
+  -- Every count is as it was, whatever each weighs: how many instances, components, memories, tables, stacks and heaps there
+  -- are, and what is given out less what queues keep of it.
+  abbrev pub HasSameCounts : PoolCore P H → PoolCore P H → Type 0
+  HasSameCounts old new = (w : Weight) → away_weight w new + kept_count w.unit old ≡ away_weight w old + kept_count w.unit new

@@ -1,9 +1,10 @@
 -- Where each slot and each region is: with the pool, with a party's call, or in a grant. Each that is given out is counted
--- once.
-use Rattle.std.specs.Prelude.{ℕ, ◌+◌, List, length, sum_by, remove}
-use Rattle.pool_alloc.specs.Imports.{Queued, total, UnitName, unit_right, unit_region, units_of_slots, is_right, is_region, all_away, all_kept, RegionNumbers, SlotName}
+-- once. The same measure weighs what the pool's counters count.
+use Rattle.std.specs.Prelude.{ℕ, ◌+◌, ◌*◌, List, length, sum_by, remove}
+use Rattle.pool_alloc.specs.Imports.{Queued, total, UnitName, unit_right, unit_region, units_of_slots, is_right, is_region, all_away, all_kept, RegionNumbers, SlotName, SlotKind, memory_kind, table_kind, stack_kind, heap_kind}
 use Rattle.pool_alloc.specs.HeapLeases.{LeasedHeap, heap_slot_taken}
 use Rattle.pool_alloc.specs.Leases.{Lease, memory_slot, slot_taken}
+use Rattle.pool_alloc.specs.declared.pool_core.Counters.{Counters}
 use Rattle.pool_alloc.specs.declared.pool_core.PoolCore.{PoolCore}
 use Rattle.pool_alloc.specs.declared.frame.Frame.{Frame}
 use Rattle.pool_alloc.specs.declared.frame.FreedSlot.{FreedSlot}
@@ -13,8 +14,6 @@ use Rattle.pool_alloc.specs.Objects.{slot_of_object}
 use Rattle.pool_alloc.specs.TableLeases.{LeasedTable, table_slot}
 use Rattle.pool_alloc.specs.declared.frame.Asked.{Asked}
 use Rattle.pool_alloc.specs.declared.frame.Asked.TheVariants.{Stack as stack_asked, Heap as heap_asked}
-use Rattle.pool_alloc.specs.declared.frame.Object.{Object}
-use Rattle.pool_alloc.specs.declared.frame.Object.TheVariants.{Memory, Table, Stack}
 use Rattle.pool_alloc.specs.declared.frame.TakenSlot.{TakenSlot}
 use Rattle.pool_alloc.specs.declared.lease.InstanceLease.{InstanceLease}
 use Rattle.pool_alloc.specs.declared.purge.PurgeStep.{PurgeStep}
@@ -22,8 +21,7 @@ use Rattle.pool_alloc.specs.declared.purge.PurgeStep.TheVariants as purging_step
 use Rattle.pool_alloc.specs.declared.release.ReleaseStep.{ReleaseStep}
 use Rattle.pool_alloc.specs.declared.release.ReleaseStep.TheVariants as releasing_step
 
--- What is counted: a weight for each unit. The right to use a slot is one, and so is its region, whatever numbers its unit
--- tells.
+-- A weight for each unit. The right to use a slot is one, and so is its region, whatever numbers its unit tells.
 abbrev pub Thing : Type 0
 Thing = UnitName → ℕ
 
@@ -34,6 +32,39 @@ right_to name = is_right name
 -- The weight that counts the region of one slot, and nothing else.
 abbrev pub region_of : SlotName → Thing
 region_of name = is_region name
+
+-- What the pool counts: an instance, a component, or an object of a kind.
+pub data Counter : Type 0 where
+  counted_instance : Counter
+  counted_component : Counter
+  counted_object : SlotKind → Counter
+
+-- A weight for each that is counted.
+abbrev pub Counts : Type 0
+Counts = Counter → ℕ
+
+-- The weight that counts one of them, and nothing else.
+abbrev pub only : Counter → Counts
+only counted_instance counted_instance = 1
+only counted_component counted_component = 1
+only (counted_object memory_kind) (counted_object memory_kind) = 1
+only (counted_object table_kind) (counted_object table_kind) = 1
+only (counted_object stack_kind) (counted_object stack_kind) = 1
+only (counted_object heap_kind) (counted_object heap_kind) = 1
+only _ _ = 0
+
+-- One measure of all that the pool gives out and counts: a weight for each unit, and one for each that is counted.
+pub record Weight : Type 0 where
+  pub unit : Thing
+  pub counts : Counts
+
+-- The weight of units alone.
+abbrev pub of_units : Thing → Weight
+of_units t = record { unit = t; counts = λ k. 0 }
+
+-- The weight of what is counted alone.
+abbrev pub of_counts : Counts → Weight
+of_counts n = record { unit = λ u. 0; counts = n }
 
 -- What the right to a slot weighs.
 abbrev pub slot_count : Thing → SlotName → ℕ
@@ -71,11 +102,21 @@ tables_count t leases = sum_by (λ l. both_count t (table_slot l.index) l.number
 abbrev pub freed_count : Thing → List FreedSlot → ℕ
 freed_count t slots = sum_by (λ x. slot_count t x.name) slots
 
--- a call for a stack or a heap counts no instance
-abbrev pub instances_for : Asked → ℕ → ℕ
-instances_for stack_asked n = 0
-instances_for (heap_asked ty) n = 0
-instances_for _ n = n
+-- how many instances a call counts: one for a stack or a heap counts none
+abbrev pub instances_for : Asked → ℕ
+instances_for stack_asked = 0
+instances_for (heap_asked ty) = 0
+instances_for _ = 1
+
+-- What a pool has counted.
+abbrev pub counters_counted : Counts → Counters → ℕ
+counters_counted n x =
+    x.core_instances * n counted_instance + x.component_instances * n counted_component
+    + x.memories * n (counted_object memory_kind) + x.tables * n (counted_object table_kind) + x.stacks * n (counted_object stack_kind) + x.gc_heaps * n (counted_object heap_kind)
+
+-- How many of one are counted.
+abbrev pub number_counted : Counter → Counters → ℕ
+number_counted k x = counters_counted (only k) x
 
 module _ {P H : Type 0} where
   -- What the pool's parts have given out.
@@ -86,10 +127,18 @@ module _ {P H : Type 0} where
   abbrev pub kept_count : Thing → PoolCore P H → ℕ
   kept_count t c = total t (all_kept c.parts)
 
+  -- What the pool has given out, and counted.
+  abbrev pub away_weight : Weight → PoolCore P H → ℕ
+  away_weight w c = away_count w.unit c + counters_counted w.counts c.counters
+
 module _ {P : Type 0} where
   -- What the slots and regions of an instance weigh.
   abbrev pub instance_count : Thing → InstanceLease P → ℕ
   instance_count t lease = leased_count t lease.memories.items + tables_count t lease.tables.items
+
+  -- What is counted of an instance's objects.
+  abbrev pub instance_counted : Counts → InstanceLease P → ℕ
+  instance_counted n lease = length lease.memories.items * n (counted_object memory_kind) + length lease.tables.items * n (counted_object table_kind)
 
   -- What a purge has taken for its next step.
   abbrev pub purge_count : Thing → PurgeStep P → ℕ
@@ -151,59 +200,24 @@ module _ {P H : Type 0} where
   phase_instances (Release step) = 0
   phase_instances _ = 1
 
-  -- 1 where the phase is that of a component which is counted off next, as it is counted still.
-  abbrev pub phase_components : Phase P H → ℕ
-  phase_components UncountComponent = 1
-  phase_components _ = 0
+  -- What is counted still of what the phase has: an object, a heap or a component that is counted off next, or the memory of a
+  -- heap on its way back.
+  abbrev pub phase_counted : Counts → Phase P H → ℕ
+  phase_counted n (UncountObject object) = n (counted_object (slot_of_object object).name.kind)
+  phase_counted n (UncountHeap lease memory) = n (counted_object heap_kind) + n (counted_object memory_kind)
+  phase_counted n (PutHeap lease memory) = n (counted_object memory_kind)
+  phase_counted n (FreeHeap name memory) = n (counted_object memory_kind)
+  phase_counted n UncountComponent = n counted_component
+  phase_counted n _ = 0
 
   -- How many counted instances a frame's call has: one from its count to its end, if it is for an instance.
   abbrev pub frame_instances : Frame P H → ℕ
-  frame_instances f = instances_for f.asked (phase_instances f.phase)
+  frame_instances f = phase_instances f.phase * instances_for f.asked
 
-module _ {P : Type 0} where
-  -- 1 for an object that is a memory.
-  abbrev pub memory_in : Object P → ℕ
-  memory_in (Memory lease) = 1
-  memory_in _ = 0
+  -- What a party's call has counted.
+  abbrev pub frame_counted : Counts → Frame P H → ℕ
+  frame_counted n f = instance_counted n f.objects + phase_counted n f.phase + frame_instances f * n counted_instance
 
-  -- 1 for an object that is a table.
-  abbrev pub table_in : Object P → ℕ
-  table_in (Table lease) = 1
-  table_in _ = 0
-
-  -- 1 for an object that is a stack.
-  abbrev pub stack_in : Object P → ℕ
-  stack_in (Stack lease) = 1
-  stack_in _ = 0
-
-module _ {P H : Type 0} where
-  -- How many counted memories the phase itself has: one that is counted off next, or that of a heap on its way back.
-  abbrev pub phase_memories : Phase P H → ℕ
-  phase_memories (UncountObject object) = memory_in object
-  phase_memories (UncountHeap lease memory) = 1
-  phase_memories (PutHeap lease memory) = 1
-  phase_memories (FreeHeap name memory) = 1
-  phase_memories _ = 0
-
-  -- How many counted memories a frame has: those of its objects and that of its phase.
-  abbrev pub frame_memories : Frame P H → ℕ
-  frame_memories f = length f.objects.memories.items + phase_memories f.phase
-
-  -- How many counted tables the phase itself has: one that is counted off next.
-  abbrev pub phase_tables : Phase P H → ℕ
-  phase_tables (UncountObject object) = table_in object
-  phase_tables _ = 0
-
-  -- How many counted tables a frame has: those of its objects and that of its phase.
-  abbrev pub frame_tables : Frame P H → ℕ
-  frame_tables f = length f.objects.tables.items + phase_tables f.phase
-
-  -- How many counted stacks the phase itself has: one that is counted off next.
-  abbrev pub phase_stacks : Phase P H → ℕ
-  phase_stacks (UncountObject object) = stack_in object
-  phase_stacks _ = 0
-
-  -- How many counted heaps the phase itself has: one that is counted off next.
-  abbrev pub phase_heaps : Phase P H → ℕ
-  phase_heaps (UncountHeap lease memory) = 1
-  phase_heaps _ = 0
+  -- What a party's call has, and has counted.
+  abbrev pub frame_weight : Weight → Frame P H → ℕ
+  frame_weight w f = frame_count w.unit f + frame_counted w.counts f

@@ -14,8 +14,8 @@ use Rattle.pool_alloc.specs.PoolTables.{IsPoolTable, IsInTableCell, IsTableRegio
 use Rattle.pool_alloc.specs.Modules.{HasImages, IfAllocated, IfTable}
 use Rattle.pool_alloc.specs.RangeRuns.{IsGrouped}
 use Rattle.pool_alloc.specs.Turns.{is_granting, is_flushed}
-use Rattle.pool_alloc.specs.Steps.{memories_wanted, images_wanted, image_wanted, memory_slots, queues_searched, allocator_for, tables_wanted, stacks_wanted, heaps_wanted, IsForInstance, IsHeapAsked, kind_next, IsModule}
-use Rattle.pool_alloc.specs.Places.{Thing, right_to, region_of, kept_count, away_count, frame_count, frame_instances, frame_memories, frame_tables, phase_stacks, phase_heaps, phase_instances, phase_components}
+use Rattle.pool_alloc.specs.Steps.{memories_wanted, images_wanted, image_wanted, memory_slots, queues_searched, allocator_for, tables_wanted, heaps_wanted, IsForInstance, IsHeapAsked, kind_next, IsModule}
+use Rattle.pool_alloc.specs.Places.{right_to, region_of, Weight, kept_count, away_count, away_weight, frame_count, frame_weight}
 use Rattle.pool_alloc.specs.declared.pool_core.PoolCore.{PoolCore}
 use Rattle.pool_alloc.specs.declared.pool_core.Settings.{Settings}
 use Rattle.pool_alloc.specs.declared.frame.Ending.{Ending}
@@ -504,11 +504,5 @@ module _ {P H : Type 0} where
   -- What the frame has fits what the pool has given out: that is with the frame, in a queue, or with others, who have no
   -- region without its slot. What the frame has counted is counted.
   pub record FitsCore (c : PoolCore P H) (f : Frame P H) : Type 0 where
-    pub once : (t : Thing) → kept_count t c + frame_count t f ≤ away_count t c
+    pub once : (w : Weight) → kept_count w.unit c + frame_weight w f ≤ away_weight w c
     pub others : (name : SlotName) → away_count (region_of name) c + (kept_count (right_to name) c + frame_count (right_to name) f) ≤ away_count (right_to name) c + (kept_count (region_of name) c + frame_count (region_of name) f)
-    pub instances : frame_instances f ≤ c.counters.core_instances
-    pub components : phase_components f.phase ≤ c.counters.component_instances
-    pub memories : frame_memories f ≤ c.counters.memories
-    pub tables : frame_tables f ≤ c.counters.tables
-    pub stacks : phase_stacks f.phase ≤ c.counters.stacks
-    pub heaps : phase_heaps f.phase ≤ c.counters.gc_heaps

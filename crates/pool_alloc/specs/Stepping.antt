@@ -1,14 +1,15 @@
 -- A step: a row of the table under answers that may come, and what it keeps.
-use Rattle.std.specs.Prelude.{◌≡◌, ◌⊎◌, ℕ, ◌+◌, ◌^◌, ◌<◌, ◌≤◌, ◌&&◌, length, List, Bool, true, false, not, Option, Some, None, is_some}
-use Rattle.pool_alloc.specs.Imports.{MakerTold, Exchange, ShardState, CellState, HeapEntry, SlotName, Queue}
+use Rattle.std.specs.Prelude.{◌≡◌, ◌⊎◌, ℕ, ◌+◌, ◌^◌, ◌<◌, ◌≤◌, ◌&&◌, List, Bool, true, false, not, Option, Some, None, is_some}
+use Rattle.pool_alloc.specs.Imports.{MakerTold, Exchange, ShardState, CellState, HeapEntry, SlotName, Queue, memory_kind, table_kind, stack_kind, heap_kind}
 use Rattle.pool_alloc.specs.PartyTold.{PartyTold}
 use Rattle.pool_alloc.specs.Steps.{StepGiven, with_shard, with_cell, with_queue, counting_keys, counting_instances, counting_memories, counting_tables, counting_stacks, counting_heaps, counting_components, with_heaps}
 use Rattle.pool_alloc.specs.StackLeases.{stack_taken}
 use Rattle.pool_alloc.specs.Turns.{After}
 use Rattle.pool_alloc.specs.Rows.{row}
 use Rattle.pool_alloc.specs.Answers.{MayBeTold, IsPlanned, AsksOf, MakesOf, LimiterHears}
-use Rattle.pool_alloc.specs.Places.{Thing, kept_count, away_count, frame_count, instance_count, taken_count, heap_count, frame_instances, frame_memories, frame_tables, phase_stacks, phase_heaps, phase_instances, phase_components}
+use Rattle.pool_alloc.specs.Places.{Thing, Counter, Counts, number_counted, counted_instance, counted_component, counted_object, only, Weight, kept_count, away_weight, frame_weight, instance_count, instance_counted, taken_count, heap_count}
 use Rattle.pool_alloc.specs.Sound.{IsCore, IsFrame, FitsCore}
+use Rattle.pool_alloc.specs.declared.pool_core.Counters.{Counters}
 use Rattle.pool_alloc.specs.declared.pool_core.PoolCore.{PoolCore}
 use Rattle.pool_alloc.specs.declared.frame.Frame.{Frame}
 use Rattle.pool_alloc.specs.declared.frame.Phase.{Phase}
@@ -18,6 +19,10 @@ use Rattle.pool_alloc.specs.declared.frame.Grant.TheVariants.{Instance, Stack, H
 use Rattle.pool_alloc.specs.declared.frame.Outcome.{Outcome}
 use Rattle.pool_alloc.specs.declared.frame.Outcome.TheVariants.{Key, Granted, Returned, Purged, Released, Refused}
 
+-- No counter but the key rose by more than one.
+abbrev pub RiseByOne : Counters → Counters → Type 0
+RiseByOne old new = (k : Counter) → number_counted k new ≤ number_counted k old + 1
+
 module _ {P H : Type 0} where
   -- What the slots and regions of a grant weigh.
   abbrev pub grant_count : Thing → Grant P H → ℕ
@@ -26,47 +31,40 @@ module _ {P H : Type 0} where
   grant_count t (Stack lease) = taken_count t (stack_taken lease)
   grant_count t (Heap lease memory) = heap_count t lease memory
 
+  -- What is counted of a grant.
+  abbrev pub grant_counted : Counts → Grant P H → ℕ
+  grant_counted n (Instance lease) = n counted_instance + instance_counted n lease
+  grant_counted n Component = n counted_component
+  grant_counted n (Stack lease) = n (counted_object stack_kind)
+  grant_counted n (Heap lease memory) = n (counted_object heap_kind) + n (counted_object memory_kind)
+
+  -- What a grant has, and is counted for.
+  abbrev pub grant_weight : Weight → Grant P H → ℕ
+  grant_weight w grant = grant_count w.unit grant + grant_counted w.counts grant
+
   -- 1 for a grant that is an instance.
   abbrev pub grant_instances : Grant P H → ℕ
-  grant_instances (Instance lease) = 1
-  grant_instances Component = 0
-  grant_instances (Stack lease) = 0
-  grant_instances (Heap lease memory) = 0
+  grant_instances grant = grant_counted (only counted_instance) grant
 
   -- 1 for a grant that is a component.
   abbrev pub grant_components : Grant P H → ℕ
-  grant_components (Instance lease) = 0
-  grant_components Component = 1
-  grant_components (Stack lease) = 0
-  grant_components (Heap lease memory) = 0
+  grant_components grant = grant_counted (only counted_component) grant
 
   -- How many memories a grant has: an instance's, or the one of a heap.
   abbrev pub grant_memories : Grant P H → ℕ
-  grant_memories (Instance lease) = length lease.memories.items
-  grant_memories Component = 0
-  grant_memories (Stack lease) = 0
-  grant_memories (Heap lease memory) = 1
+  grant_memories grant = grant_counted (only (counted_object memory_kind)) grant
 
   -- How many tables a grant has.
   abbrev pub grant_tables : Grant P H → ℕ
-  grant_tables (Instance lease) = length lease.tables.items
-  grant_tables Component = 0
-  grant_tables (Stack lease) = 0
-  grant_tables (Heap lease memory) = 0
+  grant_tables grant = grant_counted (only (counted_object table_kind)) grant
 
   -- 1 for a grant that is a stack.
   abbrev pub grant_stacks : Grant P H → ℕ
-  grant_stacks (Instance lease) = 0
-  grant_stacks Component = 0
-  grant_stacks (Stack lease) = 1
-  grant_stacks (Heap lease memory) = 0
+  grant_stacks grant = grant_counted (only (counted_object stack_kind)) grant
 
   -- 1 for a grant that is a heap.
   abbrev pub grant_heaps : Grant P H → ℕ
-  grant_heaps (Instance lease) = 0
-  grant_heaps Component = 0
-  grant_heaps (Stack lease) = 0
-  grant_heaps (Heap lease memory) = 1
+  grant_heaps grant = grant_counted (only (counted_object heap_kind)) grant
 
   -- the number that an answer has of what grants have
   abbrev pub count_granted : (Grant P H → ℕ) → Option (Outcome P H) → ℕ
@@ -95,16 +93,10 @@ module _ {P H : Type 0} where
   abbrev pub StepsAsking : (List Exchange → Type 0) → PartyTold → PartyTold → PoolCore P H → Frame P H → After P H → Type 0
   StepsAsking Passes old new c f a = (g : StepGiven H) × (Takes old new g c f a × LimiterHears Passes g f.phase f)
 
-  -- Nothing is lost or made: what the pool gives out in the step comes into the frame, the grant or a queue, and what it
-  -- takes back leaves them. Counters change as what is counted.
-  pub record Conserves (c : PoolCore P H) (f : Frame P H) (a : After P H) : Type 0 where
-    pub places : (t : Thing) → kept_count t a.core + (frame_count t a.frame + count_granted (grant_count t) a.outcome) + away_count t c ≡ kept_count t c + frame_count t f + away_count t a.core
-    pub instances : a.core.counters.core_instances + frame_instances f ≡ c.counters.core_instances + (frame_instances a.frame + count_granted grant_instances a.outcome)
-    pub components : a.core.counters.component_instances + phase_components f.phase ≡ c.counters.component_instances + (phase_components a.frame.phase + count_granted grant_components a.outcome)
-    pub memories : a.core.counters.memories + frame_memories f ≡ c.counters.memories + (frame_memories a.frame + count_granted grant_memories a.outcome)
-    pub tables : a.core.counters.tables + frame_tables f ≡ c.counters.tables + (frame_tables a.frame + count_granted grant_tables a.outcome)
-    pub stacks : a.core.counters.stacks + phase_stacks f.phase ≡ c.counters.stacks + (phase_stacks a.frame.phase + count_granted grant_stacks a.outcome)
-    pub heaps : a.core.counters.gc_heaps + phase_heaps f.phase ≡ c.counters.gc_heaps + (phase_heaps a.frame.phase + count_granted grant_heaps a.outcome)
+  -- Nothing is lost or made, whatever each weighs: what the pool gives out in the step comes into the frame, the grant or a
+  -- queue, and what it takes back leaves them. Counters change as what is counted.
+  abbrev pub Conserves : PoolCore P H → Frame P H → After P H → Type 0
+  Conserves c f a = (w : Weight) → kept_count w.unit a.core + (frame_weight w a.frame + count_granted (grant_weight w) a.outcome) + away_weight w c ≡ kept_count w.unit c + frame_weight w f + away_weight w a.core
 
   -- What no step changes: the settings and the plan, and so how many slots, shards and queues there are.
   pub record IsSameSize (old new : PoolCore P H) : Type 0 where
@@ -148,21 +140,11 @@ module _ {P H : Type 0} where
   -- A step answers exactly where the call that was under way ends with it. No counter but the key rises by more than one.
   pub record EndsWith (c : PoolCore P H) (f : Frame P H) (a : After P H) : Type 0 where
     pub answer : is_some a.outcome ≡ (not (is_idle f.phase) && is_idle a.frame.phase)
-    pub instances : a.core.counters.core_instances ≤ c.counters.core_instances + 1
-    pub components : a.core.counters.component_instances ≤ c.counters.component_instances + 1
-    pub memories : a.core.counters.memories ≤ c.counters.memories + 1
-    pub tables : a.core.counters.tables ≤ c.counters.tables + 1
-    pub stacks : a.core.counters.stacks ≤ c.counters.stacks + 1
-    pub heaps : a.core.counters.gc_heaps ≤ c.counters.gc_heaps + 1
+    pub by_one : RiseByOne c.counters a.core.counters
 
   -- no counter but the key stands at its end
-  pub record CanCount (c : PoolCore P H) : Type 0 where
-    pub instances : c.counters.core_instances + 1 < 2 ^ 64
-    pub components : c.counters.component_instances + 1 < 2 ^ 64
-    pub memories : c.counters.memories + 1 < 2 ^ 64
-    pub tables : c.counters.tables + 1 < 2 ^ 64
-    pub stacks : c.counters.stacks + 1 < 2 ^ 64
-    pub heaps : c.counters.gc_heaps + 1 < 2 ^ 64
+  abbrev pub CanCount : PoolCore P H → Type 0
+  CanCount c = (k : Counter) → number_counted k c.counters + 1 < 2 ^ 64
 
   -- the frame can make a step on the core
   pub record CanStep (maker : MakerTold) (c : PoolCore P H) (f : Frame P H) : Type 0 where

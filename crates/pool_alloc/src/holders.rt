@@ -3,7 +3,7 @@ ghost use Rattle.pool_pages.specs.MakerTold.{MakerTold};
 ghost use Rattle.pool_slots.specs.declared.slot_name.SlotName.{SlotName};
 ghost use Rattle.pool_slots.specs.Parts.{part_at};
 ghost use Rattle.pool_alloc.specs.PartFlows.{FlowsOnPart};
-ghost use Rattle.pool_alloc.specs.Places.{Thing, right_to, kept_count, frame_count};
+ghost use Rattle.pool_alloc.specs.Places.{Thing, right_to, of_units, kept_count, frame_count};
 ghost use Rattle.pool_alloc.specs.Sound.{IsCore, FitsCore};
 ghost use Rattle.pool_alloc.specs.Stepping.{Conserves, count_granted, grant_count};
 ghost use Rattle.pool_alloc.specs.Turns.{After};
@@ -21,8 +21,8 @@ impl<P: Pages, H: GcHeap> PoolCore<P, H> {
     pub fn holders_law(&self, frame: &Frame<P, H>)
         ensures slots { HasSlots (held_by frame.now) }
         ensures fits { (holders : List Holding) (i : ℕ) (d rest : Holding) → IsPartitioned (λ h. h) self.now holders → All HasSlots holders → i < length holders → AddUp (held_by frame.now) rest (slice_index_or holders i d) → HasSlots rest → FitsCore self.now frame.now }
-        ensures apart { (maker : MakerTold) (holders : List Holding) (i j : ℕ) (name : SlotName) (d : Holding) → IsCore maker self.now → IsPartitioned (λ h. h) self.now holders → i < length holders → j < length holders → i ≢ j → (slice_index_or holders i d).places (right_to name) + (slice_index_or holders j d).places (right_to name) ≤ 1 }
-        ensures warm { (maker : MakerTold) (holders : List Holding) (name : SlotName) → IsCore maker self.now → IsPartitioned (λ h. h) self.now holders → 0 < kept_count (right_to name) self.now + sum_by (λ h. h.places (right_to name)) holders → times_warm name self.now ≡ 0 }
+        ensures apart { (maker : MakerTold) (holders : List Holding) (i j : ℕ) (name : SlotName) (d : Holding) → IsCore maker self.now → IsPartitioned (λ h. h) self.now holders → i < length holders → j < length holders → i ≢ j → slice_index_or holders i d (of_units (right_to name)) + slice_index_or holders j d (of_units (right_to name)) ≤ 1 }
+        ensures warm { (maker : MakerTold) (holders : List Holding) (name : SlotName) → IsCore maker self.now → IsPartitioned (λ h. h) self.now holders → 0 < kept_count (right_to name) self.now + sum_by (λ h. h (of_units (right_to name))) holders → times_warm name self.now ≡ 0 }
     {}
     /// A law, which does nothing: what the one part that a step changes gives out more, it keeps itself, or the call has it
     /// or ends with it. Where a step changes no part, the call has what it had.
