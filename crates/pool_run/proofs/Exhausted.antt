@@ -78,13 +78,13 @@ module _ {P L : Type 0} (named : ℕ → SlotName) (one : (k i : ℕ) → named 
 module _ {P : Type 0} where
   -- a grant is an instance, a component or neither to its party as it is counted
   one_instance : (g : Grant P PlainHeap) → instances_in (Some (private_grant g)) ≡ grant_instances g
-  one_instance (instance lease) = refl
+  one_instance (instance lease) = omega arith
   one_instance component = refl
   one_instance (stack lease) = refl
   one_instance (heap lease memory) = refl
 
   one_component : (g : Grant P PlainHeap) → components_in (Some (private_grant g)) ≡ grant_components g
-  one_component (instance lease) = refl
+  one_component (instance lease) = omega arith
   one_component component = refl
   one_component (stack lease) = refl
   one_component (heap lease memory) = refl

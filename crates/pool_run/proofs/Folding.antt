@@ -76,9 +76,7 @@ module _ {P : Type 0} where
   -- A party that is alone stays so.
   alone_turned : (c : PoolCore P PlainHeap) (p : RunningParty P) (t : Turned P) → HasTurned c p t → IsAlone c p.frame p.live → IsAlone t.core t.party.frame t.party.live
   alone_turned c p t turned alone = record {
-    places = λ x. omega (arith, turned.places x, alone.places x);
-    instances = omega (arith, turned.instances, alone.instances);
-    components = omega (arith, turned.components, alone.components);
+    whole = λ w. omega (arith, turned.conserves w, alone.whole w);
     searched = turned.searched alone.searched;
   }
 

@@ -12,7 +12,7 @@ pub use Rattle.std.proofs.lemmas.Option.{get_or_from_slice_get, same_Some, slice
 pub use Rattle.std.specs.List.{AllByRecursion, AllZip, concat, list_all, list_any, range_with_len, slice_get}
 pub use Rattle.std.specs.Option.{option_and_then, option_map_or, option_or}
 pub use Rattle.std.specs.Vec.Iter.{into_iter_items}
-pub use Rattle.pool_alloc.proofs.BegunCalls.{at_rest, begun_bounded, begun_components, begun_count, begun_frame, begun_heaps, begun_instances, begun_memories, begun_stacks, begun_tables, call_has, idle_left, made_components, made_count, made_frame, made_heaps, made_instances, made_memories, made_stacks, made_tables, steps_left_same}
+pub use Rattle.pool_alloc.proofs.BegunCalls.{at_rest, begun_bounded, begun_frame, begun_weight, call_has, idle_left, made_frame, made_weight, steps_left_same}
 pub use Rattle.pool_alloc.proofs.Below.{below, below_most, below_one, below_sum}
 pub use Rattle.pool_alloc.proofs.Hands.{frame_of, held_of}
 pub use Rattle.pool_alloc.proofs.Held.{frame_regions, none_past, right_is_out}
@@ -28,6 +28,7 @@ pub use Rattle.pool_alloc.proofs.Steps.{same_size, step_fewer, step_grants, step
 pub use Rattle.pool_alloc.proofs.Striping.{some_stripes}
 pub use Rattle.pool_alloc.proofs.Untouched.{HasNothing, none_away, none_kept, untouched_is_whole}
 pub use Rattle.pool_alloc.proofs.UsedSlots.{kept_sum, picked_was_in, used_is_out}
+pub use Rattle.pool_alloc.proofs.Weights.{conserves_units, frame_counts, frame_units, grant_counts, grant_units, no_total}
 pub use Rattle.pool_alloc.proofs.Wholes.{two_of_sum}
 pub use Rattle.pool_alloc.specs.Answers.{AsksForMemory, AsksOf, ByImage, Decommits, DecommitsWhole, Drains, Empties, FlushPlanned, FlushTold, FollowsDrain, FollowsForget, FollowsPlan, FollowsPlanFor, FollowsReset, FollowsRun, Forgets, InstantiatesAs, InstantiatesFor, IsPlanned, MakesOf, MayBeTold, RemovesImage, Resets}
 pub use Rattle.pool_alloc.specs.Asked.{ModuleAsked}
@@ -40,7 +41,7 @@ pub use Rattle.pool_alloc.specs.Modules.{HasImages}
 pub use Rattle.pool_alloc.specs.Objects.{objects_in, objects_wanted}
 pub use Rattle.pool_alloc.specs.Own.{heap_refusal, heap_refusal as heap_refusal_of, made_for, made_of, made_of_limits, memory_made}
 pub use Rattle.pool_alloc.specs.PartyTold.{MakesHeap, PartyTold}
-pub use Rattle.pool_alloc.specs.Places.{Thing, away_count, both_count, frame_count, frame_instances, instance_count, instances_for, kept_count, leased_count, phase_components, phase_count, phase_heaps, phase_instances, phase_memories, phase_stacks, phase_tables, queued_count, region_of, right_to, slot_count, tables_count, taken_count}
+pub use Rattle.pool_alloc.specs.Places.{Counter, Counts, Thing, Weight, away_count, away_weight, both_count, counted_component, counted_instance, counted_object, counters_counted, frame_count, frame_counted, frame_instances, frame_weight, instance_count, instance_counted, instances_for, kept_count, leased_count, number_counted, of_counts, of_units, only, phase_count, phase_counted, phase_instances, queued_count, region_of, right_to, slot_count, tables_count, taken_count}
 pub use Rattle.pool_alloc.specs.PoolStacks.{IsNewStack, IsPoolStack, IsStackLease}
 pub use Rattle.pool_alloc.specs.PoolTables.{IsBegunTable, IsPoolTable, IsTableLease}
 pub use Rattle.pool_alloc.specs.Purges.{after_forgetting, has_turns, known_after, pick_affine_row, purge_row}
@@ -52,7 +53,7 @@ pub use Rattle.pool_alloc.specs.Searches.{IsSearched, IsSearchedAt}
 pub use Rattle.pool_alloc.specs.Sound.{AreBegun, AreImagesOf, AreLeasesOf, AreSupported, HasSlot, IsAllocating, IsCore, IsDraining, IsEnabled, IsFrame, IsHeapNext, IsLeaseOf, IsLocal, IsMemoryNext, IsNew, IsPartAt, IsPartFor, IsPoolPlan, IsPoolSlot, IsQueuedOf, IsShapedAt, IsSlotName, IsSupported, IsTableNext, MayBeRanged, MayHold, MayQueue, MustBeByHand}
 pub use Rattle.pool_alloc.specs.StackLeases.{LeasedStack, stack_slot, stack_taken}
 pub use Rattle.pool_alloc.specs.Stages.{FailsHeap, FindsNone, Follows, Goes, GoesOn, HasHeap, IsBroken, IsHeapTested, IsHeapUntested, IsPageFaulted, IsUntested, Makes, MakesTable, Progress, Raises, SeeksHeap, Stage, admitted, asks, counts_component, counts_heap, keys, no_call, purging, refusing, releasing, reserving, returning, seeks_heap, seeks_stack, stage_at, stage_back, stage_by, stage_of, stage_of_release, tests_component, tests_heap, uncounted, untested}
-pub use Rattle.pool_alloc.specs.Stepping.{CanCount, CanStep, Conserves, IsSameSize, StepsTo, count_granted, grant_components, grant_count, grant_heaps, grant_instances, grant_memories, grant_stacks, grant_tables, is_idle}
+pub use Rattle.pool_alloc.specs.Stepping.{CanCount, CanStep, Conserves, IsSameSize, StepsTo, count_granted, grant_components, grant_count, grant_counted, grant_heaps, grant_instances, grant_memories, grant_stacks, grant_tables, grant_weight, is_idle}
 pub use Rattle.pool_alloc.specs.Steps.{IsForInstance, IsHeapAsked, IsModule, StepGiven, allocator_for, allocator_of, heaps_wanted, image_wanted, images_made, images_wanted, info_wanted, kind_by, kind_next, memories_wanted, memory_slots, no_allocator, no_module, plain_decl, queue_in, shard_at, shard_in, stripe_allocator, tables_wanted}
 pub use Rattle.pool_alloc.specs.Sums.{calls_kept, metrics_of}
 pub use Rattle.pool_alloc.specs.TableLeases.{IsElementAt, IsFilled, IsLengthened, IsSet, LeasedTable, LiesInRegion, SetsElements, element_of, table_slot, table_taken}
@@ -130,6 +131,7 @@ pub use Rattle.pool_slots.proofs.PlainSlots.{plain_after}
 pub use Rattle.pool_slots.proofs.PlansMade.{one_plan_with}
 pub use Rattle.pool_slots.proofs.SlotNames.{slot_is}
 pub use Rattle.pool_slots.proofs.StripedPlans.{follow}
+pub use Rattle.pool_slots.specs.ListUnits.{all_away, all_kept}
 pub use Rattle.pool_slots.specs.CellOf.{cell_of}
 pub use Rattle.pool_slots.specs.Cells.{Cell, previously_used, unknown}
 pub use Rattle.pool_slots.specs.Colourings.{FaultedColouring, fails_colouring, fails_first_call, fails_region, stripe_colour}

@@ -72,4 +72,5 @@ pub mod Turning
 pub mod TurnsMade
 pub mod Valid
 pub mod Wants
+pub mod Weighed
 pub mod WorldsMade

@@ -1,6 +1,6 @@
 -- No turn of a party takes more instances or components than there may be: a request is admitted only where fewer are counted.
-use Rattle.std.proofs.Common.{ℕ, ◌+◌, ◌<◌, ◌≤◌, List, length, Option, Some, None, sym, ap, subst, inl, inr, arith, sum_by, slice_set, slice_index_or}
-use Rattle.pool_run.proofs.Imports.{cases_lt, set_past, get_or_past, sum_by-set, objects_in, count_granted, grant_instances, grant_components, PoolCore, Frame, Grant, ModuleAsked, Outcome, MakerTold, stage_of, After, ListedHeaps, PlainHeap}
+use Rattle.std.proofs.Common.{◌≡◌, ℕ, ◌+◌, ◌<◌, ◌≤◌, List, length, Option, Some, None, sym, ap, subst, inl, inr, arith, sum_by, slice_set, slice_index_or}
+use Rattle.pool_run.proofs.Imports.{cases_lt, set_past, get_or_past, sum_by-set, objects_in, count_granted, grant_instances, grant_components, PoolCore, Frame, Grant, ModuleAsked, Outcome, MakerTold, stage_of, After, ListedHeaps, PlainHeap, Counts, counted_component, counted_instance, of_counts, only, grant_counted}
 use Rattle.pool_alloc.specs.declared.frame.Outcome.TheVariants as answer
 use Rattle.pool_run.specs.Limits.{admitted_at, admitted_to, live_components}
 use Rattle.pool_run.specs.Ties.{granted_to, held_by_party, CanTurn}
@@ -12,12 +12,17 @@ use Rattle.pool_run.specs.Rooms.{World}
 use Rattle.pool_run.specs.Worlds.{AreCallsFor}
 use Rattle.pool_run.proofs.StageSteps.{admitted_counts, Admits, admits, MayGrant, may_grant}
 use Rattle.pool_run.proofs.Stepped.{IsStepped, stepped}
-use Rattle.pool_run.proofs.Parties.{can_step}
+use Rattle.pool_run.proofs.Parties.{HaveSame, can_step}
+use Rattle.pool_run.proofs.Weighed.{live_counts, held_counts}
 
 module _ {P : Type 0} where
   -- A party has counted what it is admitted for.
-  pub admitted_held : (p : RunningParty P) → admitted_to p ≤ (held_by_party p).instances
-  admitted_held p = omega (arith, admitted_counts p.frame.phase p.frame.asked p.frame.ending (objects_in p.frame.objects))
+  pub admitted_held : (p : RunningParty P) → admitted_to p ≤ held_by_party p (of_counts (only counted_instance))
+  admitted_held p = omega (arith, admitted_counts p.frame.phase p.frame.asked p.frame.ending (objects_in p.frame.objects), held_counts (only counted_instance) p)
+
+  -- A party that has the same has as much live, with the same frame.
+  pub same_live : (n : Counts) (p : RunningParty P) (live : List (Option (Grant P PlainHeap))) → HaveSame p (record p { live = live }) → sum_by (granted_to (grant_counted n)) live ≡ sum_by (granted_to (grant_counted n)) p.live
+  same_live n p live same = omega (arith, same (of_counts n), live_counts n live, live_counts n p.live)
 
   -- what live grants have, once there is another in one of their places
   replaced : (of : Grant P PlainHeap → ℕ) (live : List (Option (Grant P PlainHeap))) (i : ℕ) (o : Option (Grant P PlainHeap)) → sum_by (granted_to of) (slice_set live i o) + granted_to of (slice_index_or live i None) ≤ sum_by (granted_to of) live + granted_to of o
@@ -57,7 +62,7 @@ module _ {P : Type 0} (others : ℕ) (c : PoolCore P PlainHeap) (p : RunningPart
 
   follows_within : (maker : MakerTold) (o : Opening P) (t : Turned P) → IsOpened maker c p o → Leaves o c p t → StaysWithin t
   follows_within maker rests t is follows = subst StaysWithin (sym follows) within
-  follows_within maker (replies reply live store) t is follows = subst StaysWithin (sym follows) (omega (arith, within, is.same.instances))
+  follows_within maker (replies reply live store) t is follows = subst StaysWithin (sym follows) (omega (arith, within, same_live (only counted_instance) p live is.same))
   follows_within maker (makes_step frame live) t is follows = step_within maker others c (record p { frame = frame; live = live }) t is.can follows (omega (arith, is.admitted, within)) (omega (arith, is.admitted, counted))
 
   -- Each turn of a party.
@@ -86,7 +91,7 @@ module _ {P : Type 0} (c : PoolCore P PlainHeap) (p : RunningParty P) where
 
   follows_components : (maker : MakerTold) (o : Opening P) (t : Turned P) → IsOpened maker c p o → Leaves o c p t → MayHave t
   follows_components maker rests t is follows = subst MayHave (sym follows) (no_more (omega arith))
-  follows_components maker (replies reply live store) t is follows = subst MayHave (sym follows) (no_more (omega (arith, is.same.components)))
+  follows_components maker (replies reply live store) t is follows = subst MayHave (sym follows) (no_more (omega (arith, same_live (only counted_component) p live is.same)))
   follows_components maker (makes_step frame live) t is follows =
       let a : After P PlainHeap = follows.0 in
       let q : RunningParty P = record p { frame = frame; live = live } in

@@ -1,6 +1,6 @@
 -- A run keeps within the limits on instances and components from its start on, whatever its parties do.
 use Rattle.std.proofs.Common.{◌≡◌, ℕ, ◌+◌, ◌-◌, ◌<◌, ◌≤◌, List, length, ap, arith, slice_set, slice_index_or, sum_by}
-use Rattle.pool_run.proofs.Imports.{sum_by-set, sum_by-le-sum_by, get_or-le-sum_by, IsSameSize, IsUntouched, IsPartitioned, PoolCore, Settings, ModuleAsked, PlainHeap}
+use Rattle.pool_run.proofs.Imports.{sum_by-set, sum_by-le-sum_by, get_or-le-sum_by, IsSameSize, IsUntouched, IsPartitioned, PoolCore, Settings, ModuleAsked, PlainHeap, counted_component, counted_instance, of_counts, only}
 use Rattle.pool_run.specs.Limits.{admitted_to, live_instances, live_components, IsWithinCounts}
 use Rattle.pool_run.specs.Rooms.{World}
 use Rattle.pool_run.specs.Ties.{held_by_party, IsRunning, CanTurn}
@@ -11,20 +11,21 @@ use Rattle.pool_run.specs.declared.running_party.RunningParty.{RunningParty}
 use Rattle.pool_run.proofs.Limits.{admitted_held, party_within, MayHave, no_more, one_more, party_components}
 use Rattle.pool_run.proofs.Running.{can_turn}
 use Rattle.pool_run.proofs.Turned.{has_turned}
+use Rattle.pool_run.proofs.Weighed.{held_counts, counted_whole}
 
 module _ {P : Type 0} where
   -- All that is admitted is counted, and all components that are live are.
   admitted_is_counted : (c : PoolCore P PlainHeap) (parties : List (RunningParty P)) → IsPartitioned held_by_party c parties → sum_by admitted_to parties ≤ c.counters.core_instances
-  admitted_is_counted c parties whole = omega (arith, whole.instances, sum_by-le-sum_by admitted_to (λ p. (held_by_party p).instances) parties admitted_held)
+  admitted_is_counted c parties whole = omega (arith, counted_whole c parties whole (only counted_instance), sum_by-le-sum_by admitted_to (λ p. held_by_party p (of_counts (only counted_instance))) parties admitted_held)
 
   components_are_counted : (c : PoolCore P PlainHeap) (parties : List (RunningParty P)) → IsPartitioned held_by_party c parties → sum_by live_components parties ≤ c.counters.component_instances
-  components_are_counted c parties whole = omega (arith, whole.components, sum_by-le-sum_by live_components (λ p. (held_by_party p).components) parties (λ p. omega arith))
+  components_are_counted c parties whole = omega (arith, counted_whole c parties whole (only counted_component), sum_by-le-sum_by live_components (λ p. held_by_party p (of_counts (only counted_component))) parties (λ p. omega (arith, held_counts (only counted_component) p)))
 
   -- Over a pool that nobody has used yet nothing is admitted.
   pub made_within : (c : PoolCore P PlainHeap) (parties : List (RunningParty P)) → IsUntouched c → IsPartitioned held_by_party c parties → IsWithinCounts c parties
   made_within c parties untouched whole = record {
-    instances = omega (arith, untouched.instances, admitted_is_counted c parties whole);
-    components = omega (arith, untouched.components, components_are_counted c parties whole);
+    instances = omega (arith, untouched.counted (only counted_instance), admitted_is_counted c parties whole);
+    components = omega (arith, untouched.counted (only counted_component), components_are_counted c parties whole);
   }
 
   -- what all have, once a party has no more, or one more where there may be more

@@ -1,6 +1,6 @@
 -- What a turn opens with: the party has as much of the pool, and where a call is to make its next step, that can be made.
-use Rattle.std.proofs.Common.{zero, suc, ◌≡◌, ◌≢◌, ℕ, ◌<◌, ◌≤◌, All, Bool, true, false, List, length, get_or, Option, Some, None, refl, sym, ap, ◌∙◌, subst, inl, inr, arith, ◌∷◌, [], IfSome, slice_get, slice_set, slice_index_or, sum_by}
-use Rattle.pool_run.proofs.Imports.{TakenSlot, slice_get_within, get_or_from_slice_get, All-set, All-get_or, length-set, get_or-set_other, sum_by-set, MakerTold, IsIdle, IsGrant, begun_call, objects_in, IsTableLease, LeasedTable, table_taken, ListedStore, Lease, slot_taken, IsLeaseOf, Thing, taken_count, grant_stacks, is_idle, grant_count, grant_instances, grant_components, grant_memories, grant_tables, grant_heaps, PoolCore, Call, Stage, asks, stage_of, admitted, Frame, Grant, instance, component, stack, heap, ModuleAsked, Phase, Idle, IsSearched, IsStackLease, LeasedHeap, LeasedStack, stack_taken, PlainHeap}
+use Rattle.std.proofs.Common.{zero, suc, ◌≡◌, ◌≢◌, ℕ, ◌<◌, ◌≤◌, All, Bool, true, false, List, length, get_or, Option, Some, None, refl, sym, ap, ◌∙◌, subst, inl, inr, arith, ◌∷◌, [], IfSome, slice_get, slice_set, slice_index_or, sum_by, ◌*◌}
+use Rattle.pool_run.proofs.Imports.{TakenSlot, slice_get_within, get_or_from_slice_get, All-set, All-get_or, length-set, get_or-set_other, sum_by-set, MakerTold, IsIdle, IsGrant, begun_call, objects_in, IsTableLease, LeasedTable, table_taken, ListedStore, Lease, slot_taken, IsLeaseOf, Thing, taken_count, is_idle, grant_instances, grant_components, PoolCore, Call, Stage, asks, stage_of, admitted, Frame, Grant, instance, component, stack, heap, ModuleAsked, Phase, Idle, IsSearched, IsStackLease, LeasedHeap, LeasedStack, stack_taken, PlainHeap, Weight, counted_object, grant_weight, memory_kind, table_kind}
 use Rattle.pool_alloc.specs.declared.frame.Call.TheVariants as call
 use Rattle.pool_run.specs.Acts.{MemoryOp, TableOp, Act, requests, on_memory, on_table, drops, purges, releases, act_of, Wanted, an_instance, a_component, a_stack, a_heap, heap_type}
 use Rattle.pool_run.specs.Limits.{admitted_at, admitted_to, live_components}
@@ -38,13 +38,7 @@ unasked _ none = refl
 
 -- a grant is in the place of another of the pool, and counts for as much
 record StaysGrant {P : Type 0} (maker : MakerTold) (c : PoolCore P PlainHeap) (old new : Grant P PlainHeap) : Type 0 where
-  places : (x : Thing) → grant_count x new ≡ grant_count x old
-  instances : grant_instances new ≡ grant_instances old
-  components : grant_components new ≡ grant_components old
-  memories : grant_memories new ≡ grant_memories old
-  tables : grant_tables new ≡ grant_tables old
-  stacks : grant_stacks new ≡ grant_stacks old
-  heaps : grant_heaps new ≡ grant_heaps old
+  weighs : (w : Weight) → grant_weight w new ≡ grant_weight w old
   sound : IsGrant maker c.settings c.plan old → IsGrant maker c.settings c.plan new
 
 -- what things in slots weigh, once another is in one of these slots
@@ -66,13 +60,7 @@ heap_stays maker c zero lease memory old changed there same keeps =
     let its : old ≡ memory = cc in
     let weighs : (x : Thing) → taken_count x (slot_taken changed) ≡ taken_count x (slot_taken memory) = λ x. ap (taken_count x) (same ∙ ap slot_taken its) in
     record {
-      places = λ x. omega (arith, weighs x);
-      instances = refl;
-      components = refl;
-      memories = refl;
-      tables = refl;
-      stacks = refl;
-      heaps = refl;
+      weighs = λ w. omega (arith, weighs w.unit);
       sound = λ is. (is.0, keeps (subst (IsLeaseOf maker c.settings c.plan) (sym its) is.1));
     }
 
@@ -80,13 +68,7 @@ heap_stays maker c zero lease memory old changed there same keeps =
 module _ {P : Type 0} (maker : MakerTold) (c : PoolCore P PlainHeap) (k : ℕ) where
   memory_stays : (grant : Grant P PlainHeap) (old changed : Lease) → slice_get (leases_of grant) k ≡ Some old → slot_taken changed ≡ slot_taken old → (IsLeaseOf maker c.settings c.plan old → IsLeaseOf maker c.settings c.plan changed) → StaysGrant maker c grant (with_lease k changed grant)
   memory_stays (instance lease) old changed there same keeps = record {
-    places = λ x. omega (arith, slots_same slot_taken x k lease.memories.items old changed there same);
-    instances = refl;
-    components = refl;
-    memories = length-set lease.memories.items k changed;
-    tables = refl;
-    stacks = refl;
-    heaps = refl;
+    weighs = λ w. omega (arith, slots_same slot_taken w.unit k lease.memories.items old changed there same, ap (λ (n : ℕ). n * w.counts (counted_object memory_kind)) (length-set lease.memories.items k changed));
     sound = λ is. (all_still (IsLeaseOf maker c.settings c.plan) lease.memories.items k old changed there keeps is.0, is.1);
   }
   memory_stays component old changed there same keeps = absurd cc
@@ -95,13 +77,7 @@ module _ {P : Type 0} (maker : MakerTold) (c : PoolCore P PlainHeap) (k : ℕ) w
 
   table_stays : (grant : Grant P PlainHeap) (old changed : LeasedTable) → slice_get (tables_of grant) k ≡ Some old → changed ≡ record old { table = changed.table } → (IsTableLease maker c.settings c.plan old → IsTableLease maker c.settings c.plan changed) → StaysGrant maker c grant (with_table_lease k changed grant)
   table_stays (instance lease) old changed there same keeps = record {
-    places = λ x. omega (arith, slots_same table_taken x k lease.tables.items old changed there (ap table_taken same));
-    instances = refl;
-    components = refl;
-    memories = refl;
-    tables = length-set lease.tables.items k changed;
-    stacks = refl;
-    heaps = refl;
+    weighs = λ w. omega (arith, slots_same table_taken w.unit k lease.tables.items old changed there (ap table_taken same), ap (λ (n : ℕ). n * w.counts (counted_object table_kind)) (length-set lease.tables.items k changed));
     sound = λ is. (is.0, all_still (IsTableLease maker c.settings c.plan) lease.tables.items k old changed there keeps is.1);
   }
   table_stays component old changed there same keeps = absurd cc
@@ -117,13 +93,7 @@ module _ {P : Type 0} (maker : MakerTold) (c : PoolCore P PlainHeap) where
   stack_stays zero (stack lease) old changed there same keeps =
       let its : old ≡ lease = cc in
       record {
-        places = λ x. ap (taken_count x) (same ∙ ap stack_taken its);
-        instances = refl;
-        components = refl;
-        memories = refl;
-        tables = refl;
-        stacks = refl;
-        heaps = refl;
+        weighs = λ w. omega (arith, ap (taken_count w.unit) (same ∙ ap stack_taken its));
         sound = λ is. keeps (subst (IsStackLease maker c.settings c.plan) (sym its) is);
       }
 
@@ -155,14 +125,12 @@ module _ {P : Type 0} (maker : MakerTold) (c : PoolCore P PlainHeap) (p : Runnin
   IsOpened (makes_step frame live) = IsStep frame live
 
   same_now : HaveSame p p
-  same_now = record { places = λ x. refl; instances = refl; components = refl; memories = refl; tables = refl; stacks = refl; heaps = refl }
+  same_now w = refl
 
   -- A party that is alone stays so.
   pub still_alone : (frame : Frame P PlainHeap) (live : List (Option (Grant P PlainHeap))) → IsStep frame live → IsAlone c p.frame p.live → IsAlone c frame live
   still_alone frame live is alone = record {
-    places = λ t. omega (arith, alone.places t, is.same.places t);
-    instances = omega (arith, alone.instances, is.same.instances);
-    components = omega (arith, alone.components, is.same.components);
+    whole = λ w. omega (arith, alone.whole w, is.same w);
     searched = is.searched alone.searched;
   }
 
@@ -184,15 +152,7 @@ module _ {P : Type 0} (maker : MakerTold) (c : PoolCore P PlainHeap) (p : Runnin
     put_opened : (of : ℕ) (old new : Grant P PlainHeap) (store : ListedStore) → slice_index_or p.live of None ≡ Some old → StaysGrant maker c old new → store.failing ≡ p.store.failing → IsReply (slice_set p.live of (Some new)) store
     put_opened of old new store granted stays listed = record {
       idle = idle;
-      same = record {
-        places = λ x. omega (arith, swapped (grant_count x) of old new granted (stays.places x));
-        instances = omega (arith, swapped grant_instances of old new granted stays.instances);
-        components = omega (arith, swapped grant_components of old new granted stays.components);
-        memories = omega (arith, swapped grant_memories of old new granted stays.memories);
-        tables = omega (arith, swapped grant_tables of old new granted stays.tables);
-        stacks = omega (arith, swapped grant_stacks of old new granted stays.stacks);
-        heaps = omega (arith, swapped grant_heaps of old new granted stays.heaps);
-      };
+      same = λ w. omega (arith, swapped (grant_weight w) of old new granted (stays.weighs w));
       room = length-set p.live of (Some new);
       to_come = λ n behind. other_place of n old new granted (can.party.to_come n behind);
       sound = record {

@@ -1,11 +1,12 @@
 -- A party whose turn it is: its call can make its next step, and so it can once another call began.
 use Rattle.std.proofs.Common.{◌≡◌, ℕ, zero, suc, ◌+◌, ◌<◌, ◌≤◌, true, false, List, [], ◌∷◌, length, Option, Some, None, refl, ap, subst, arith, All, sym, ◌∙◌, IfSome, sum_by, slice_set, slice_index_or}
-use Rattle.pool_run.proofs.Imports.{All-set, All-get_or, sum_by-set, MakerTold, Thing, right_to, region_of, IsFrame, AreImagesOf, HasImages, IsIdle, IsGrant, MayBegin, begun_call, call_has, begun_stacks, begun_heaps, begun_frame, begun_count, begun_instances, begun_components, begun_memories, begun_tables, CanStep, is_idle, grant_count, grant_instances, grant_memories, grant_tables, grant_stacks, grant_heaps, grant_components, PoolCore, Settings, memories_wanted, images_wanted, ModuleAsked, stack_slot, heap_slot, nothing_asked, module_asked, Lease, memory_slot, LeasedTable, IsSearched, returning, stage_of, returned_next, Call, Frame, Grant, instance, component, stack, heap, both_regions, sum_by_agree, leased_regions, tables_regions, Plan, SlotName, PlainHeap}
+use Rattle.pool_run.proofs.Imports.{All-set, All-get_or, sum_by-set, MakerTold, right_to, region_of, IsFrame, AreImagesOf, HasImages, IsIdle, IsGrant, MayBegin, begun_call, call_has, begun_frame, CanStep, is_idle, grant_count, PoolCore, Settings, memories_wanted, images_wanted, ModuleAsked, stack_slot, heap_slot, nothing_asked, module_asked, Lease, memory_slot, LeasedTable, IsSearched, returning, stage_of, returned_next, Call, Frame, Grant, instance, component, stack, heap, both_regions, sum_by_agree, leased_regions, tables_regions, Plan, SlotName, PlainHeap, Weight, of_units, grant_weight, begun_weight}
 use Rattle.pool_alloc.specs.declared.frame.Ending.TheVariants as ending
 use Rattle.pool_run.specs.Turns.{IsPlain, asks_grant}
 use Rattle.pool_alloc.specs.declared.frame.Call.TheVariants as call
 use Rattle.pool_run.specs.Ties.{is_asking, is_for_objects, granted_to, held_by_party, FitsParty, CanTurn}
 use Rattle.pool_run.specs.declared.running_party.RunningParty.{RunningParty}
+use Rattle.pool_run.proofs.Weighed.{held_units}
 
 module _ {P : Type 0} where
   grant_regions : (k : SlotName) (o : Option (Grant P PlainHeap)) → granted_to (grant_count (region_of k)) o ≡ granted_to (grant_count (right_to k)) o
@@ -25,37 +26,19 @@ module _ {P : Type 0} where
     core = can.core;
     frame = can.party.sound.frame;
     fits = record {
-      once = λ t. omega (arith, can.fits.once t);
-      others = λ k. omega (arith, can.fits.others k, live_regions k p.live);
-      instances = omega (arith, can.fits.instances);
-      components = omega (arith, can.fits.components);
-      memories = omega (arith, can.fits.memories);
-      tables = omega (arith, can.fits.tables);
-      stacks = omega (arith, can.fits.stacks);
-      heaps = omega (arith, can.fits.heaps);
+      once = λ w. omega (arith, can.fits.once w);
+      others = λ k. omega (arith, can.fits.others k, live_regions k p.live, held_units (right_to k) p, held_units (region_of k) p);
     };
   }
 
   -- the parties have the same of the pool
-  pub record HaveSame (p q : RunningParty P) : Type 0 where
-    pub places : (t : Thing) → (held_by_party q).places t ≡ (held_by_party p).places t
-    pub instances : (held_by_party q).instances ≡ (held_by_party p).instances
-    pub components : (held_by_party q).components ≡ (held_by_party p).components
-    pub memories : (held_by_party q).memories ≡ (held_by_party p).memories
-    pub tables : (held_by_party q).tables ≡ (held_by_party p).tables
-    pub stacks : (held_by_party q).stacks ≡ (held_by_party p).stacks
-    pub heaps : (held_by_party q).heaps ≡ (held_by_party p).heaps
+  abbrev pub HaveSame : RunningParty P → RunningParty P → Type 0
+  HaveSame p q = (w : Weight) → held_by_party q w ≡ held_by_party p w
 
   pub fits_same : (c : PoolCore P PlainHeap) (p q : RunningParty P) → HaveSame p q → FitsParty c p → FitsParty c q
   fits_same c p q same fits = record {
-    once = λ t. omega (arith, fits.once t, same.places t);
-    others = λ k. omega (arith, fits.others k, same.places (right_to k), same.places (region_of k));
-    instances = omega (arith, fits.instances, same.instances);
-    components = omega (arith, fits.components, same.components);
-    memories = omega (arith, fits.memories, same.memories);
-    tables = omega (arith, fits.tables, same.tables);
-    stacks = omega (arith, fits.stacks, same.stacks);
-    heaps = omega (arith, fits.heaps, same.heaps);
+    once = λ w. omega (arith, fits.once w, same w);
+    others = λ k. omega (arith, fits.others k, same (of_units (right_to k)), same (of_units (region_of k)));
   }
 
   -- a place with a grant is there
@@ -74,37 +57,15 @@ module _ {P : Type 0} where
   with_call asked live p = record p { frame = begun_call asked p.frame; live = live }
 
   -- The grant that a call brings along was one of the party's, and the others stay.
-  pub record Brings (asked : Call P PlainHeap) (old new : List (Option (Grant P PlainHeap))) : Type 0 where
-    pub places : (t : Thing) → sum_by (granted_to (grant_count t)) new + call_has (grant_count t) asked ≡ sum_by (granted_to (grant_count t)) old
-    pub instances : sum_by (granted_to grant_instances) new + call_has grant_instances asked ≡ sum_by (granted_to grant_instances) old
-    pub components : sum_by (granted_to grant_components) new + call_has grant_components asked ≡ sum_by (granted_to grant_components) old
-    pub memories : sum_by (granted_to grant_memories) new + call_has grant_memories asked ≡ sum_by (granted_to grant_memories) old
-    pub tables : sum_by (granted_to grant_tables) new + call_has grant_tables asked ≡ sum_by (granted_to grant_tables) old
-    pub stacks : sum_by (granted_to grant_stacks) new + call_has grant_stacks asked ≡ sum_by (granted_to grant_stacks) old
-    pub heaps : sum_by (granted_to grant_heaps) new + call_has grant_heaps asked ≡ sum_by (granted_to grant_heaps) old
+  abbrev pub Brings : Call P PlainHeap → List (Option (Grant P PlainHeap)) → List (Option (Grant P PlainHeap)) → Type 0
+  Brings asked old new = (w : Weight) → sum_by (granted_to (grant_weight w)) new + call_has (grant_weight w) asked ≡ sum_by (granted_to (grant_weight w)) old
 
   pub has_call : (maker : MakerTold) (asked : Call P PlainHeap) (new : List (Option (Grant P PlainHeap))) (c : PoolCore P PlainHeap) (p : RunningParty P) → IsFrame maker c.settings c.plan p.frame → MayBegin maker c.settings c.plan asked p.frame → Brings asked p.live new → HaveSame p (with_call asked new p)
-  has_call maker asked new c p frame may brings = record {
-    places = λ t. omega (arith, begun_count maker t asked c.settings c.plan p.frame frame may, brings.places t);
-    instances = omega (arith, begun_instances maker asked c.settings c.plan p.frame may, brings.instances);
-    components = omega (arith, begun_components maker asked c.settings c.plan p.frame may, brings.components);
-    memories = omega (arith, begun_memories maker asked c.settings c.plan p.frame frame may, brings.memories);
-    tables = omega (arith, begun_tables maker asked c.settings c.plan p.frame frame may, brings.tables);
-    stacks = omega (arith, begun_stacks maker asked c.settings c.plan p.frame may, brings.stacks);
-    heaps = omega (arith, begun_heaps maker asked c.settings c.plan p.frame may, brings.heaps);
-  }
+  has_call maker asked new c p frame may brings = λ w. omega (arith, begun_weight maker w asked c.settings c.plan p.frame frame may, brings w)
 
   -- a call that brings nothing along
   brings_none : (asked : Call P PlainHeap) (live : List (Option (Grant P PlainHeap))) → ((of : Grant P PlainHeap → ℕ) → call_has of asked ≡ 0) → Brings asked live live
-  brings_none asked live none = record {
-    places = λ t. omega (arith, none (grant_count t));
-    instances = omega (arith, none grant_instances);
-    components = omega (arith, none grant_components);
-    memories = omega (arith, none grant_memories);
-    tables = omega (arith, none grant_tables);
-    stacks = omega (arith, none grant_stacks);
-    heaps = omega (arith, none grant_heaps);
-  }
+  brings_none asked live none = λ w. omega (arith, none (grant_weight w))
 
   pub brings_nothing : (asked : Call P PlainHeap) → IsPlain asked → (live : List (Option (Grant P PlainHeap))) → Brings asked live live
   brings_nothing call.Key plain live = brings_none call.Key live (λ of. refl)
@@ -124,7 +85,7 @@ module _ {P : Type 0} where
       omega (arith, sum_by-set (granted_to of) live i None None (grant_inside live i grant is))
 
   pub brings_grant : (live : List (Option (Grant P PlainHeap))) (i : ℕ) (grant : Grant P PlainHeap) → slice_index_or live i None ≡ Some grant → Brings (call.GiveBack grant) live (slice_set live i None)
-  brings_grant live i grant is = record { places = λ t. fewer (grant_count t) live i grant is; instances = fewer grant_instances live i grant is; components = fewer grant_components live i grant is; memories = fewer grant_memories live i grant is; tables = fewer grant_tables live i grant is; stacks = fewer grant_stacks live i grant is; heaps = fewer grant_heaps live i grant is }
+  brings_grant live i grant is = λ w. fewer (grant_weight w) live i grant is
 
   -- nothing comes into a place that is emptied
   pub still_none : (live : List (Option (Grant P PlainHeap))) (i k : ℕ) → slice_index_or live k None ≡ None → slice_index_or (slice_set live i None) k None ≡ None

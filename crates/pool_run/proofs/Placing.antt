@@ -1,6 +1,6 @@
 -- Each slot is in one place, since what is given out is counted once.
 use Rattle.std.proofs.Common.{◌≡◌, ◌≢◌, ℕ, zero, suc, ◌+◌, ◌<◌, ◌≤◌, Bool, false, List, [], ◌∷◌, Option, Some, refl, sym, ap, ◌∙◌, inl, inr, arith, subst, slice_get, sum_by, IfSome}
-use Rattle.pool_run.proofs.Imports.{option_map_or, cases_eq, cases_Bool, true≢false, sum_by-cons, get_or_from_slice_get, slice_get_within, ShardState, is_used, pick_answer, SlotId, MakerTold, part_at, Role, shard_role, cell_role, queue_role, heaps_role, no_role, role_at, home_of, of_kind, SlotName, Allocator, PoolPart, PlainHeap, right_to, queued_count, away_count, shard_in, shard_at, queue_in, IsPartFor, IsPartAt, Settings, right_is_out, out_once, IsShardPlace, name_in, slot_of_shard, sound_shard, picked_inside, used_is_out, picked_was_in, kept_sum}
+use Rattle.pool_run.proofs.Imports.{option_map_or, cases_eq, cases_Bool, true≢false, sum_by-cons, get_or_from_slice_get, slice_get_within, ShardState, is_used, pick_answer, SlotId, MakerTold, part_at, Role, shard_role, cell_role, queue_role, heaps_role, no_role, role_at, home_of, of_kind, SlotName, Allocator, PoolPart, PlainHeap, right_to, queued_count, away_count, shard_in, shard_at, queue_in, IsPartFor, IsPartAt, Settings, right_is_out, out_once, IsShardPlace, name_in, slot_of_shard, sound_shard, picked_inside, used_is_out, picked_was_in, kept_sum, of_units}
 use Rattle.pool_slots.specs.declared.part.PoolPart.TheVariants as part
 use Rattle.pool_run.specs.Folds.{RunState, HoldsBetween}
 use Rattle.pool_run.specs.Placed.{Place, free, in_queue, with_party, times_at, IsIn, IsPicked, SlotsAreInOnePlace, UsedSlotsAreNotPicked}
@@ -51,7 +51,7 @@ module _ {P : Type 0} (maker : MakerTold) (s : RunState P) (k : SlotName) (holds
   of_queue x = queued_count (right_to k) (queue_in x).slots
 
   abbrev of_party : RunningParty P → ℕ
-  of_party p = (held_by_party p).places (right_to k)
+  of_party p = held_by_party p (of_units (right_to k))
 
   queue_here : (xs : List (PoolPart P PlainHeap)) (p : ℕ) → of_queue (part_at p xs) ≡ has_at of_queue xs p
   queue_here [] p = refl
@@ -59,7 +59,7 @@ module _ {P : Type 0} (maker : MakerTold) (s : RunState P) (k : SlotName) (holds
   queue_here (x ∷ xs) (suc p) = queue_here xs p
 
   all_places : sum_by of_queue s.core.parts + sum_by of_party s.parties ≡ away_count (right_to k) s.core
-  all_places = omega (arith, holds.running.whole.places (right_to k), kept_sum (right_to k) s.core)
+  all_places = omega (arith, holds.running.whole (of_units (right_to k)), kept_sum (right_to k) s.core)
 
   once_at_most : sum_by of_queue s.core.parts + sum_by of_party s.parties ≤ 1
   once_at_most = omega (arith, all_places, (out_once maker k s.core holds.running.core).0)

@@ -1,6 +1,6 @@
 -- What a step makes of a request, as its party is told: it goes on, is refused for a cause, or is granted what it asked for.
 use Rattle.std.proofs.Common.{◌≡◌, ℕ, zero, suc, ◌+◌, ◌*◌, ◌<◌, ◌≤◌, ◌⊎◌, if◌then◌else◌, true, List, [], ◌∷◌, length, map, Option, Some, None, Result, Ok, Err, refl, sym, ap, ◌∙◌, subst, inl, inr, arith, All, nat_lt, IfSome, slice_get, slice_index_or, sum_by}
-use Rattle.pool_run.proofs.Imports.{cases_eq, cases_lt, le-ltb, lt-ltb, All-get_or, slice_get_within, get_or_from_slice_get, MemoryDecl, Unsupported, Image, FitsInto, minimum_byte_size, minimum_asked, maximum_asked, MemoryState, AllocError, PartyTold, AsksForMemory, Lease, memory_slot, made_for, objects_in, objects_wanted, right_to, instance_count, slot_count, frame_count, kept_count, away_count, frame_instances, phase_components, Asked, module_asked, MemoryWant, Want, new_memory, new_table, wants_from, module_refused, IsFrame, IsAllocating, IsMemoryNext, IsTableNext, IsSupported, AreSupported, IsNew, AreBegun, IsLeaseOf, AreLeasesOf, Progress, untested, uncounted, admitted, seeks_stack, tests_heap, seeks_heap, counts_heap, FindsNone, IsPageFaulted, Makes, MakesTable, IsUntested, Raises, Follows, grant_count, grant_instances, grant_components, IsModule, kind_by, IsForInstance, info_wanted, memories_wanted, images_wanted, tables_wanted, memory_slots, stripe_allocator, allocator_of, allocator_for, kind_next, limit_of, IsTableLease, IsBegunTable, LeasedTable, AsksForTable, table_in, made_table, made_unless, table_refused, SlotKind, memory_kind, table_kind, ModuleInfo, TableType, type_maximum, PoolCore, Settings, Frame, Grant, instance, InstanceLease, of_kind, SlotName, Allocator, has_number, PlainHeap}
+use Rattle.pool_run.proofs.Imports.{cases_eq, cases_lt, le-ltb, lt-ltb, All-get_or, slice_get_within, get_or_from_slice_get, MemoryDecl, Unsupported, Image, FitsInto, minimum_byte_size, minimum_asked, maximum_asked, MemoryState, AllocError, PartyTold, AsksForMemory, Lease, memory_slot, made_for, objects_in, objects_wanted, right_to, instance_count, slot_count, frame_count, kept_count, away_count, frame_instances, Asked, module_asked, MemoryWant, Want, new_memory, new_table, wants_from, module_refused, IsFrame, IsAllocating, IsMemoryNext, IsTableNext, IsSupported, AreSupported, IsNew, AreBegun, IsLeaseOf, AreLeasesOf, Progress, untested, uncounted, admitted, seeks_stack, tests_heap, seeks_heap, counts_heap, FindsNone, IsPageFaulted, Makes, MakesTable, IsUntested, Raises, Follows, grant_count, IsModule, kind_by, IsForInstance, info_wanted, memories_wanted, images_wanted, tables_wanted, memory_slots, stripe_allocator, allocator_of, allocator_for, kind_next, limit_of, IsTableLease, IsBegunTable, LeasedTable, AsksForTable, table_in, made_table, made_unless, table_refused, SlotKind, memory_kind, table_kind, ModuleInfo, TableType, type_maximum, PoolCore, Settings, Frame, Grant, instance, InstanceLease, of_kind, SlotName, Allocator, has_number, PlainHeap, Counts, counted_instance, counters_counted, frame_counted, only, grant_counted}
 use Rattle.pool_slots.specs.declared.errors.AllocError.TheVariants as refusal
 use Rattle.pool_run.proofs.SlotsMade.{made_slot}
 use Rattle.pool_run.specs.Private.{Grants, stripe_slots, PrivateMemory, instance_grant, module_of, Request, request_of, wants_of, begun, begun_memory, begun_table, begun_instance, own_refusal, slots_asked, table_room}
@@ -18,6 +18,8 @@ use Rattle.pool_run.proofs.TableChanges.{table_answer_told}
 use Rattle.pool_run.proofs.TablesBegun.{table_seen}
 use Rattle.pool_run.proofs.Growths.{answer_told}
 use Rattle.pool_run.proofs.Wants.{IsWanted, wants_there, count_wanted, count_all, memory_at, table_at}
+use Rattle.pool_run.proofs.Weighed.{alone_units, alone_counts}
+use Rattle.pool_run.proofs.StageSteps.{no_instance_counted}
 
 -- the tables of the module that is asked for
 tables_told_by : (asked : Asked) → tables_wanted asked ≡ (info_wanted asked).tables
@@ -70,8 +72,7 @@ module _ {P : Type 0} (w : World) (old new : PartyTold) (c : PoolCore P PlainHea
     pub world : IsWorldOf w c
     pub frame : IsFrame w.maker c.settings c.plan f
     pub once : (name : SlotName) → frame_count (right_to name) f + sum_by (granted_to (grant_count (right_to name))) live ≤ made_slot name.slot (of_kind name.kind c.plan.totals)
-    pub instances : frame_instances f + sum_by (granted_to grant_instances) live ≤ c.counters.core_instances
-    pub components : phase_components f.phase + sum_by (granted_to grant_components) live ≤ c.counters.component_instances
+    pub counted : (n : Counts) → frame_counted n f + sum_by (granted_to (grant_counted n)) live ≤ counters_counted n c.counters
     pub alone : w.alone ≡ true → IsAlone c f live
     pub rule : old.limiter.rule ≡ Some w.terms.host.rule
     pub stripe : f.stripe ≡ w.terms.stripe
@@ -85,7 +86,7 @@ module _ {P : Type 0} (w : World) (old new : PartyTold) (c : PoolCore P PlainHea
       let alone : IsAlone c f live = is.alone a in
       let Gone : SlotKind → Type 0 = λ x. (kept_count (right_to (record { kind = x; slot = k })) c ≡ 0) × (away_count (right_to (record { kind = x; slot = k })) c ≡ 1) in
       let out : Gone kind = subst Gone next (none.none alone.searched k number) in
-      omega (arith, alone.places (right_to name), out.0, out.1, none.has name)
+      omega (arith, alone_units c f live alone (right_to name), out.0, out.1, none.has name)
 
 module _ {P : Type 0} (w : World) (old new : PartyTold) (c : PoolCore P PlainHeap) (f : Frame P PlainHeap) (live : List (Option (Grant P PlainHeap))) (told : Grants) (is : IsBefore w old new c f live told) (seen : grants_of live ≡ told) (number : ℕ) (asked : IsFor w.terms number f.asked) where
   abbrev request : Request
@@ -267,7 +268,7 @@ module _ {P : Type 0} (w : World) (old new : PartyTold) (c : PoolCore P PlainHea
   raised_cause uncounted e none so raises =
       let most : w.terms.settings.max_core_instances ≡ c.settings.max_core_instances = ap (λ (s : Settings). s.max_core_instances) is.world.settings in
       let full : w.alone ≡ true → w.terms.settings.max_core_instances ≤ rooms.instance_count told =
-      λ a. omega (arith, most, raises.1, (is.alone a).instances, none refl, instances_told live told seen) in
+      λ a. omega (arith, most, raises.1, alone_counts c f live (is.alone a) (only counted_instance), none refl, no_instance_counted f.phase, instances_told live told seen) in
       subst (HasCause w request told) (sym raises.0) (given_cause w request told _ so (instances_given w request told c.settings.max_core_instances most full))
   raised_cause seeks_stack e none so raises = absurd so
   raised_cause tests_heap e none so raises = absurd so
@@ -299,7 +300,7 @@ module _ {P : Type 0} (w : World) (old new : PartyTold) (c : PoolCore P PlainHea
   goes_so_far untested uncounted so follows = broken_is None follows
   goes_so_far uncounted (admitted m) so follows =
       let most : w.terms.settings.max_core_instances ≡ c.settings.max_core_instances = ap (λ (s : Settings). s.max_core_instances) is.world.settings in
-      record { supported = so; counted = omega (arith, most, follows.1, is.instances, instances_told live told seen); allowed = λ k below. absurd (omega (arith, follows.0, below)) }
+      record { supported = so; counted = omega (arith, most, follows.1, is.counted (only counted_instance), instances_told live told seen); allowed = λ k below. absurd (omega (arith, follows.0, below)) }
   goes_so_far (admitted n) (admitted m) so follows =
       elim follows [
         | inl same ↦ subst (IsAdmitted w request told) (sym same) so

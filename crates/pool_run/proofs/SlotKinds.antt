@@ -90,25 +90,25 @@ module _ {P : Type 0} where
 
   -- so many are counted
   pub memories_sized : (g : Grant P PlainHeap) → grant_memories g ≡ length (leases_of g)
-  memories_sized (instance lease) = refl
+  memories_sized (instance lease) = omega arith
   memories_sized component = refl
   memories_sized (stack lease) = refl
   memories_sized (heap lease memory) = refl
 
   pub tables_sized : (g : Grant P PlainHeap) → grant_tables g ≡ length (tables_of g)
-  tables_sized (instance lease) = refl
+  tables_sized (instance lease) = omega arith
   tables_sized component = refl
   tables_sized (stack lease) = refl
   tables_sized (heap lease memory) = refl
 
   pub stacks_sized : (g : Grant P PlainHeap) → grant_stacks g ≡ length (stack_of g)
-  stacks_sized (instance lease) = refl
+  stacks_sized (instance lease) = omega arith
   stacks_sized component = refl
   stacks_sized (stack lease) = refl
   stacks_sized (heap lease memory) = refl
 
   pub heaps_sized : (g : Grant P PlainHeap) → grant_heaps g ≡ length (heap_of g)
-  heaps_sized (instance lease) = refl
+  heaps_sized (instance lease) = omega arith
   heaps_sized component = refl
   heaps_sized (stack lease) = refl
   heaps_sized (heap lease memory) = refl

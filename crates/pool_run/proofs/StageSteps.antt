@@ -1,6 +1,6 @@
 -- How a step takes a party's call from one stage to another: what follows of the stages alone.
-use Rattle.std.proofs.Common.{◌≡◌, ℕ, ◌+◌, ◌<◌, ◌≤◌, ◌⊎◌, inl, inr, Bool, true, false, Option, Some, None, refl, ap, arith, ◌&&◌, not, is_some}
-use Rattle.pool_run.proofs.Imports.{MakerTold, PartyTold, IfGranted, phase_instances, instances_for, phase_components, Progress, untested, uncounted, admitted, Stage, no_call, keys, asks, returning, refusing, purging, reserving, releasing, stage_by, stage_of_release, stage_at, Follows, Goes, seeks_stack, tests_heap, seeks_heap, counts_heap, tests_component, counts_component, stage_back, stage_of, is_idle, count_granted, grant_instances, grant_components, objects_wanted, objects_in, IsFrame, IsShapedAt, Plan, PlainHeap, Settings, PoolCore, Asked, stack_asked, heap_asked, Ending, Frame, instance, component, stack, heap, Outcome, Phase, Idle, Key, Validate, CountInstance, CountObject, Purge, Release, TestStack, TestHeap, CountHeap, ValidateComponent, CountComponent, UncountComponent, ReleaseStep, Reserve}
+use Rattle.std.proofs.Common.{◌≡◌, ℕ, ◌+◌, ◌<◌, ◌≤◌, ◌⊎◌, inl, inr, Bool, true, false, Option, Some, None, refl, ap, arith, ◌&&◌, not, is_some, ◌*◌}
+use Rattle.pool_run.proofs.Imports.{MakerTold, PartyTold, IfGranted, phase_instances, instances_for, Progress, untested, uncounted, admitted, Stage, no_call, keys, asks, returning, refusing, purging, reserving, releasing, stage_by, stage_of_release, stage_at, Follows, Goes, seeks_stack, tests_heap, seeks_heap, counts_heap, tests_component, counts_component, stage_back, stage_of, is_idle, count_granted, grant_instances, grant_components, objects_wanted, objects_in, IsFrame, IsShapedAt, Plan, PlainHeap, Settings, PoolCore, Asked, stack_asked, heap_asked, Ending, Frame, instance, component, stack, heap, Outcome, Phase, Idle, Key, Validate, CountInstance, CountObject, Purge, Release, TestStack, TestHeap, CountHeap, ValidateComponent, CountComponent, UncountComponent, ReleaseStep, Reserve, counted_component, counted_instance, only, phase_counted}
 use Rattle.pool_alloc.specs.declared.frame.Ending.TheVariants as ending
 use Rattle.pool_alloc.specs.declared.frame.Outcome.TheVariants as answer
 use Rattle.pool_run.specs.Limits.{admitted_at}
@@ -23,10 +23,6 @@ asking_some counts_component is = refl
 asking_some _ is = absurd cc
 
 -- none is counted where none is
-none_for : (asked : Asked) → instances_for asked 0 ≡ 0
-none_for stack_asked = refl
-none_for _ = refl
-
 -- a request for an instance is one
 pub instance_asks : (s : Stage) → is_for_objects s ≡ true → is_asking s ≡ true
 instance_asks (asks p) is = refl
@@ -53,7 +49,7 @@ counted_back : (e : Ending) → stage_back e ≡ asks uncounted → ⊥
 counted_back (ending.Refused e) is = absurd cc
 counted_back e is = absurd cc
 
-admitted_by : (asked : Asked) (e : Ending) (n : ℕ) → admitted_at (stage_by asked e n) ≤ instances_for asked 1
+admitted_by : (asked : Asked) (e : Ending) (n : ℕ) → admitted_at (stage_by asked e n) ≤ instances_for asked
 admitted_by stack_asked ending.Granted n = omega arith
 admitted_by (heap_asked ty) ending.Granted n = omega arith
 admitted_by _ ending.Granted n = omega arith
@@ -106,7 +102,7 @@ module _ {P : Type 0} where
   none_idle _ asked e n = none_by asked e n
 
   -- and a call that was admitted has counted its instance,
-  pub admitted_counts : (phase : Phase P PlainHeap) (asked : Asked) (e : Ending) (n : ℕ) → admitted_at (stage_at phase asked e n) ≤ instances_for asked (phase_instances phase)
+  pub admitted_counts : (phase : Phase P PlainHeap) (asked : Asked) (e : Ending) (n : ℕ) → admitted_at (stage_at phase asked e n) ≤ phase_instances phase * instances_for asked
   admitted_counts Idle asked e n = omega arith
   admitted_counts Key asked e n = omega arith
   admitted_counts Validate asked e n = omega arith
@@ -123,26 +119,31 @@ module _ {P : Type 0} where
   admitted_counts _ asked e n = omega (arith, admitted_by asked e n)
 
   -- and one that isn't counted yet hasn't.
-  pub uncounted_none : (phase : Phase P PlainHeap) (asked : Asked) (e : Ending) (n : ℕ) → stage_at phase asked e n ≡ asks uncounted → instances_for asked (phase_instances phase) ≡ 0
-  uncounted_none Idle asked e n is = none_for asked
-  uncounted_none Key asked e n is = none_for asked
-  uncounted_none Validate asked e n is = none_for asked
-  uncounted_none CountInstance asked e n is = none_for asked
-  uncounted_none TestStack asked e n is = none_for asked
-  uncounted_none TestHeap asked e n is = none_for asked
+  pub uncounted_none : (phase : Phase P PlainHeap) (asked : Asked) (e : Ending) (n : ℕ) → stage_at phase asked e n ≡ asks uncounted → phase_instances phase * instances_for asked ≡ 0
+  uncounted_none Idle asked e n is = omega arith
+  uncounted_none Key asked e n is = omega arith
+  uncounted_none Validate asked e n is = omega arith
+  uncounted_none CountInstance asked e n is = omega arith
+  uncounted_none TestStack asked e n is = omega arith
+  uncounted_none TestHeap asked e n is = omega arith
   uncounted_none (CountHeap lease) asked e n is = absurd cc
-  uncounted_none (ValidateComponent info) asked e n is = none_for asked
-  uncounted_none CountComponent asked e n is = none_for asked
+  uncounted_none (ValidateComponent info) asked e n is = omega arith
+  uncounted_none CountComponent asked e n is = omega arith
   uncounted_none UncountComponent asked e n is = absurd (counted_back e is)
-  uncounted_none (Purge p step) asked e n is = none_for asked
-  uncounted_none (Release step) asked e n is = none_for asked
+  uncounted_none (Purge p step) asked e n is = omega arith
+  uncounted_none (Release step) asked e n is = omega arith
   uncounted_none (CountObject object) asked e n is = absurd (counted_by asked e (n + 1) is)
   uncounted_none _ asked e n is = absurd (counted_by asked e n is)
 
   -- So it is with a component.
-  pub uncounted_component : (phase : Phase P PlainHeap) (asked : Asked) (e : Ending) (n : ℕ) → stage_at phase asked e n ≡ counts_component → phase_components phase ≡ 0
+  pub uncounted_component : (phase : Phase P PlainHeap) (asked : Asked) (e : Ending) (n : ℕ) → stage_at phase asked e n ≡ counts_component → phase_counted (only counted_component) phase ≡ 0
   uncounted_component UncountComponent asked e n is = absurd (back_counts e is)
   uncounted_component _ asked e n is = refl
+
+  -- No phase has an instance that is counted beside that of its call.
+  pub no_instance_counted : (phase : Phase P PlainHeap) → phase_counted (only counted_instance) phase ≡ 0
+  no_instance_counted UncountComponent = refl
+  no_instance_counted _ = refl
 
   seeks_released : (step : ReleaseStep P) → stage_of_release step ≡ asks seeks_stack → ⊥
   seeks_released Reserve is = absurd cc
@@ -248,7 +249,7 @@ module _ {P : Type 0} (maker : MakerTold) (old new : PartyTold) (c : PoolCore P 
   may_grant (asks p) (asks q) None goes = inl refl
   may_grant (asks p) (refusing e) None goes = inl refl
   may_grant (asks untested) no_call (Some (answer.Refused e)) goes = inl refl
-  may_grant (asks p) no_call (Some (answer.Granted (instance lease))) goes = inl refl
+  may_grant (asks p) no_call (Some (answer.Granted (instance lease))) goes = inl (omega arith)
   may_grant (asks p) no_call (Some (answer.Granted (stack lease))) goes = inl refl
   may_grant (asks seeks_stack) no_call (Some (answer.Refused e)) goes = inl refl
   may_grant (asks tests_heap) no_call (Some (answer.Refused e)) goes = inl refl

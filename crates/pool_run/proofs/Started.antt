@@ -1,6 +1,6 @@
 -- A run as it starts: nobody has anything, and nobody was told anything.
 use Rattle.std.proofs.Common.{true, ◌≡◌, ℕ, zero, suc, ◌<◌, Bool, false, List, [], ◌∷◌, length, map, get_or, replicate, Option, None, refl, sym, ap, ◌∙◌, subst, arith, All, IfSome, sum_by, slice_index_or}
-use Rattle.pool_run.proofs.Imports.{length-replicate, All-replicate, recursion_from_All, sum_by-cons, MakerTold, frame_made, IsGrant, IsCore, grant_count, grant_instances, grant_components, grant_stacks, grant_memories, grant_tables, grant_heaps, IsUntouched, HasNothing, untouched_is_whole, none_away, none_kept, PoolCore, Settings, Frame, Grant, ModuleAsked, made_frame, made_count, made_instances, made_components, made_stacks, made_heaps, made_memories, made_tables, ListedStore, ListedHeaps, PlainHeap}
+use Rattle.pool_run.proofs.Imports.{length-replicate, All-replicate, recursion_from_All, sum_by-cons, MakerTold, frame_made, IsGrant, IsCore, IsUntouched, HasNothing, untouched_is_whole, none_away, none_kept, PoolCore, Settings, Frame, Grant, ModuleAsked, made_frame, ListedStore, ListedHeaps, PlainHeap, grant_weight, made_weight}
 use Rattle.pool_run.specs.PartyRules.{host_of}
 use Rattle.pool_run.specs.Private.{Grants, no_grants, with_grants}
 use Rattle.pool_run.specs.Rooms.{World, under, in_stripe}
@@ -64,15 +64,7 @@ none_told P (suc n) = ap (λ (g : Grants). None ∷ g) (none_told P n)
 
 -- It has nothing,
 party_has_nothing : (P : Type 0) (home : ℕ) (limits : Option PartyLimits) (failing unmade : List ℕ) (s : Settings) (n : ℕ) → HasNothing (held_by_party (party_made {P = P} home limits failing unmade s n))
-party_has_nothing P home limits failing unmade s n = record {
-  places = λ t. omega (arith, made_count P PlainHeap t home s, none_live {P = P} (grant_count t) n);
-  instances = omega (arith, made_instances P PlainHeap home s, none_live {P = P} grant_instances n);
-  components = omega (arith, made_components P PlainHeap home s, none_live {P = P} grant_components n);
-  memories = omega (arith, made_memories P PlainHeap home s, none_live {P = P} grant_memories n);
-  tables = omega (arith, made_tables P PlainHeap home s, none_live {P = P} grant_tables n);
-  stacks = omega (arith, made_stacks P PlainHeap home s, none_live {P = P} grant_stacks n);
-  heaps = omega (arith, made_heaps P PlainHeap home s, none_live {P = P} grant_heaps n);
-}
+party_has_nothing P home limits failing unmade s n = λ w. omega (arith, made_weight P PlainHeap w home s, none_live {P = P} (grant_weight w) n)
 
 -- and was told nothing.
 party_is_private : (P : Type 0) (w : World) (commands : List Command) (home : ℕ) (limits : Option PartyLimits) (failing unmade : List ℕ) (s : Settings) → IsPrivate w (no_grants commands) commands [] (party_made {P = P} home limits failing unmade s (length commands))
@@ -109,9 +101,7 @@ module _ {P : Type 0} where
   made_alone maker home n limits failing unmade c core untouched =
       let nothing : HasNothing (held_by_party (party_made {P = P} home limits failing unmade c.settings n)) = party_has_nothing P home limits failing unmade c.settings n in
       record {
-        places = λ t. omega (arith, none_away t c untouched, none_kept t c untouched, nothing.places t);
-        instances = omega (arith, untouched.instances, nothing.instances);
-        components = omega (arith, untouched.components, nothing.components);
+        whole = λ w. omega (arith, none_away w.unit c untouched, none_kept w.unit c untouched, untouched.counted w.counts, nothing w);
         searched = tt;
       }
 

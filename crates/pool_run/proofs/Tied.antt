@@ -1,6 +1,6 @@
 -- What a party has once a step was made fits what it was told, with the reply if the step ends the command.
 use Rattle.std.proofs.Common.{◌≡◌, ℕ, ◌+◌, ◌<◌, ◌≤◌, ◌⊎◌, inl, inr, true, false, List, [], ◌∷◌, length, Option, Some, None, refl, sym, ap, ◌∙◌, subst, arith, IsSome, slice_set, sum_by}
-use Rattle.pool_run.proofs.Imports.{length-map, AllocError, heap_slot, ListedHeaps, risen, Limits, MemoryType, PartyTold, IsGrantOf, IsHeapOf, IfGranted, LeasedHeap, Lease, memory_slot, objects_wanted, LeasedTable, table_slot, InstanceLease, of_kind, SlotName, PlainHeap, right_to, frame_instances, phase_components, component_refused, no_component_left, AreSupported, Progress, untested, uncounted, admitted, Stage, no_call, keys, asks, returning, refusing, purging, reserving, releasing, Follows, Goes, seeks_stack, tests_heap, seeks_heap, counts_heap, tests_component, counts_component, IsBroken, Raises, IsHeapUntested, IsHeapTested, SeeksHeap, HasHeap, grant_count, memories_wanted, images_wanted, memory_slots, PoolCore, Settings, ComponentInfo, Unsupported, Frame, IsStackLease, IsNewStack, LeasedStack, stack_slot, Asked, stack_asked, heap_asked, Grant, instance, component, stack, heap, Outcome}
+use Rattle.pool_run.proofs.Imports.{length-map, AllocError, heap_slot, ListedHeaps, risen, Limits, MemoryType, PartyTold, IsGrantOf, IsHeapOf, IfGranted, LeasedHeap, Lease, memory_slot, objects_wanted, LeasedTable, table_slot, InstanceLease, of_kind, SlotName, PlainHeap, right_to, frame_instances, component_refused, no_component_left, AreSupported, Progress, untested, uncounted, admitted, Stage, no_call, keys, asks, returning, refusing, purging, reserving, releasing, Follows, Goes, seeks_stack, tests_heap, seeks_heap, counts_heap, tests_component, counts_component, IsBroken, Raises, IsHeapUntested, IsHeapTested, SeeksHeap, HasHeap, grant_count, memories_wanted, images_wanted, memory_slots, PoolCore, Settings, ComponentInfo, Unsupported, Frame, IsStackLease, IsNewStack, LeasedStack, stack_slot, Asked, stack_asked, heap_asked, Grant, instance, component, stack, heap, Outcome, counted_component, only, phase_counted}
 use Rattle.pool_slots.specs.declared.errors.AllocError.TheVariants as refusal
 use Rattle.pool_run.proofs.SlotsMade.{made_slot}
 use Rattle.pool_alloc.specs.declared.frame.Outcome.TheVariants as answer
@@ -24,6 +24,7 @@ use Rattle.pool_run.proofs.StackRequests.{stack_cause, stack_begins}
 use Rattle.pool_run.proofs.HeapCalls.{CallsNow}
 use Rattle.pool_run.proofs.HeapRequests.{RefusesNow, heap_refused_now, heap_failed_now, heap_allowed, heap_sought, untested_heap, tested_heap, heap_begun}
 use Rattle.pool_run.proofs.StageSteps.{is_none}
+use Rattle.pool_run.proofs.Weighed.{alone_counts}
 
 -- a grant that is there ends
 dropped : (o : Option PrivateGrant) (told new : Grants) (of : ℕ) → IsSome o → new ≡ slice_set told of None → Drops o told of Returned new
@@ -182,7 +183,7 @@ module _ {P : Type 0} (w : World) (old new : PartyTold) (c : PoolCore P PlainHea
         act = requests (a_component for.info);
         next = for.act;
         moves = (grants_of (slice_set live done (Some component)), (for.supported, grants), these fits component);
-        pool = omega (arith, most, room, is.components, components_told live told seen);
+        pool = omega (arith, most, room, is.counted (only counted_component), components_told live told seen);
       }
 
   -- It is refused for the rule that it breaks,
@@ -200,7 +201,7 @@ module _ {P : Type 0} (w : World) (old new : PartyTold) (c : PoolCore P PlainHea
   component_refuses info e fits for broken = record { wanted = a_component info; act = for; cause = component_broken (component_refused c.settings info) info e (same_rule info) broken; counts = uncalled_by fits }
 
   -- or where there are as many as there may be.
-  component_full : (e : AllocError) → phase_components f.phase ≡ 0 → Fits → IsForSupported w commands done → e ≡ no_component_left c.settings → c.settings.max_component_instances ≤ c.counters.component_instances → IsToRefuse w commands done told state.heaps made e
+  component_full : (e : AllocError) → phase_counted (only counted_component) f.phase ≡ 0 → Fits → IsForSupported w commands done → e ≡ no_component_left c.settings → c.settings.max_component_instances ≤ c.counters.component_instances → IsToRefuse w commands done told state.heaps made e
   component_full e none fits for left full =
       let seen : grants_of live ≡ told = at fits in
       let R : Option Unsupported → Type 0 = λ x. IsComponentRefused w.terms x e in
@@ -211,7 +212,7 @@ module _ {P : Type 0} (w : World) (old new : PartyTold) (c : PoolCore P PlainHea
         act = for.act;
         cause = (
           subst R (sym for.supported) (left ∙ ap no_component_left (sym is.world.settings)),
-          subst T (sym left) (λ a. omega (arith, most, full, (is.alone a).components, none, components_told live told seen)),
+          subst T (sym left) (λ a. omega (arith, most, full, alone_counts c f live (is.alone a) (only counted_component), none, components_told live told seen)),
         );
         counts = uncalled_by fits;
       }
@@ -299,7 +300,7 @@ module _ {P : Type 0} (w : World) (old new : PartyTold) (c : PoolCore P PlainHea
   heap_tested n asked limits same for fits act none tested = record { limits = limits; act = act; asked_for = same ∙ for; supported = tested_heap w old new c f live told is (at fits) (heap_type limits) for tested; allowed = λ some. absurd (omega (arith, some, none)) }
 
   -- After each step of a call what the party has fits what it was told.
-  tied_same : (s t : Stage) (asked : Asked) (o : Option (Outcome P PlainHeap)) → made ≡ was.made → (s ≡ asks uncounted → frame_instances f ≡ 0) → (s ≡ counts_component → phase_components f.phase ≡ 0) → (s ≡ asks seeks_stack → f.asked ≡ stack_asked) → (is_none t ≡ false → asked ≡ f.asked) → IfGranted (IsGrantOf w.maker c.settings c.plan f.asked) o
+  tied_same : (s t : Stage) (asked : Asked) (o : Option (Outcome P PlainHeap)) → made ≡ was.made → (s ≡ asks uncounted → frame_instances f ≡ 0) → (s ≡ counts_component → phase_counted (only counted_component) f.phase ≡ 0) → (s ≡ asks seeks_stack → f.asked ≡ stack_asked) → (is_none t ≡ false → asked ≡ f.asked) → IfGranted (IsGrantOf w.maker c.settings c.plan f.asked) o
       → IfGranted (λ g. (name : SlotName) → grant_count (right_to name) g + sum_by (granted_to (grant_count (right_to name))) live ≤ made_slot name.slot (of_kind name.kind c.plan.totals)) o → Goes w.maker old new c f s t o → TiedAs w s commands done f.asked (seen_with {P = P} w commands done live stores made state live) state → TiedBy w commands done live stores made state t asked o
   tied_same no_call no_call asked None calls none no_component for_stack same of apart goes tied = tied
   tied_same keys no_call asked (Some answer.Key) calls none no_component for_stack same of apart goes tied = tied
@@ -376,7 +377,7 @@ module _ {P : Type 0} (w : World) (old new : PartyTold) (c : PoolCore P PlainHea
       let refuses_now : RefusesNow w told (heap_type limits) refusal.HeapFault was.made made = record { refused = allowed; room = tt; counts = (not_let, counts) } in
       subst T (sym fails.0) (ap (with_calls made) tied.0, refused_now limits refusal.HeapFault tied.1.act tied.1.supported before refuses_now)
 
-  pub tied_by : (s t : Stage) (asked : Asked) (o : Option (Outcome P PlainHeap)) → CallsNow was.failing s t o was.made now.made → (s ≡ asks uncounted → frame_instances f ≡ 0) → (s ≡ counts_component → phase_components f.phase ≡ 0) → (s ≡ asks seeks_stack → f.asked ≡ stack_asked) → (is_none t ≡ false → asked ≡ f.asked) → IfGranted (IsGrantOf w.maker c.settings c.plan f.asked) o
+  pub tied_by : (s t : Stage) (asked : Asked) (o : Option (Outcome P PlainHeap)) → CallsNow was.failing s t o was.made now.made → (s ≡ asks uncounted → frame_instances f ≡ 0) → (s ≡ counts_component → phase_counted (only counted_component) f.phase ≡ 0) → (s ≡ asks seeks_stack → f.asked ≡ stack_asked) → (is_none t ≡ false → asked ≡ f.asked) → IfGranted (IsGrantOf w.maker c.settings c.plan f.asked) o
       → IfGranted (λ g. (name : SlotName) → grant_count (right_to name) g + sum_by (granted_to (grant_count (right_to name))) live ≤ made_slot name.slot (of_kind name.kind c.plan.totals)) o → Goes w.maker old new c f s t o → TiedAs w s commands done f.asked (seen_with {P = P} w commands done live stores was.made state live) state → TiedBy w commands done live stores made state t asked o
   tied_by s t asked o (inl same) none no_component for_stack still of apart goes tied =
       let T : ℕ → Type 0 = λ n. TiedAs w s commands done f.asked (seen_with {P = P} w commands done live stores n state live) state in

@@ -1,6 +1,6 @@
 -- What a turn leaves of a party and of the pool: what one loses comes to the other, and what is to come is still to come.
 use Rattle.std.proofs.Common.{◌≡◌, ℕ, ◌+◌, ◌<◌, ◌≤◌, List, length, Option, Some, None, refl, sym, ap, ◌∙◌, subst, arith, true, slice_set, slice_index_or, sum_by}
-use Rattle.pool_run.proofs.Imports.{MakerTold, objects_in, IsIdle, After, PoolCore, Frame, ModuleAsked, Grant, Outcome, Phase, ListedStore, length-set, get_or-set_other, sum_by-set, Thing, kept_count, away_count, count_granted, Conserves, IsSameSize, grant_count, grant_instances, grant_memories, grant_tables, grant_stacks, grant_heaps, grant_components, IsSearchedAt, IsSearched, stage_at, stage_of, PlainHeap}
+use Rattle.pool_run.proofs.Imports.{MakerTold, objects_in, IsIdle, After, PoolCore, Frame, ModuleAsked, Grant, Outcome, Phase, ListedStore, length-set, get_or-set_other, sum_by-set, kept_count, count_granted, Conserves, IsSameSize, IsSearchedAt, IsSearched, stage_at, stage_of, PlainHeap, Weight, away_weight, grant_weight}
 use Rattle.pool_alloc.specs.declared.frame.Outcome.TheVariants as answer
 use Rattle.pool_run.specs.Rooms.{World}
 use Rattle.pool_run.specs.PartyRules.{host_of}
@@ -23,13 +23,7 @@ module _ {P : Type 0} where
   -- What the pool loses comes to the party, and the other way round. The pool has the same sizes, and the party as many
   -- places, of which those to come are empty, and one is there for what is asked for.
   pub record HasTurned (c : PoolCore P PlainHeap) (p : RunningParty P) (t : Turned P) : Type 0 where
-    pub places : (x : Thing) → kept_count x t.core + (held_by_party t.party).places x + away_count x c ≡ kept_count x c + (held_by_party p).places x + away_count x t.core
-    pub instances : t.core.counters.core_instances + (held_by_party p).instances ≡ c.counters.core_instances + (held_by_party t.party).instances
-    pub components : t.core.counters.component_instances + (held_by_party p).components ≡ c.counters.component_instances + (held_by_party t.party).components
-    pub memories : t.core.counters.memories + (held_by_party p).memories ≡ c.counters.memories + (held_by_party t.party).memories
-    pub tables : t.core.counters.tables + (held_by_party p).tables ≡ c.counters.tables + (held_by_party t.party).tables
-    pub stacks : t.core.counters.stacks + (held_by_party p).stacks ≡ c.counters.stacks + (held_by_party t.party).stacks
-    pub heaps : t.core.counters.gc_heaps + (held_by_party p).heaps ≡ c.counters.gc_heaps + (held_by_party t.party).heaps
+    pub conserves : (w : Weight) → kept_count w.unit t.core + held_by_party t.party w + away_weight w c ≡ kept_count w.unit c + held_by_party p w + away_weight w t.core
     pub size : IsSameSize c t.core
     pub room : length t.party.live ≡ length p.live
     pub host : host_of_party t.party ≡ host_of_party p
@@ -42,18 +36,12 @@ module _ {P : Type 0} where
 
   -- Nothing happened.
   stayed : (c : PoolCore P PlainHeap) (p : RunningParty P) → ((k : ℕ) → p.done ≤ k → slice_index_or p.live k None ≡ None) → (is_asking (stage_of p.frame) ≡ true → p.done < length p.live) → HasTurned c p (record { core = c; party = p; reply = None })
-  stayed c p to_come place = record { places = λ x. refl; instances = refl; components = refl; memories = refl; tables = refl; stacks = refl; heaps = refl; size = same_size c; room = refl; host = refl; to_come = to_come; place = place; searched = λ s. s }
+  stayed c p to_come place = record { conserves = λ w. refl; size = same_size c; room = refl; host = refl; to_come = to_come; place = place; searched = λ s. s }
 
   -- A command ended at once, and the party has the same of the pool.
   ended : (c : PoolCore P PlainHeap) (p : RunningParty P) (live : List (Option (Grant P PlainHeap))) (store : ListedStore) (reply : Reply) → HaveSame p (record p { live = live }) → length live ≡ length p.live → ((k : ℕ) → p.done ≤ k → slice_index_or live k None ≡ None) → IsIdle p.frame → store.failing ≡ p.store.failing → HasTurned c p (ended_at_once reply c (record p { live = live; store = store }))
   ended c p live store reply same room to_come idle listed = record {
-    places = λ x. omega (arith, same.places x);
-    instances = omega (arith, same.instances);
-    components = omega (arith, same.components);
-    memories = omega (arith, same.memories);
-    tables = omega (arith, same.tables);
-    stacks = omega (arith, same.stacks);
-    heaps = omega (arith, same.heaps);
+    conserves = λ w. omega (arith, same w);
     size = same_size c;
     room = room;
     host = ap (λ (failing : List ℕ). host_of p.limits failing p.heaps.failing) listed;
@@ -71,13 +59,7 @@ module _ {P : Type 0} where
   -- a call that ended with no grant
   told_turned : (reply : Reply) (o : Outcome P PlainHeap) (c : PoolCore P PlainHeap) (p : RunningParty P) (d : PoolCore P PlainHeap) (f : Frame P PlainHeap) → ((of : Grant P PlainHeap → ℕ) → count_granted of (Some o) ≡ 0) → ((k : ℕ) → p.done ≤ k → slice_index_or p.live k None ≡ None) → Conserves c p.frame (record { core = d; frame = f; outcome = Some o }) → IsSameSize c d → IsStagedStep (stage_of p.frame) (stage_of f) (Some o) → (IsSearched c p.frame → IsSearched d f) → HasTurned c p (ended_with reply d (record p { frame = f }))
   told_turned reply o c p d f none to_come b size staged after = record {
-    places = λ x. omega (arith, b.places x, none (grant_count x));
-    instances = omega (arith, b.instances, none grant_instances);
-    components = omega (arith, b.components, none grant_components);
-    memories = omega (arith, b.memories, none grant_memories);
-    tables = omega (arith, b.tables, none grant_tables);
-    stacks = omega (arith, b.stacks, none grant_stacks);
-    heaps = omega (arith, b.heaps, none grant_heaps);
+    conserves = λ w. omega (arith, b w, none (grant_weight w));
     size = size;
     room = refl;
     host = refl;
@@ -88,13 +70,7 @@ module _ {P : Type 0} where
 
   answered_turned : (c : PoolCore P PlainHeap) (p : RunningParty P) (d : PoolCore P PlainHeap) (f : Frame P PlainHeap) (o : Option (Outcome P PlainHeap)) → ((k : ℕ) → p.done ≤ k → slice_index_or p.live k None ≡ None) → Conserves c p.frame (record { core = d; frame = f; outcome = o }) → IsSameSize c d → IsStagedStep (stage_of p.frame) (stage_of f) o → (is_asking (stage_of p.frame) ≡ true → p.done < length p.live) → (IsSearched c p.frame → IsSearched d f) → HasTurned c p (answered o d (record p { frame = f }))
   answered_turned c p d f None to_come b size staged place after = record {
-    places = λ x. omega (arith, b.places x);
-    instances = omega (arith, b.instances);
-    components = omega (arith, b.components);
-    memories = omega (arith, b.memories);
-    tables = omega (arith, b.tables);
-    stacks = omega (arith, b.stacks);
-    heaps = omega (arith, b.heaps);
+    conserves = λ w. omega (arith, b w);
     size = size;
     room = refl;
     host = refl;
@@ -103,13 +79,7 @@ module _ {P : Type 0} where
     searched = after;
   }
   answered_turned c p d f (Some answer.Key) to_come b size staged place after = record {
-    places = λ x. omega (arith, b.places x);
-    instances = omega (arith, b.instances);
-    components = omega (arith, b.components);
-    memories = omega (arith, b.memories);
-    tables = omega (arith, b.tables);
-    stacks = omega (arith, b.stacks);
-    heaps = omega (arith, b.heaps);
+    conserves = λ w. omega (arith, b w);
     size = size;
     room = refl;
     host = refl;
@@ -120,13 +90,7 @@ module _ {P : Type 0} where
   answered_turned c p d f (Some (answer.Granted grant)) to_come b size staged place after =
       let none : slice_index_or p.live p.done None ≡ None = to_come p.done (omega arith) in
       record {
-        places = λ x. omega (arith, b.places x, more (grant_count x) p.live p.done grant (place staged.granted) none);
-        instances = omega (arith, b.instances, more grant_instances p.live p.done grant (place staged.granted) none);
-        components = omega (arith, b.components, more grant_components p.live p.done grant (place staged.granted) none);
-        memories = omega (arith, b.memories, more grant_memories p.live p.done grant (place staged.granted) none);
-        tables = omega (arith, b.tables, more grant_tables p.live p.done grant (place staged.granted) none);
-        stacks = omega (arith, b.stacks, more grant_stacks p.live p.done grant (place staged.granted) none);
-        heaps = omega (arith, b.heaps, more grant_heaps p.live p.done grant (place staged.granted) none);
+        conserves = λ w. omega (arith, b w, more (grant_weight w) p.live p.done grant (place staged.granted) none);
         size = size;
         room = length-set p.live p.done (Some grant);
         host = refl;
@@ -142,13 +106,7 @@ module _ {P : Type 0} where
   -- The same from a party with as much of the pool.
   turned_from : (c : PoolCore P PlainHeap) (p q : RunningParty P) (t : Turned P) → HaveSame p q → length q.live ≡ length p.live → host_of_party q ≡ host_of_party p → (IsSearched c p.frame → IsSearched c q.frame) → HasTurned c q t → HasTurned c p t
   turned_from c p q t same room host searching turned = record {
-    places = λ x. omega (arith, turned.places x, same.places x);
-    instances = omega (arith, turned.instances, same.instances);
-    components = omega (arith, turned.components, same.components);
-    memories = omega (arith, turned.memories, same.memories);
-    tables = omega (arith, turned.tables, same.tables);
-    stacks = omega (arith, turned.stacks, same.stacks);
-    heaps = omega (arith, turned.heaps, same.heaps);
+    conserves = λ w. omega (arith, turned.conserves w, same w);
     size = turned.size;
     room = turned.room ∙ room;
     host = turned.host ∙ host;
@@ -163,7 +121,7 @@ module _ {P : Type 0} where
       let a : After P PlainHeap = steps.0 in
       let q : RunningParty P = record p { heaps = t.party.heaps } in
       let on : IsStepped maker steps.1.0 steps.1.1 c p.frame a = stepped maker steps.1.0 steps.1.1 c p.frame a (can_step maker c p can) steps.1.3 in
-      let same : HaveSame p q = record { places = λ x. refl; instances = refl; components = refl; memories = refl; tables = refl; stacks = refl; heaps = refl } in
+      let same : HaveSame p q = (λ w. refl) in
       turned_from c p q t same refl (ap (host_of p.limits p.store.failing) (list_kept steps.1)) (λ s. s)
       (subst (HasTurned c q) (sym steps.2) (answered_turned c q a.core a.frame a.outcome can.party.to_come on.conserves on.size on.staged can.party.place on.searched))
 

@@ -1,6 +1,6 @@
 -- A turn of a party, as the party sees it: what it was told stays a private run, with the reply if there is one.
 use Rattle.std.proofs.Common.{◌≡◌, ℕ, ◌+◌, List, [], ◌∷◌, ◌++◌, length, Option, Some, None, refl, sym, ap, ◌∙◌, subst, arith, true, ◌≤◌, option_map, slice_get, slice_set, is_some, sum_by}
-use Rattle.pool_run.proofs.Imports.{Plan, length_push, PartyTold, objects_in, After, PoolCore, Frame, Outcome, Stage, no_call, stage_of, IfGranted, Thing, right_to, away_count, kept_count, frame_count, is_idle, Conserves, grant_count, count_granted, Grant, of_kind, SlotName, ListedHeaps, PlainHeap}
+use Rattle.pool_run.proofs.Imports.{Plan, length_push, PartyTold, objects_in, After, PoolCore, Frame, Outcome, Stage, no_call, stage_of, IfGranted, Thing, right_to, away_count, kept_count, frame_count, is_idle, Conserves, grant_count, count_granted, Grant, of_kind, SlotName, ListedHeaps, PlainHeap, conserves_units}
 use Rattle.pool_alloc.specs.declared.frame.Outcome.TheVariants as answer
 use Rattle.pool_run.specs.PartyRules.{rule_of}
 use Rattle.pool_run.specs.Acts.{Act, act_of, act_at}
@@ -23,6 +23,7 @@ use Rattle.pool_run.proofs.HeapCalls.{calls_now}
 use Rattle.pool_run.proofs.Stepped.{IsStepped, stepped}
 use Rattle.pool_run.proofs.Requests.{IsBefore}
 use Rattle.pool_run.proofs.SlotsMade.{made_slot, away_made}
+use Rattle.pool_run.proofs.Weighed.{fits_units, fits_counts}
 
 -- the command that does this
 command_at : (o : Option Command) (act : Act) → option_map act_of o ≡ Some act → (command : Command) × (o ≡ Some command) × (act_of command ≡ act)
@@ -72,7 +73,7 @@ module _ {P : Type 0} where
   apart c f live a (Some (answer.Granted grant)) is once b most =
       λ k.
       let here : count_granted (grant_count (right_to k)) a.outcome ≡ grant_count (right_to k) grant = ap (count_granted (grant_count (right_to k))) (sym is) in
-      omega (arith, once (right_to k), b.places (right_to k), most k, here)
+      omega (arith, once (right_to k), conserves_units c f a b (right_to k), most k, here)
   apart c f live a (Some answer.Returned) is once b most = tt
   apart c f live a (Some (answer.Purged n)) is once b most = tt
   apart c f live a (Some (answer.Released n)) is once b most = tt
@@ -89,9 +90,8 @@ module _ {P : Type 0} where
       record {
         world = world;
         frame = can.party.sound.frame;
-        once = λ k. omega (arith, can.fits.once (right_to k), away_made w.maker k c can.core);
-        instances = omega (arith, can.fits.instances);
-        components = omega (arith, can.fits.components);
+        once = λ k. omega (arith, fits_units c p can.fits (right_to k), away_made w.maker k c can.core);
+        counted = λ n. fits_counts c p can.fits n;
         alone = alone;
         rule = steps.1.2 ∙ ap (λ (h : Host). Some h.rule) ruled;
         stripe = striped;
@@ -102,4 +102,4 @@ module _ {P : Type 0} where
       (tied_by w old steps.1.1 c f commands p.done p.live p.store.made p.heaps t.party.heaps private.told is steps.1.4 steps.1.5 (ap (λ (h : Host). h.unmade) ruled) (stage_of f) (stage_of a.frame) a.frame.asked a.outcome
       (calls_now w.maker (rule_of p.limits) p.heaps t.party.heaps c f a can.party.sound.frame steps.1)
       (uncounted_none f.phase f.asked f.ending (objects_in f.objects)) (uncounted_component f.phase f.asked f.ending (objects_in f.objects)) (stack_is_asked w.maker c f can.party.sound.frame) (λ none. on.goes.asked (sym idle ∙ none)) on.granted
-      (apart c f p.live a a.outcome refl can.fits.once on.conserves (λ k. omega (arith, away_made w.maker k a.core on.core, ap (λ (plan : Plan). made_slot k.slot (of_kind k.kind plan.totals)) on.size.plan))) on.goes.way private.tied))
+      (apart c f p.live a a.outcome refl (fits_units c p can.fits) on.conserves (λ k. omega (arith, away_made w.maker k a.core on.core, ap (λ (plan : Plan). made_slot k.slot (of_kind k.kind plan.totals)) on.size.plan))) on.goes.way private.tied))

@@ -11,7 +11,7 @@ pub use Rattle.pool_alloc.specs.Made.{IsMadeCore, settings_of}
 pub use Rattle.pool_alloc.specs.Modules.{HasImages}
 pub use Rattle.pool_alloc.specs.Own.{refusal_of}
 pub use Rattle.pool_alloc.specs.PartyTold.{PartyTold}
-pub use Rattle.pool_alloc.specs.Places.{Thing, away_count, frame_count, frame_instances, frame_memories, frame_tables, kept_count, phase_components, phase_heaps, phase_stacks, queued_count, region_of, right_to}
+pub use Rattle.pool_alloc.specs.Places.{Weight, away_count, away_weight, counted_component, counted_instance, counted_object, frame_weight, kept_count, of_units, only, queued_count, region_of, right_to}
 pub use Rattle.pool_alloc.specs.Refusals.{component_refused, instance_size, module_refused, type_refused}
 pub use Rattle.pool_alloc.specs.Reserved.{Reserved, no_room, with_item}
 pub use Rattle.pool_alloc.specs.Rows.{no_component_left}
@@ -19,7 +19,7 @@ pub use Rattle.pool_alloc.specs.Searches.{IsSearched}
 pub use Rattle.pool_alloc.specs.Sound.{AreImagesOf, IsCore, IsFrame}
 pub use Rattle.pool_alloc.specs.StackLeases.{LeasedStack}
 pub use Rattle.pool_alloc.specs.Stages.{Progress, Stage, admitted, asks, counts_component, counts_heap, keys, no_call, purging, refusing, releasing, reserving, returning, seeks_heap, seeks_stack, stage_of, tests_component, tests_heap, uncounted, untested}
-pub use Rattle.pool_alloc.specs.Stepping.{StepsTo, grant_components, grant_count, grant_heaps, grant_instances, grant_memories, grant_stacks, grant_tables, is_idle}
+pub use Rattle.pool_alloc.specs.Stepping.{StepsTo, grant_components, grant_instances, grant_weight, is_idle}
 pub use Rattle.pool_alloc.specs.Steps.{IsModule, allocator_of, images_wanted, info_wanted, memories_wanted, memory_slots, no_module, queue_at, shard_at, stripe_allocator, tables_wanted}
 pub use Rattle.pool_alloc.specs.Sums.{calls_in_frame, calls_kept, calls_of_instance, metrics_of}
 pub use Rattle.pool_alloc.specs.TableLeases.{LeasedTable, LiesInRegion, element_of}

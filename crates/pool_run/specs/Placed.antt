@@ -1,6 +1,6 @@
 -- Where each slot of the pool is between two turns: in one place.
 use Rattle.std.specs.Prelude.{◌≡◌, ◌≢◌, ℕ, ◌<◌, if◌then◌else◌, slice_get, Option, Some}
-use Rattle.pool_run.specs.Imports.{option_map_or, ShardState, is_used, pick_answer, slot_number, MemoryInModule, SlotId, MakerTold, right_to, queued_count, shard_at, queue_at, of_kind, home_of, SlotName}
+use Rattle.pool_run.specs.Imports.{option_map_or, ShardState, is_used, pick_answer, slot_number, MemoryInModule, SlotId, MakerTold, right_to, queued_count, shard_at, queue_at, of_kind, home_of, SlotName, of_units}
 use Rattle.pool_slots.specs.declared.part.PoolPart.TheVariants as part
 use Rattle.pool_run.specs.Folds.{RunState, HoldsBetween}
 use Rattle.pool_run.specs.Ties.{held_by_party}
@@ -17,7 +17,7 @@ module _ {P : Type 0} where
   abbrev pub times_at : RunState P → Place → SlotName → ℕ
   times_at s free k = if is_used (shard_at (home_of s.core.plan k).place s.core) (home_of s.core.plan k).local.0 then 0 else 1
   times_at s (in_queue p) k = queued_count (right_to k) (queue_at p s.core).slots
-  times_at s (with_party i) k = option_map_or (λ p. (held_by_party p).places (right_to k)) (slice_get s.parties i) 0
+  times_at s (with_party i) k = option_map_or (λ p. held_by_party p (of_units (right_to k))) (slice_get s.parties i) 0
 
   -- the slot is there once, and nowhere else
   pub record IsIn (s : RunState P) (k : SlotName) (place : Place) : Type 0 where

@@ -1,6 +1,6 @@
 -- What a party was told, and what it has: between two turns they fit each other.
 use Rattle.std.specs.Prelude.{◌≡◌, ℕ, ◌+◌, ◌<◌, ◌≤◌, List, [], length, slice_get, slice_index_or, slice_set, sum_by, All, Bool, true, false, Option, Some, None, IsSome, IfSome}
-use Rattle.pool_run.specs.Imports.{MakerTold, ComponentInfo, Limits, AllocError, component_refused, Reserved, IsSearched, Progress, untested, uncounted, admitted, tests_heap, seeks_heap, counts_heap, Stage, no_call, keys, asks, returning, refusing, purging, reserving, releasing, stage_of, seeks_stack, tests_component, counts_component, memories_wanted, images_wanted, tables_wanted, info_wanted, IsModule, Want, wants_from, SlotName, PlainHeap, Thing, right_to, region_of, away_count, kept_count, frame_count, frame_instances, phase_components, phase_stacks, phase_heaps, frame_memories, frame_tables, grant_count, grant_instances, grant_components, grant_memories, grant_tables, grant_stacks, grant_heaps, IsGrant, IsCore, IsFrame, Holding, IsPartitioned, PoolCore, Frame, Asked, heap_asked, Grant}
+use Rattle.pool_run.specs.Imports.{MakerTold, ComponentInfo, Limits, AllocError, component_refused, Reserved, IsSearched, Progress, untested, uncounted, admitted, tests_heap, seeks_heap, counts_heap, Stage, no_call, keys, asks, returning, refusing, purging, reserving, releasing, stage_of, seeks_stack, tests_component, counts_component, memories_wanted, images_wanted, tables_wanted, info_wanted, IsModule, Want, wants_from, SlotName, PlainHeap, right_to, region_of, away_count, kept_count, IsGrant, IsCore, IsFrame, Holding, IsPartitioned, PoolCore, Frame, Asked, heap_asked, Grant, Weight, of_units, away_weight, frame_weight, grant_weight}
 use Rattle.pool_run.specs.Private.{Grants, Terms, module_of, Request, request_of, wants_of, grant_at, own_refusal, IsCause, IsComponentRefused, stack_refusal, heap_barred, heap_refusal, CountsGranted, CountsRefused, RefusesHeap, PrivateState, StepsBy, with_grants}
 use Rattle.pool_run.specs.Rooms.{World, PooledStep, IsForRoom, TellsComponentRoom, TellsStackRoom, TellsHeapRoom, instance_count}
 use Rattle.pool_run.specs.Turns.{grants_of}
@@ -170,15 +170,7 @@ module _ {P : Type 0} where
 
   -- What a party has of the pool: with its call under way, and in its live grants.
   abbrev pub held_by_party : RunningParty P → Holding
-  held_by_party p = record {
-    places = λ t. frame_count t p.frame + sum_by (granted_to (grant_count t)) p.live;
-    instances = frame_instances p.frame + sum_by (granted_to grant_instances) p.live;
-    components = phase_components p.frame.phase + sum_by (granted_to grant_components) p.live;
-    memories = frame_memories p.frame + sum_by (granted_to grant_memories) p.live;
-    tables = frame_tables p.frame + sum_by (granted_to grant_tables) p.live;
-    stacks = phase_stacks p.frame.phase + sum_by (granted_to grant_stacks) p.live;
-    heaps = phase_heaps p.frame.phase + sum_by (granted_to grant_heaps) p.live;
-  }
+  held_by_party p w = frame_weight w p.frame + sum_by (granted_to (grant_weight w)) p.live
 
   -- what a turn leaves of a party that its calls say
   pub record IsSoundParty (maker : MakerTold) (c : PoolCore P PlainHeap) (p : RunningParty P) : Type 0 where
@@ -200,14 +192,8 @@ module _ {P : Type 0} where
   -- What a turn relies on: what the party has fits what the pool has given out. It was given out and isn't kept, others
   -- have no region without its slot, and what the party has counted is counted.
   pub record FitsParty (c : PoolCore P PlainHeap) (p : RunningParty P) : Type 0 where
-    pub once : (t : Thing) → kept_count t c + (held_by_party p).places t ≤ away_count t c
-    pub others : (name : SlotName) → away_count (region_of name) c + (kept_count (right_to name) c + (held_by_party p).places (right_to name)) ≤ away_count (right_to name) c + (kept_count (region_of name) c + (held_by_party p).places (region_of name))
-    pub instances : (held_by_party p).instances ≤ c.counters.core_instances
-    pub components : (held_by_party p).components ≤ c.counters.component_instances
-    pub memories : (held_by_party p).memories ≤ c.counters.memories
-    pub tables : (held_by_party p).tables ≤ c.counters.tables
-    pub stacks : (held_by_party p).stacks ≤ c.counters.stacks
-    pub heaps : (held_by_party p).heaps ≤ c.counters.gc_heaps
+    pub once : (w : Weight) → kept_count w.unit c + held_by_party p w ≤ away_weight w c
+    pub others : (name : SlotName) → away_count (region_of name) c + (kept_count (right_to name) c + held_by_party p (of_units (right_to name))) ≤ away_count (right_to name) c + (kept_count (region_of name) c + held_by_party p (of_units (region_of name)))
 
   -- What a turn of a party needs: a sound pool, a sound party, and that these fit each other.
   pub record CanTurn (maker : MakerTold) (c : PoolCore P PlainHeap) (p : RunningParty P) : Type 0 where
@@ -224,7 +210,5 @@ module _ {P : Type 0} where
   -- A party with this call and these grants is alone: all that the pool has given out and doesn't keep is with it, and it
   -- has counted what is counted.
   pub record IsAlone (c : PoolCore P PlainHeap) (f : Frame P PlainHeap) (live : List (Option (Grant P PlainHeap))) : Type 0 where
-    pub places : (t : Thing) → kept_count t c + (frame_count t f + sum_by (granted_to (grant_count t)) live) ≡ away_count t c
-    pub instances : c.counters.core_instances ≡ frame_instances f + sum_by (granted_to grant_instances) live
-    pub components : c.counters.component_instances ≡ phase_components f.phase + sum_by (granted_to grant_components) live
+    pub whole : (w : Weight) → kept_count w.unit c + (frame_weight w f + sum_by (granted_to (grant_weight w)) live) ≡ away_weight w c
     pub searched : IsSearched c f
