@@ -11,18 +11,18 @@ ghost use Rattle.pool_alloc.specs.Rows.{test_heap_row, heaps_tested, heap_next, 
 ghost use Rattle.pool_alloc.specs.Steps.{IsHeapAsked, heaps_at, shard_at};
 ghost use Rattle.pool_alloc.specs.Turns.{After, goes, stepped, resting};
 
-use crate::frame::{Asked, Frame, Grant, Object, Outcome, Phase, TakenSlot};
+use crate::frame::{Asked, Frame, Grant, Outcome, Phase, TakenSlot};
 use crate::freeing::home;
 use crate::heap_lease::HeapLease;
 use crate::lease::{InstanceLease, MemoryLease};
-use crate::part_calls::{free_in, put_heap_in, take_heap_in};
+use crate::part_steps;
 use crate::pool_core::PoolCore;
 use crate::validations::type_refused;
 use pool_index::SlotKind;
 use pool_pages::Pages;
 use pool_slots::{
     AllocError, GcHeap, GcHeapAllocationIndex, HeapMakeFault, HeapMaker, MemoryAllocationIndex,
-    RegionNumbers, SlotName,
+    SlotName,
 };
 use pool_types::Unsupported;
 use std::alloc::Global;
@@ -68,14 +68,8 @@ impl<P: Pages, H: GcHeap> PoolCore<P, H> {
         ensures { ◌≡◌ {A = After P H} (record { core = self.new; frame = frame.new; outcome = None }) (stepped (in_heaps self.old (take_heap_on name (heaps_at self.old) (resting frame.old)))) }
     {
         frame.rest();
-        let memory = first_index(&frame.objects);
         let part = self.parts.at(self.plan.heap_list);
-        let heap = take_heap_in(part, name.slot, memory);
-        let numbers = RegionNumbers {
-            faults: memory.0 as u64,
-            erases: 0,
-        };
-        frame.go(heap_next(TakenSlot { name, numbers }, heap))
+        part_steps::take_heap(part, frame, name)
     }
 
     // Makes a heap for a slot that had none.
@@ -146,10 +140,8 @@ impl<P: Pages, H: GcHeap> PoolCore<P, H> {
         requires { CanPutHeapOf lease.index self.old }
         ensures { ◌≡◌ {A = After P H} (record { core = self.new; frame = frame.new; outcome = None }) (stepped (in_heaps self.old (put_heap_on lease.index (Some lease.heap) (Phase.FreeHeap (heap_slot lease.index) memory) (heaps_at self.old) frame.old))) }
     {
-        let slot = lease.index().0;
         let part = self.parts.at(self.plan.heap_list);
-        put_heap_in(part, slot, Some(lease.into_heap()));
-        frame.go(Phase::FreeHeap(heap_slot(slot), memory))
+        part_steps::put_heap(part, frame, lease, memory)
     }
 
     // Puts a slot back for which no heap could be made.
@@ -160,8 +152,7 @@ impl<P: Pages, H: GcHeap> PoolCore<P, H> {
     {
         frame.rest();
         let part = self.parts.at(self.plan.heap_list);
-        put_heap_in(part, at.name.slot, None);
-        frame.go(Phase::FreeOne(at.name))
+        part_steps::put_no_heap(part, frame, at.name)
     }
 
     // Frees the slot of a heap. Its memory is given back then.
@@ -175,15 +166,14 @@ impl<P: Pages, H: GcHeap> PoolCore<P, H> {
         requires { CanFreeOf name self.old }
         ensures { ◌≡◌ {A = After P H} (record { core = self.new; frame = frame.new; outcome = None }) (stepped (in_shard (home_of self.old.plan name).place self.old (free_heap_on self.old.plan name memory (shard_at (home_of self.old.plan name).place self.old) frame.old))) }
     {
-        let home = home(&self.plan, name);
-        let part = self.parts.at(home.place);
-        free_in(part, home.local, 0);
-        frame.go(Phase::UncountObject(Object::Memory(memory)))
+        let place = home(&self.plan, name).place;
+        let part = self.parts.at(place);
+        part_steps::free_heap(part, &self.plan, frame, name, memory)
     }
 }
 
 // The index of the first memory that was granted, or that of none.
-fn first_index<P: Pages>(objects: &InstanceLease<P>) -> MemoryAllocationIndex
+pub(crate) fn first_index<P: Pages>(objects: &InstanceLease<P>) -> MemoryAllocationIndex
     ensures { result.0 ≡ first_index objects.now.memories.items }
 {
     if objects.memories.is_empty() {
@@ -193,7 +183,7 @@ fn first_index<P: Pages>(objects: &InstanceLease<P>) -> MemoryAllocationIndex
 }
 
 // The name of a heap's slot.
-fn heap_slot(slot: u32) -> SlotName
+pub(crate) fn heap_slot(slot: u32) -> SlotName
     ensures { result ≡ heap_slot slot }
 {
     SlotName {
@@ -203,7 +193,7 @@ fn heap_slot(slot: u32) -> SlotName
 }
 
 // What comes next with a slot that is out of the list of heaps, and with its heap.
-fn heap_next<P: Pages, H: GcHeap>(at: TakenSlot, heap: Option<H>) -> Phase<P, H>
+pub(crate) fn heap_next<P: Pages, H: GcHeap>(at: TakenSlot, heap: Option<H>) -> Phase<P, H>
     requires { IfSome heap (λ heap. H.attached heap ≡ false) }
     ensures { goes result ≡ heap_next at heap }
 {

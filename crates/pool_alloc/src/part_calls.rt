@@ -1,21 +1,20 @@
-//! Calls on one part, for a purge, for a release, and for heaps.
-ghost use Rattle.std.specs.Prelude.{◌≡◌, ◌+◌, ◌<◌, ◌≤◌, ◌^◌, false, length, IsSome, IfSome, option_map};
+//! Calls on one part, for a purge and for a release.
+ghost use Rattle.std.specs.Prelude.{◌≡◌, ◌+◌, ◌≤◌, ◌^◌, length, IsSome, option_map};
 ghost use Rattle.pool_index.specs.Shard.{use_of, affine_answer, after_affine_pick, after_free, after_take_warm, slot_number};
 ghost use Rattle.pool_slots.specs.Cells.{IsCleanOnceUsed};
 ghost use Rattle.pool_slots.specs.CellOf.{cell_of};
-ghost use Rattle.pool_slots.specs.HeapLists.{IsHere, IsOut, heap_in, heap_taken, heap_returned};
 ghost use Rattle.pool_slots.specs.Parts.{IsShardPart, IsCellPart, cell_of_part};
 ghost use Rattle.pool_slots.specs.RegionCells.{IsAwaited, cell_numbers, cell_emptied, cell_filled};
 ghost use Rattle.pool_alloc.specs.Purges.{image_in};
 ghost use Rattle.pool_alloc.specs.Releases.{taking};
-ghost use Rattle.pool_alloc.specs.Steps.{IsHeapsPart, shard_in, heaps_in, part_holding};
+ghost use Rattle.pool_alloc.specs.Steps.{shard_in, part_holding};
 
 use crate::release::ReleaseCursor;
 use crate::shard_steps::free_of;
 use crate::warm_slots::{pick_affine, take_warm};
 use pool_index::{MemoryInModule, SlotId};
 use pool_pages::Pages;
-use pool_slots::{GcHeap, ImageSlot, MemoryAllocationIndex, PoolPart, RegionCell, RegionNumbers};
+use pool_slots::{GcHeap, ImageSlot, PoolPart, RegionCell, RegionNumbers};
 use std::marker::Brand;
 use std::sync::ledger::Blank;
 
@@ -100,44 +99,6 @@ pub(crate) fn put_image_in<P: Pages, H: GcHeap>(part: &mut PoolPart<P, H>, held:
         PoolPart::Memory(cell) => cell.put(held),
         PoolPart::Table(cell) => cell.put(held),
         PoolPart::Stack(cell) => cell.put(held),
-        _ => unreachable!(),
-    }
-}
-
-// Takes the heap of a slot out of the list of heaps, where the slot has one. The slot notes the memory.
-pub(crate) fn take_heap_in<P: Pages, H: GcHeap>(
-    part: &mut PoolPart<P, H>,
-    slot: u32,
-    memory: MemoryAllocationIndex,
-) -> Option<H>
-    requires list { IsHeapsPart part.old }
-    requires inside { slot < length (heaps_in part.old) }
-    requires here { IsHere slot (heaps_in part.old) }
-    ensures heap { result ≡ heap_in slot (heaps_in part.old) }
-    ensures detached { IfSome result (λ heap. H.attached heap ≡ false) }
-    ensures after { part.new ≡ PoolPart.Heaps (heap_taken slot memory (heaps_in part.old)) }
-{
-    match part {
-        PoolPart::Heaps(heaps) => heaps.take(slot, memory),
-        _ => unreachable!(),
-    }
-}
-
-// Puts a heap back, or nothing.
-pub(crate) fn put_heap_in<P: Pages, H: GcHeap>(
-    part: &mut PoolPart<P, H>,
-    slot: u32,
-    heap: Option<H>,
-)
-    requires list { IsHeapsPart part.old }
-    requires out { IsOut slot (heaps_in part.old) }
-    requires detached { IfSome heap (λ heap. H.attached heap ≡ false) }
-    ensures { part.new ≡ PoolPart.Heaps (heap_returned slot heap (heaps_in part.old)) }
-{
-    match part {
-        PoolPart::Heaps(heaps) => {
-            let _memory = heaps.put(slot, heap);
-        }
         _ => unreachable!(),
     }
 }

@@ -1,7 +1,9 @@
-ghost use Rattle.std.specs.Prelude.{◌≡◌, ◌+◌, ◌<◌, ◌≤◌, ◌^◌, false, All, length, IsSome, if◌then◌else◌, None};
+ghost use Rattle.std.specs.Prelude.{◌≡◌, ◌+◌, ◌<◌, ◌≤◌, ◌^◌, false, All, length, IsSome, IfSome, if◌then◌else◌, None, Some};
 ghost use Rattle.pool_index.specs.Shard.{use_of, resident_bytes};
 ghost use Rattle.pool_slots.specs.Cells.{is_taken, unmapped, IsCleanOnceUsed};
 ghost use Rattle.pool_slots.specs.CellOf.{cell_of};
+ghost use Rattle.pool_slots.specs.HeapLists.{IsHere, IsOut, heap_in, heap_taken, heap_returned};
+ghost use Rattle.pool_slots.specs.HeapUnits.{heap_slot};
 ghost use Rattle.pool_slots.specs.Plans.{home_of};
 ghost use Rattle.pool_slots.specs.QueueMerges.{CanMerge};
 ghost use Rattle.pool_slots.specs.Parts.{IsShardPart, IsCellPart, cell_of_part};
@@ -11,17 +13,22 @@ ghost use Rattle.pool_slots.specs.declared.part.PoolPart.{PoolPart};
 ghost use Rattle.pool_alloc.specs.CanStep.{CanTryShard, CanUnmap, HasAllocators};
 ghost use Rattle.pool_alloc.specs.Closing.{has_free};
 ghost use Rattle.pool_alloc.specs.Freeing.{AreUsedInTurn, HasHome, CanBeFreed};
-ghost use Rattle.pool_alloc.specs.Rows.{pick_on, free_one_on, free_on, take_region_on, put_back_on, region_put, take_queue_on, merge_on};
+ghost use Rattle.pool_alloc.specs.Rows.{pick_on, free_one_on, free_on, take_region_on, put_back_on, region_put, take_queue_on, merge_on, take_heap_on, put_heap_on, free_heap_on};
 ghost use Rattle.pool_alloc.specs.Sums.{warm_in, resident_in, part_calls};
-ghost use Rattle.pool_alloc.specs.Steps.{cell_returned, IsQueuePart, shard_in, queue_in, part_holding, freed_of, allocator_for};
+ghost use Rattle.pool_alloc.specs.Steps.{cell_returned, IsHeapsPart, IsQueuePart, heaps_in, shard_in, queue_in, part_holding, freed_of, allocator_for};
 ghost use Rattle.pool_alloc.specs.Turns.{PartAfter, part_after, lifted};
 
-use crate::frame::{Frame, Outcome};
+use crate::frame::{Frame, Outcome, Phase, TakenSlot};
+use crate::heap_lease::HeapLease;
+use crate::heap_steps::{first_index, heap_next, heap_slot};
+use crate::lease::MemoryLease;
 use crate::pool_core::Settings;
 use crate::{cell_steps, queue_steps, shard_steps};
 use pool_index::{Shard, SlotKind};
 use pool_pages::{PageCalls, Pages};
-use pool_slots::{GcHeap, ImageSlot, Plan, PoolPart, QueuedSlot, SlotName};
+use pool_slots::{
+    GcHeap, ImageSlot, MemoryAllocationIndex, Plan, PoolPart, QueuedSlot, RegionNumbers, SlotName,
+};
 use std::alloc::Global;
 
 // The steps that change one part, on that part alone.
@@ -180,6 +187,103 @@ pub(crate) fn merge<P: Pages, H: GcHeap>(
 {
     match part {
         PoolPart::Queue(queue) => queue_steps::merge(queue, settings, alloc, frame, outcome),
+        _ => unreachable!(),
+    }
+}
+
+pub(crate) fn take_heap<P: Pages, H: GcHeap>(
+    part: &mut PoolPart<P, H>,
+    frame: &mut Frame<P, H>,
+    name: SlotName,
+)
+    requires list { IsHeapsPart part.old }
+    requires inside { name.slot < length (heaps_in part.old) }
+    requires here { IsHere name.slot (heaps_in part.old) }
+    ensures { ◌≡◌ {A = PartAfter (PoolPart P H) P H} (record { part = part.new; frame = frame.new; outcome = None }) (part_after (lifted (λ x. PoolPart.Heaps x) (take_heap_on name (heaps_in part.old) frame.old))) }
+{
+    let memory = first_index(&frame.objects);
+    let heap = take_heap_in(part, name.slot, memory);
+    let numbers = RegionNumbers {
+        faults: memory.0 as u64,
+        erases: 0,
+    };
+    frame.go(heap_next(TakenSlot { name, numbers }, heap))
+}
+
+fn take_heap_in<P: Pages, H: GcHeap>(
+    part: &mut PoolPart<P, H>,
+    slot: u32,
+    memory: MemoryAllocationIndex,
+) -> Option<H>
+    requires list { IsHeapsPart part.old }
+    requires inside { slot < length (heaps_in part.old) }
+    requires here { IsHere slot (heaps_in part.old) }
+    ensures heap { result ≡ heap_in slot (heaps_in part.old) }
+    ensures detached { IfSome result (λ heap. H.attached heap ≡ false) }
+    ensures after { part.new ≡ PoolPart.Heaps (heap_taken slot memory (heaps_in part.old)) }
+{
+    match part {
+        PoolPart::Heaps(heaps) => heaps.take(slot, memory),
+        _ => unreachable!(),
+    }
+}
+
+pub(crate) fn put_heap<P: Pages, H: GcHeap>(
+    part: &mut PoolPart<P, H>,
+    frame: &mut Frame<P, H>,
+    lease: HeapLease<H>,
+    memory: MemoryLease<P>,
+)
+    requires list { IsHeapsPart part.old }
+    requires out { IsOut lease.index (heaps_in part.old) }
+    ensures { ◌≡◌ {A = PartAfter (PoolPart P H) P H} (record { part = part.new; frame = frame.new; outcome = None }) (part_after (lifted (λ x. PoolPart.Heaps x) (put_heap_on lease.index (Some lease.heap) (Phase.FreeHeap (heap_slot lease.index) memory) (heaps_in part.old) frame.old))) }
+{
+    let slot = lease.index().0;
+    put_heap_in(part, slot, Some(lease.into_heap()));
+    frame.go(Phase::FreeHeap(heap_slot(slot), memory))
+}
+
+pub(crate) fn put_no_heap<P: Pages, H: GcHeap>(
+    part: &mut PoolPart<P, H>,
+    frame: &mut Frame<P, H>,
+    name: SlotName,
+)
+    requires list { IsHeapsPart part.old }
+    requires out { IsOut name.slot (heaps_in part.old) }
+    ensures { ◌≡◌ {A = PartAfter (PoolPart P H) P H} (record { part = part.new; frame = frame.new; outcome = None }) (part_after (lifted (λ x. PoolPart.Heaps x) (put_heap_on name.slot None (Phase.FreeOne name) (heaps_in part.old) frame.old))) }
+{
+    put_heap_in(part, name.slot, None);
+    frame.go(Phase::FreeOne(name))
+}
+
+fn put_heap_in<P: Pages, H: GcHeap>(part: &mut PoolPart<P, H>, slot: u32, heap: Option<H>)
+    requires list { IsHeapsPart part.old }
+    requires out { IsOut slot (heaps_in part.old) }
+    requires detached { IfSome heap (λ heap. H.attached heap ≡ false) }
+    ensures { part.new ≡ PoolPart.Heaps (heap_returned slot heap (heaps_in part.old)) }
+{
+    match part {
+        PoolPart::Heaps(heaps) => {
+            let _memory = heaps.put(slot, heap);
+        }
+        _ => unreachable!(),
+    }
+}
+
+pub(crate) fn free_heap<P: Pages, H: GcHeap>(
+    part: &mut PoolPart<P, H>,
+    plan: &Plan,
+    frame: &mut Frame<P, H>,
+    name: SlotName,
+    memory: MemoryLease<P>,
+)
+    requires shard { IsShardPart part.old }
+    requires home { HasHome plan.now name }
+    requires used { IsSome (use_of (shard_in part.old) (home_of plan.now name).local.0) }
+    ensures { ◌≡◌ {A = PartAfter (PoolPart P H) P H} (record { part = part.new; frame = frame.new; outcome = None }) (part_after (lifted (λ x. PoolPart.Shard x) (free_heap_on plan.now name memory (shard_in part.old) frame.old))) }
+{
+    match part {
+        PoolPart::Shard(shard) => shard_steps::free_heap(shard, plan, frame, name, memory),
         _ => unreachable!(),
     }
 }

@@ -2,13 +2,14 @@ ghost use Rattle.std.specs.Prelude.{◌≡◌, ◌+◌, ◌<◌, ◌≤◌, ◌^
 ghost use Rattle.pool_index.specs.Shard.{ShardState, IsShard, IsSameShard, use_of, pick_answer, after_pick, after_free, slot_number};
 ghost use Rattle.pool_alloc.specs.CanStep.{HasAllocators, CanTryShard};
 ghost use Rattle.pool_alloc.specs.Freeing.{AreUsedInTurn, HasHome, CanBeFreed};
-ghost use Rattle.pool_alloc.specs.Rows.{taken_next, picked, pick_on, free_one_on, free_on};
+ghost use Rattle.pool_alloc.specs.Rows.{taken_next, picked, pick_on, free_one_on, free_heap_on, free_on};
 ghost use Rattle.pool_slots.specs.Plans.{home_of};
 ghost use Rattle.pool_alloc.specs.Steps.{freed_of, allocator_for};
 ghost use Rattle.pool_alloc.specs.Turns.{Left, PartAfter, after, part_after, goes, slot_search};
 
-use crate::frame::{Frame, Outcome, Phase};
+use crate::frame::{Frame, Object, Outcome, Phase};
 use crate::freeing::{free_all, home};
+use crate::lease::MemoryLease;
 use pool_index::{MemoryInModule, Shard, SlotId, SlotKind, Steps};
 use pool_pages::Pages;
 use pool_slots::{GcHeap, Plan, SlotName};
@@ -91,6 +92,23 @@ pub(crate) fn free_one<P: Pages, H: GcHeap>(
     let local = home(plan, name).local;
     free_of::<Brand>(shard, local, 0, Blank::new(1));
     frame.next(alloc, outcome)
+}
+
+// Frees the slot of a heap. Its memory is given back then.
+pub(crate) fn free_heap<P: Pages, H: GcHeap>(
+    shard: &mut Shard,
+    plan: &Plan,
+    frame: &mut Frame<P, H>,
+    name: SlotName,
+    memory: MemoryLease<P>,
+)
+    requires home { HasHome plan.now name }
+    requires used { IsSome (use_of shard.old (home_of plan.now name).local.0) }
+    ensures { ◌≡◌ {A = PartAfter ShardState P H} (record { part = shard.new; frame = frame.new; outcome = None }) (part_after (free_heap_on plan.now name memory shard.old frame.old)) }
+{
+    let local = home(plan, name).local;
+    free_of::<Brand>(shard, local, 0, Blank::new(1));
+    frame.go(Phase::UncountObject(Object::Memory(memory)))
 }
 
 // Frees all slots that wait to be freed and are at home in the shard, which has this place.
