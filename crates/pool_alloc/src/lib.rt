@@ -34,8 +34,8 @@ mod reserved;
 
 // The step, and the part that it is on
 mod part_at;
-mod part_calls;
 mod part_steps;
+mod part_sweeps;
 mod step;
 
 // Steps of a request

@@ -31,7 +31,7 @@ use pool_slots::{
 };
 use std::alloc::Global;
 
-// The steps that change one part, on that part alone.
+// The steps that change one part, on that part alone. Those of a purge and of a release stand in `part_sweeps.rt`.
 
 pub(crate) fn pick<P: Pages, H: GcHeap>(
     part: &mut PoolPart<P, H>,

@@ -12,7 +12,7 @@ ghost use Rattle.pool_alloc.specs.Turns.{After, Left, after, goes, stepped};
 
 use crate::frame::{Frame, Outcome, Phase, TakenSlot};
 use crate::freeing::{home, memory_slot};
-use crate::part_calls;
+use crate::part_sweeps;
 use crate::pool_core::{PoolCore, Settings};
 use crate::purge::{PurgeCursor, PurgeStep};
 use pool_images::MemoryImageSlot;
@@ -54,22 +54,20 @@ impl<P: Pages, H: GcHeap> PoolCore<P, H> {
         requires unanswered { outcome.old ≡ None }
         ensures { (g : StepGiven H) → ◌≡◌ {A = After P H} (record { core = self.new; frame = frame.new; outcome = outcome.new }) (stepped (purge_row g cursor (PurgeStep.Pick tried) self.old frame.old)) }
     {
-        if !self.has_turns() {
+        if !has_turns(&self.settings, &self.plan) {
             return frame.end(Outcome::Purged(cursor.purged), outcome);
         }
         let place = cursor.allocator(&self.plan).first_place + tried;
         let part = self.parts.at(place);
-        match part_calls::pick_affine_in(part, cursor.wanted()) {
-            Some(slot) => found(frame, cursor, slot),
-            None => missed(&self.settings, &self.plan, frame, cursor, tried, outcome),
-        }
-    }
-
-    // Whether a purge has turns.
-    fn has_turns(&self) -> bool
-        ensures { result ≡ has_turns self.now.settings.max_memories_per_module self.now.plan }
-    {
-        self.plan.totals.memory > 0 && self.settings.max_memories_per_module > 0
+        part_sweeps::pick_affine(
+            part,
+            &self.settings,
+            &self.plan,
+            frame,
+            cursor,
+            tried,
+            outcome,
+        )
     }
 
     // Takes the region of the slot that was found.
@@ -79,9 +77,7 @@ impl<P: Pages, H: GcHeap> PoolCore<P, H> {
     {
         let place = self.plan.cell_place(name);
         let part = self.parts.at(place);
-        let (held, numbers) = part_calls::take_image_in(part);
-        let at = TakenSlot { name, numbers };
-        frame.go(Phase::Purge(cursor, PurgeStep::Forget(at, held)))
+        part_sweeps::take_affine(part, frame, cursor, name)
     }
 
     // Puts it back.
@@ -97,8 +93,7 @@ impl<P: Pages, H: GcHeap> PoolCore<P, H> {
     {
         let place = self.plan.cell_place(at.name);
         let part = self.parts.at(place);
-        part_calls::put_image_in(part, held);
-        frame.go(Phase::Purge(cursor, PurgeStep::Free(at.name)))
+        part_sweeps::put_affine(part, frame, cursor, at.name, held)
     }
 
     // Frees the slot. Nothing of it is resident.
@@ -114,20 +109,29 @@ impl<P: Pages, H: GcHeap> PoolCore<P, H> {
         requires unanswered { outcome.old ≡ None }
         ensures { (g : StepGiven H) → ◌≡◌ {A = After P H} (record { core = self.new; frame = frame.new; outcome = outcome.new }) (stepped (purge_row g cursor (PurgeStep.Free name) self.old frame.old)) }
     {
-        let home = home(&self.plan, name);
-        let part = self.parts.at(home.place);
-        part_calls::free_in(part, home.local, 0);
-        purge_to(
+        let place = home(&self.plan, name).place;
+        let part = self.parts.at(place);
+        part_sweeps::free_affine(
+            part,
+            &self.settings,
+            &self.plan,
             frame,
             cursor,
-            cursor.behind_turn(&self.settings, &self.plan),
+            name,
             outcome,
         )
     }
 }
 
+// Whether a purge has turns.
+fn has_turns(settings: &Settings, plan: &Plan) -> bool
+    ensures { result ≡ has_turns settings.now.max_memories_per_module plan.now }
+{
+    plan.totals.memory > 0 && settings.max_memories_per_module > 0
+}
+
 // A slot was found.
-fn found<P: Pages, H: GcHeap>(frame: &mut Frame<P, H>, cursor: PurgeCursor, slot: u32)
+pub(crate) fn found<P: Pages, H: GcHeap>(frame: &mut Frame<P, H>, cursor: PurgeCursor, slot: u32)
     ensures { ◌≡◌ {A = Left P H} (record { frame = frame.new; outcome = None }) (after frame.old (goes (Phase.Purge (found_one cursor) (PurgeStep.TakeRegion (memory_slot slot))))) }
 {
     let step = PurgeStep::TakeRegion(memory_slot(slot));
@@ -135,7 +139,7 @@ fn found<P: Pages, H: GcHeap>(frame: &mut Frame<P, H>, cursor: PurgeCursor, slot
 }
 
 // The shard had none: the next is tried, or after the last the purge goes on behind the memory.
-fn missed<P: Pages, H: GcHeap>(
+pub(crate) fn missed<P: Pages, H: GcHeap>(
     settings: &Settings,
     plan: &Plan,
     frame: &mut Frame<P, H>,
@@ -156,7 +160,7 @@ fn missed<P: Pages, H: GcHeap>(
 }
 
 // The purge goes on there, or ends.
-fn purge_to<P: Pages, H: GcHeap>(
+pub(crate) fn purge_to<P: Pages, H: GcHeap>(
     frame: &mut Frame<P, H>,
     cursor: PurgeCursor,
     next: Option<PurgeCursor>,

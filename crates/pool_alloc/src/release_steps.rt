@@ -12,7 +12,7 @@ ghost use Rattle.pool_alloc.specs.Turns.{After, Left, after, goes, stepped};
 
 use crate::frame::{Frame, FreedSlot, Outcome, Phase, TakenSlot};
 use crate::freeing::home;
-use crate::part_calls;
+use crate::part_sweeps;
 use crate::pool_core::{PoolCore, Settings};
 use crate::release::{ReleaseCursor, ReleaseStep};
 use crate::reserved::ReservedList;
@@ -91,14 +91,9 @@ impl<P: Pages, H: GcHeap> PoolCore<P, H> {
         requires unanswered { outcome.old ≡ None }
         ensures { (g : StepGiven H) → ◌≡◌ {A = After P H} (record { core = self.new; frame = frame.new; outcome = outcome.new }) (stepped (release_row g (ReleaseStep.TakeWarm cursor shard) self.old frame.old)) }
     {
-        let mut cursor = cursor;
-        let allocator = cursor.allocator(&self.plan);
-        let part = self.parts.at(allocator.first_place + shard);
-        part_calls::take_warm_in(part, &mut cursor);
-        if shard + 1 < allocator.shards {
-            return frame.go(Phase::Release(ReleaseStep::TakeWarm(cursor, shard + 1)));
-        }
-        drain_from(&self.plan, frame, cursor, 0, outcome)
+        let place = cursor.allocator(&self.plan).first_place + shard;
+        let part = self.parts.at(place);
+        part_sweeps::take_warm(part, &self.plan, frame, cursor, shard, outcome)
     }
 
     // Takes the region of the slot at this place of those that were taken.
@@ -110,9 +105,7 @@ impl<P: Pages, H: GcHeap> PoolCore<P, H> {
         let name = cursor.slot(at).name;
         let place = self.plan.cell_place(name);
         let part = self.parts.at(place);
-        let (held, numbers) = part_calls::take_image_in(part);
-        let slot = TakenSlot { name, numbers };
-        frame.go(Phase::Release(ReleaseStep::Decommit(cursor, at, slot, held)))
+        part_sweeps::take_resident(part, frame, cursor, at, name)
     }
 
     // Puts it back, in the state that it had. The next slot with resident bytes follows.
@@ -133,8 +126,7 @@ impl<P: Pages, H: GcHeap> PoolCore<P, H> {
     {
         let place = self.plan.cell_place(slot.name);
         let part = self.parts.at(place);
-        part_calls::put_image_in(part, held);
-        drain_from(&self.plan, frame, cursor, at + 1, outcome)
+        part_sweeps::put_resident(part, &self.plan, frame, cursor, at, held, outcome)
     }
 
     // Frees a slot. It keeps nothing resident where all decommits of the stripe succeeded.
@@ -151,12 +143,9 @@ impl<P: Pages, H: GcHeap> PoolCore<P, H> {
         requires unanswered { outcome.old ≡ None }
         ensures { (g : StepGiven H) → ◌≡◌ {A = After P H} (record { core = self.new; frame = frame.new; outcome = outcome.new }) (stepped (release_row g (ReleaseStep.Free cursor slot) self.old frame.old)) }
     {
-        let mut cursor = cursor;
-        let home = home(&self.plan, slot.name);
-        let part = self.parts.at(home.place);
-        part_calls::free_in(part, home.local, cursor.bytes_kept(slot));
-        cursor.releasing(slot);
-        free_first(&self.plan, frame, cursor, outcome)
+        let place = home(&self.plan, slot.name).place;
+        let part = self.parts.at(place);
+        part_sweeps::free_taken(part, &self.plan, frame, cursor, slot, outcome)
     }
 }
 
@@ -173,7 +162,7 @@ fn slots_in(allocators: &[Allocator]) -> usize
 }
 
 // The next slot with resident bytes is decommitted, from this place on, or else all are freed.
-fn drain_from<P: Pages, H: GcHeap>(
+pub(crate) fn drain_from<P: Pages, H: GcHeap>(
     plan: &Plan,
     frame: &mut Frame<P, H>,
     cursor: ReleaseCursor,
@@ -193,7 +182,7 @@ fn drain_from<P: Pages, H: GcHeap>(
 }
 
 // The first slot is freed, or the stripe is done.
-fn free_first<P: Pages, H: GcHeap>(
+pub(crate) fn free_first<P: Pages, H: GcHeap>(
     plan: &Plan,
     frame: &mut Frame<P, H>,
     cursor: ReleaseCursor,
