@@ -1,9 +1,9 @@
 -- A pool is closed: each flush of a queue keeps what holds, and in the end no slot is used.
 use Rattle.std.proofs.Common.{◌≡◌, ℕ, zero, suc, ◌+◌, ◌<◌, ◌≤◌, Bool, true, false, List, [], ◌∷◌, length, refl, sym, ap, subst, ◌∙◌, arith, Option, Some, None, get_or, if◌then◌else◌, not, count_by, is_some, ◌^◌, ◌*◌}
-use Rattle.pool_alloc.proofs.Imports.{All-nil, All-cons, SlotKind, UnitName, MakerTold, default_quotas, no_refusals, Queue, Queued, after_take, first_of_kind, others_of_kind, IsSpareOf, list_all, eq-eqb, sum_by-cons, mod-eq_of_lt, total, shard_units, used_units, ShardState, used_count, one_if, MemoryInModule, all_away, all_kept, part_kept, units_of_slots, part_at, IsAt, Role, shard_role, queue_role, role_at, PoolPart, memory_kind, table_kind}
+use Rattle.pool_alloc.proofs.Imports.{All-nil, All-cons, SlotKind, UnitName, MakerTold, default_quotas, no_refusals, Queue, Queued, after_take, first_of_kind, others_of_kind, IsSpareOf, list_all, eq-eqb, sum_by-cons, mod-eq_of_lt, total, shard_units, used_units, ShardState, used_count, one_if, MemoryInModule, all_away, all_kept, part_kept, units_of_slots, part_at, IsAt, Role, shard_role, queue_role, role_at, PoolPart, memory_kind, table_kind, Plan}
 use Rattle.pool_slots.specs.declared.part.PoolPart.TheVariants as part
 use Rattle.pool_alloc.specs.Calls.{frame_made}
-use Rattle.pool_alloc.specs.Closing.{nth_queue, AreEmptied, IsClosingAt, IsBare, IsFlushing, IsClosing, IsClosed, closing_phase, queue_taken, frame_taking, frame_closing, AreAtHome, IsGivenBack, has_free}
+use Rattle.pool_alloc.specs.Closing.{nth_queue, AreEmptied, IsClosingAt, IsBare, IsFlushing, IsClosing, IsClosed, closing_phase, queue_taken, frame_taking, frame_closing, AreAtHome, ArePartsOf, IsGivenBack, has_free}
 use Rattle.pool_alloc.specs.Leases.{Lease}
 use Rattle.pool_alloc.specs.PartyTold.{PartyTold}
 use Rattle.pool_alloc.specs.Places.{Thing, queued_count, phase_count, phase_instances, instances_for, kept_count, away_count, Counter, Weight, counted_instance, counted_object, only, of_units, of_counts, phase_counted, frame_counted}
@@ -16,6 +16,7 @@ use Rattle.pool_alloc.specs.TableLeases.{LeasedTable}
 use Rattle.pool_alloc.specs.Turns.{Left, Row, After, flush, all_returned, returned_next, next_by, is_flushed, after, stepped, gone_to, is_granting}
 use Rattle.pool_alloc.specs.Whole.{Holding, HasSlots, held_by, IsUntouched}
 use Rattle.pool_alloc.specs.declared.pool_core.PoolCore.{PoolCore}
+use Rattle.pool_alloc.specs.declared.pool_core.Settings.{Settings}
 use Rattle.pool_alloc.specs.declared.frame.Asked.{Asked}
 use Rattle.pool_alloc.specs.declared.frame.Asked.TheVariants.{Nothing as nothing_asked, Module as module_asked, Stack as stack_asked, Heap as heap_asked}
 use Rattle.pool_alloc.specs.declared.frame.Ending.{Ending}
@@ -221,6 +222,9 @@ module _ {P H : Type 0} (maker : MakerTold) where
   pub closing_plan : (n : ℕ) (old new : PartyTold) (c : PoolCore P H) (f : Frame P H) (a : After P H) → is_idle f.phase ≡ false → IsClosing maker n c f → StepsTo old new c f a → a.core.plan ≡ c.plan
   closing_plan n old new c f a on is steps = (step_ok maker old new c f a (can_close n c f is) steps).plan
 
+  pub closing_settings : (n : ℕ) (old new : PartyTold) (c : PoolCore P H) (f : Frame P H) (a : After P H) → is_idle f.phase ≡ false → IsClosing maker n c f → StepsTo old new c f a → a.core.settings ≡ c.settings
+  closing_settings n old new c f a on is steps = (step_ok maker old new c f a (can_close n c f is) steps).settings
+
   pub closing_counts_on : (n : ℕ) (c : PoolCore P H) (f : Frame P H) → IsClosing maker n c f → CanCount c
   closing_counts_on n c f is = λ k. omega (arith, is.whole (of_counts (only k)), bare_counted k f is.flushing, frame_counts (only k) f, no_total (all_kept c.parts))
 
@@ -325,6 +329,13 @@ module _ {P H : Type 0} (maker : MakerTold) where
     none_away = none_by_number (all_away c.parts) (nothing_out (λ u. 1) c f closed);
     none_kept = all_empty c closed.0;
   }
+
+  -- What is sound has all parts of the pool.
+  pub parts_of : (s : Settings) (plan : Plan) (c : PoolCore P H) → IsCore maker c → c.settings ≡ s → c.plan ≡ plan → ArePartsOf maker s plan c.parts
+  parts_of s plan c core same planned =
+      let S : Settings → Type 0 = λ x. ArePartsOf maker x plan c.parts in
+      let Q : Plan → Type 0 = λ x. ArePartsOf maker c.settings x c.parts in
+      subst S same (subst Q planned (record { plan = core.plan; each = core.parts }))
 
   -- The pool is to be closed in a frame as it is made.
   pub closing_made : (c : PoolCore P H) → IsCore maker c → IsGivenBack c → IsClosed maker 0 c (frame_made 0 c.settings)

@@ -62,13 +62,20 @@ module _ {P H : Type 0} where
       let told = told_by (list_any (is_to_zero kind) f.local.slots) (some_queued kind f.local.slots) kind (nothing_told {H = H}) f.local in
       flushes_to (settled_step kind f.local.slots) c f a (flush_settles f.local f.freed.items none) (nothing_told {H = H}, told.0, told.1, so (nothing_told {H = H}).queue)
 
-  -- What the code does with a queue that stayed as it was is that part of a flush which is next then.
-  pub can_flush_as : (step other : List Queued → FlushStep) (c : PoolCore P H) (f : Frame P H) (l : Queue) → l ≡ f.local → step f.local.slots ≡ other f.local.slots → CanFlush (step f.local.slots) c f → CanFlush (other l.slots) c (record f { local = l })
-  can_flush_as step other c f l same is can =
-      let F : FlushStep → Type 0 = λ x. CanFlush x c f in
-      let Q : Queue → Type 0 = λ q. CanFlush (other q.slots) c (record f { local = q }) in
-      subst Q (sym same) (subst F is can)
+  -- Where nothing was to be zeroed the frame is as it was, and a slot is put back, or slots are freed.
+  pub can_put_same : (kind : SlotKind) (c : PoolCore P H) (f e : Frame P H) → e ≡ f → list_any (is_to_zero kind) f.local.slots ≡ false → CanFlush (settled_step kind f.local.slots) c f → CanFlush (put_step kind e.local.slots) c e
+  can_put_same kind c f e same none can =
+      let S : FlushStep → Type 0 = λ x. CanFlush x c f in
+      let F : Frame P H → Type 0 = λ x. CanFlush (put_step kind x.local.slots) c x in
+      subst F (sym same) (subst S (settled_puts kind f.local.slots none) can)
 
+  pub settles_same : (kind : SlotKind) (c : PoolCore P H) (f e : Frame P H) (a : After P H) → e ≡ f → list_any (is_to_zero kind) f.local.slots ≡ false → SettlesTo (put_step kind e.local.slots) c e a → SettlesTo (settled_step kind f.local.slots) c f a
+  settles_same kind c f e a same none so =
+      let S : FlushStep → Type 0 = λ x. SettlesTo x c f a in
+      let F : Frame P H → Type 0 = λ x. SettlesTo (put_step kind x.local.slots) c x a in
+      subst S (sym (settled_puts kind f.local.slots none)) (subst F same so)
+
+  -- What the code does with a queue that stayed as it was is that part of a flush which is next then.
   pub settles_as : (step other : List Queued → FlushStep) (c : PoolCore P H) (f : Frame P H) (l : Queue) (a : After P H) → l ≡ f.local → step f.local.slots ≡ other f.local.slots → SettlesTo (other l.slots) c (record f { local = l }) a → SettlesTo (step f.local.slots) c f a
   settles_as step other c f l a same is so =
       let F : FlushStep → Type 0 = λ x. SettlesTo x c f a in

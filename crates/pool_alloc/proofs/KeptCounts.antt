@@ -138,7 +138,7 @@ module _ {P H : Type 0} where
       omega (arith, part_kept_in t p c there.inside, (queue_away_is t (part_at p c.parts) there.part).1)
 
   -- No slot is given out twice, and no region.
-  stands : (maker : MakerTold) (s : Settings) (r : Role) (x : PoolPart P H) → IsPartFor maker s r x → StandsAs r x
+  pub stands : (maker : MakerTold) (s : Settings) (r : Role) (x : PoolPart P H) → IsPartFor maker s r x → StandsAs r x
   stands maker s (shard_role a j) (part.Shard shard) is = is
   stands maker s (cell_role name) (part.Memory cell) is = (is.0, is.1.named)
   stands maker s (cell_role name) (part.Table cell) is = (is.0, is.1.named)

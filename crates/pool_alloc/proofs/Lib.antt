@@ -31,6 +31,7 @@ pub mod MadeNumbers
 pub mod MadePools
 pub mod Makings
 pub mod OneParts
+pub mod OnParts
 pub mod OwnRegions
 pub mod PhaseSlots
 pub mod Picks
@@ -51,6 +52,7 @@ pub mod Searching
 pub mod ShardFrees
 pub mod SlotCounts
 pub mod SlotIdentity
+pub mod SoundSteps
 pub mod StackRegions
 pub mod Stages
 pub mod Steps

@@ -12,6 +12,7 @@ use Rattle.pool_alloc.specs.declared.pool_core.PoolCore.{PoolCore}
 use Rattle.pool_alloc.specs.declared.pool_core.Settings.{Settings}
 use Rattle.pool_alloc.specs.declared.frame.Frame.{Frame}
 use Rattle.pool_alloc.specs.declared.frame.FreedSlot.{FreedSlot}
+use Rattle.pool_alloc.specs.declared.frame.Object.{Object}
 use Rattle.pool_alloc.specs.declared.frame.Object.TheVariants.{Memory, Table, Stack}
 use Rattle.pool_alloc.specs.StackLeases.{LeasedStack, stack_slot}
 use Rattle.pool_alloc.specs.declared.frame.Asked.{Asked}
@@ -127,6 +128,12 @@ pub record CanResetStack (s : Settings) (lease : LeasedStack) (local : Queue) : 
   pub plain : IsPlain lease.stack.slot
   pub few : lease.stack.slot.static_size ≤ 2 ^ 32
   pub room : CanQueue (stack_slot lease.stack.index) local
+
+-- An object can be reset into the local queue, by what it is.
+abbrev pub CanResetObject : {P : Type 0} → Settings → Object P → Queue → Type 0
+CanResetObject s (Memory lease) local = CanReset s (slot_of lease.memory) local
+CanResetObject s (Table lease) local = CanResetTable s lease local
+CanResetObject s (Stack lease) local = CanResetStack s lease local
 
 -- the queue has no ranges, and there is room among the slots to be freed
 pub record CanPutNext (local : Queue) (freed : Reserved FreedSlot) : Type 0 where
@@ -265,9 +272,7 @@ module _ {P H : Type 0} where
   CanStepAt (UncountHeap lease memory) c f = 0 < c.counters.gc_heaps
   CanStepAt (PutHeap lease memory) c f = CanPutHeapOf lease.index c
   CanStepAt (FreeHeap name memory) c f = CanFreeOf name c
-  CanStepAt (Reset (Memory lease)) c f = CanReset c.settings (slot_of lease.memory) f.local
-  CanStepAt (Reset (Table lease)) c f = CanResetTable c.settings lease f.local
-  CanStepAt (Reset (Stack lease)) c f = CanResetStack c.settings lease f.local
+  CanStepAt (Reset held) c f = CanResetObject c.settings held f.local
   CanStepAt Merge c f = CanTryQueue c.plan × IsAt IsQueuePart (queue_tried 0 c.plan f) c.parts × CanMerge (queue_at (queue_tried 0 c.plan f) c) f.local
   CanStepAt Flush c f = CanFlush (flush_step f.local f.freed.items) c f
   CanStepAt UncountInstance c f = 0 < c.counters.core_instances

@@ -1,13 +1,14 @@
 -- A pool that is closed: its queues are flushed, one after the other, each as by a give-back that has nothing else to give
 -- back.
-use Rattle.std.specs.Prelude.{◌≡◌, ℕ, ◌+◌, ◌<◌, ◌==◌, List, [], ◌∷◌, Bool, true, if◌then◌else◌}
-use Rattle.pool_alloc.specs.Imports.{list_all, MakerTold, used_count, all_away, all_kept, queue_tried, Queue, after_take, taken_into, PoolPart}
+use Rattle.std.specs.Prelude.{◌≡◌, ℕ, ◌+◌, ◌<◌, ◌==◌, List, [], ◌∷◌, length, Bool, true, if◌then◌else◌}
+use Rattle.pool_alloc.specs.Imports.{list_all, MakerTold, used_count, all_away, all_kept, queue_tried, Queue, after_take, taken_into, part_at, Plan, PoolPart}
 use Rattle.pool_slots.specs.declared.part.PoolPart.TheVariants as part
-use Rattle.pool_alloc.specs.Sound.{IsCore, IsFrame}
+use Rattle.pool_alloc.specs.Sound.{IsCore, IsFrame, IsPoolPlan, IsPartAt}
 use Rattle.pool_alloc.specs.Steps.{queue_at, with_queue, counting_instances}
 use Rattle.pool_alloc.specs.Turns.{gone_to, is_flushed}
 use Rattle.pool_alloc.specs.Whole.{Holding, held_by, IsPartitioned}
 use Rattle.pool_alloc.specs.declared.pool_core.PoolCore.{PoolCore}
+use Rattle.pool_alloc.specs.declared.pool_core.Settings.{Settings}
 use Rattle.pool_alloc.specs.declared.frame.Asked.{Asked}
 use Rattle.pool_alloc.specs.declared.frame.Asked.TheVariants.{Nothing as nothing_asked}
 use Rattle.pool_alloc.specs.declared.frame.Ending.{Ending}
@@ -44,6 +45,11 @@ module _ {P H : Type 0} where
     pub free : all_free parts ≡ true
     pub none_away : all_away parts ≡ []
     pub none_kept : all_kept parts ≡ []
+
+  -- All parts of a pool of this maker, with these settings and this plan, each what the plan has its place for.
+  pub record ArePartsOf (maker : MakerTold) (s : Settings) (planned : Plan) (parts : List (PoolPart P H)) : Type 0 where
+    pub plan : IsPoolPlan planned (length parts)
+    pub each : (p : ℕ) → p < length parts → IsPartAt maker s planned p (part_at p parts)
 
   -- Nobody has anything of the pool: what it has given out is in its queues, and nothing is counted.
   abbrev pub IsGivenBack : PoolCore P H → Type 0

@@ -13,7 +13,9 @@ mod Imports
 pub mod Leases
 pub mod Made
 pub mod Modules
+pub mod NextPlaces
 pub mod Objects
+pub mod OnParts
 pub mod Own
 pub mod PartFlows
 pub mod PartyTold
@@ -29,6 +31,7 @@ pub mod Reserved
 pub mod Rows
 pub mod Searches
 pub mod Sound
+pub mod SoundSteps
 pub mod StackLeases
 pub mod Stages
 pub mod Stepping

@@ -3,6 +3,7 @@ use Rattle.std.specs.Prelude.{◌≡◌, ℕ, ◌==◌, ◌<◌, List, [], ◌�
 use Rattle.pool_alloc.specs.Imports.{TableType, MemoryDecl, MemoryType, ModuleInfo, Image, Slot, ShardState, fresh_shard, after_free, MemoryInModule, SlotKind, memory_kind, table_kind, stack_kind, heap_kind, LimiterError, Cell, unmapped, unknown, previously_used, CellState, HeapEntry, HeapMakeFault, part_at, cell_of_part, cell_place, home_of, queues_for, nth_shard_tried, nth_queue_tried, Allocator, SlotName, Plan, PoolPart, Queue, Queued, empty_queue}
 use Rattle.pool_slots.specs.declared.part.PoolPart.TheVariants as part
 use Rattle.pool_alloc.specs.declared.pool_core.PoolCore.{PoolCore}
+use Rattle.pool_alloc.specs.declared.pool_core.Settings.{Settings}
 use Rattle.pool_alloc.specs.declared.frame.Frame.{Frame}
 use Rattle.pool_alloc.specs.declared.frame.Asked.{Asked}
 use Rattle.pool_alloc.specs.declared.frame.Asked.TheVariants.{Nothing as nothing_asked, Module as module_asked, Stack as stack_asked, Heap as heap_asked}
@@ -187,6 +188,10 @@ module _ {P H : Type 0} where
   part_holding cell (part.Table old) = part.Table cell
   part_holding cell (part.Stack old) = part.Stack cell
   part_holding cell x = x
+
+  -- The pool with these settings and this plan.
+  abbrev pub under : Settings → Plan → PoolCore P H → PoolCore P H
+  under s plan c = record c { settings = s; plan = plan }
 
   -- The shard at a place of the pool.
   abbrev pub shard_at : ℕ → PoolCore P H → ShardState

@@ -6,7 +6,7 @@ ghost use Rattle.pool_slots.specs.declared.part.PoolPart.{PoolPart};
 ghost use Rattle.pool_alloc.specs.Bounds.{steps_left};
 ghost use Rattle.pool_alloc.specs.Calls.{lists_made};
 ghost use Rattle.pool_alloc.specs.CanStep.{CanStepAt, CanTryQueue};
-ghost use Rattle.pool_alloc.specs.Closing.{Closer, AreAtHome, all_free, IsGivenBack, IsClosingAt, IsClosing, IsClosed, queue_taken, frame_closing, nth_queue};
+ghost use Rattle.pool_alloc.specs.Closing.{Closer, AreAtHome, ArePartsOf, all_free, IsGivenBack, IsClosingAt, IsClosing, IsClosed, queue_taken, frame_closing, nth_queue};
 ghost use Rattle.pool_alloc.specs.PartyTold.{PartyTold};
 ghost use Rattle.pool_alloc.specs.Sound.{IsCore};
 ghost use Rattle.pool_alloc.specs.Steps.{IsQueuePart, queue_at, queue_in, queues_searched};
@@ -32,6 +32,7 @@ impl<P: Pages, H: GcHeap> PoolCore<P, H> {
         requires spare { self.spare ≡ Some (lists_made self.settings) }
         requires returned { IsGivenBack self }
         ensures home { AreAtHome result }
+        ensures parts { ArePartsOf maker self.settings self.plan result }
     {
         let mut pool = self;
         let lists = pool.take_spare();
@@ -62,7 +63,8 @@ impl<P: Pages, H: GcHeap> PoolCore<P, H> {
     fn flush_queues(&mut self, alloc: Global, frame: &mut Frame<P, H>)
         ghost maker: { MakerTold }
         requires { IsClosed maker 0 self.old frame.old }
-        ensures { AreAtHome self.new.parts }
+        ensures home { AreAtHome self.new.parts }
+        ensures parts { ArePartsOf maker self.old.settings self.old.plan self.new.parts }
     {
         for at in 0..self.plan.queues_for(SlotKind::Memory) {
             self.flush_queue(alloc, frame, at);
@@ -76,6 +78,7 @@ impl<P: Pages, H: GcHeap> PoolCore<P, H> {
         requires number { of.emptied ≡ at + 1 }
         requires queue { at < queues_searched self.old.plan }
         ensures closed { IsClosed of.maker (at + 1) self.new frame.new }
+        ensures settings { self.new.settings ≡ self.old.settings }
         ensures plan { self.new.plan ≡ self.old.plan }
     {
         self.begin_flush(frame, at);
@@ -91,6 +94,7 @@ impl<P: Pages, H: GcHeap> PoolCore<P, H> {
         requires busy { is_idle frame.old.phase ≡ false }
         ensures closing { IsClosing of.maker of.emptied self.new frame.new }
         ensures fewer { steps_left self.new frame.new + 1 ≤ steps_left self.old frame.old }
+        ensures settings { self.new.settings ≡ self.old.settings }
         ensures plan { self.new.plan ≡ self.old.plan }
     {
         let mut outcome = None;

@@ -1,14 +1,15 @@
-ghost use Rattle.std.specs.Prelude.{◌≡◌, ◌<◌, ◌≤◌, ◌^◌, [], ◌∷◌, length, List, Bool, None};
+ghost use Rattle.std.specs.Prelude.{◌≡◌, ◌<◌, ◌≤◌, ◌^◌, [], ◌∷◌, length, List, Bool, true, false, None};
+ghost use Rattle.std.specs.List.{list_any};
 ghost use Rattle.pool_slots.specs.RegionCells.{IsAwaited};
-ghost use Rattle.pool_slots.specs.SlotQueues.{Queue, HasOwners, IsSettled};
+ghost use Rattle.pool_slots.specs.SlotQueues.{Queue, HasOwners, IsSettled, is_to_zero};
 ghost use Rattle.pool_alloc.specs.Answers.{FlushTold, FlushPlanned, Decommits, FollowsRun};
-ghost use Rattle.pool_alloc.specs.CanStep.{CanPlace, CanTryQueue, CanFree, CanFlush};
-ghost use Rattle.pool_alloc.specs.Rows.{SettlesTo, flush_kinds, kind_queued, kind_settled, flush_step, settled_step, put_step, in_queue, in_cell, region_put, merge_on, decommit_row, free_row, flush_row};
+ghost use Rattle.pool_alloc.specs.CanStep.{CanPlace, CanFree, CanFlush};
+ghost use Rattle.pool_alloc.specs.Rows.{SettlesTo, flush_kinds, kind_queued, kind_settled, flush_step, settled_step, put_step, in_cell, region_put, decommit_row, zero_row, free_row, flush_row};
 ghost use Rattle.pool_slots.specs.Plans.{cell_place};
-ghost use Rattle.pool_slots.specs.QueueMerges.{CanMerge};
 ghost use Rattle.pool_slots.specs.Parts.{IsAt, IsShardPart, IsCellPart};
-ghost use Rattle.pool_alloc.specs.Steps.{StepGiven, cell_returned, IsQueuePart, shard_at, cell_named, queue_at, first_shard, queue_tried};
-ghost use Rattle.pool_alloc.specs.Turns.{After, stepped, resting};
+ghost use Rattle.pool_alloc.specs.Steps.{StepGiven, cell_returned, shard_at, cell_named, first_shard};
+ghost use Rattle.pool_alloc.specs.Turns.{After, stepped};
+ghost use Rattle.pool_alloc.specs.declared.pool_core.PoolCore.{PoolCore};
 
 use crate::frame::{Frame, FreedSlot, Outcome};
 use crate::freeing::first_shard;
@@ -21,26 +22,6 @@ use pool_slots::{DecommitQueue, GcHeap, QueuedSlot};
 use std::alloc::Global;
 
 impl<P: Pages, H: GcHeap> PoolCore<P, H> {
-    // Appends the local queue to the home queue.
-    #[inline(never)]
-    pub(crate) fn merge(
-        &mut self,
-        alloc: Global,
-        frame: &mut Frame<P, H>,
-        outcome: &mut Option<Outcome<P, H>>,
-    )
-        requires tries { CanTryQueue self.old.plan }
-        requires queue { IsAt IsQueuePart (queue_tried 0 self.old.plan frame.old) self.old.parts }
-        requires can { CanMerge (queue_at (queue_tried 0 self.old.plan frame.old) self.old) frame.old.local }
-        requires unanswered { outcome.old ≡ None }
-        ensures { ◌≡◌ {A = After P H} (record { core = self.new; frame = frame.new; outcome = outcome.new }) (stepped (in_queue (queue_tried 0 self.old.plan frame.old) self.old (merge_on self.old.settings (queue_at (queue_tried 0 self.old.plan frame.old) self.old) (resting frame.old)))) }
-    {
-        frame.rest();
-        let place = self.plan.queue_tried(frame.home, 0);
-        let part = self.parts.at(place);
-        part_steps::merge(part, &self.settings, alloc, frame, outcome)
-    }
-
     // The next part of a flush.
     #[inline(never)]
     pub(crate) fn flush(
@@ -54,7 +35,7 @@ impl<P: Pages, H: GcHeap> PoolCore<P, H> {
         ensures { (g : StepGiven H) × FlushTold (flush_step frame.old.local frame.old.freed.items) g frame.old.local × FlushPlanned (flush_step frame.old.local frame.old.freed.items) g frame.old.local × (◌≡◌ {A = After P H} (record { core = self.new; frame = frame.new; outcome = outcome.new }) (stepped (flush_row (flush_step frame.old.local frame.old.freed.items) g.queue self.old frame.old))) }
     {
         if frame.local.raw_len() > 0 {
-            return self.decommit(alloc, frame, outcome);
+            return decommit(alloc, frame, outcome);
         }
         let kind = kind_settled(&frame.local, &frame.freed);
         self.settle(alloc, frame, kind, outcome)
@@ -73,8 +54,8 @@ impl<P: Pages, H: GcHeap> PoolCore<P, H> {
         requires unanswered { outcome.old ≡ None }
         ensures { SettlesTo (settled_step kind frame.old.local.slots) self.old frame.old (record { core = self.new; frame = frame.new; outcome = outcome.new }) }
     {
-        if frame.local.zero_next(kind) {
-            return frame.flush(alloc, outcome);
+        if zero(alloc, frame, kind, outcome) {
+            return;
         }
         self.put_next(alloc, frame, kind, outcome)
     }
@@ -96,22 +77,6 @@ impl<P: Pages, H: GcHeap> PoolCore<P, H> {
             Some(item) => self.put_region(alloc, frame, item, outcome),
             None => self.free(alloc, frame, outcome),
         }
-    }
-
-    // Decommits the next ranges of one slot.
-    fn decommit(
-        &mut self,
-        alloc: Global,
-        frame: &mut Frame<P, H>,
-        outcome: &mut Option<Outcome<P, H>>,
-    )
-        requires some { 0 < length frame.old.local.ranges }
-        requires owners { HasOwners frame.old.local }
-        requires unanswered { outcome.old ≡ None }
-        ensures { (fault : Bool) × (queue : Queue) × Decommits fault frame.old.local queue × FollowsRun fault frame.old.local queue × (◌≡◌ {A = After P H} (record { core = self.new; frame = frame.new; outcome = outcome.new }) (stepped (decommit_row queue self.old frame.old))) }
-    {
-        let _fault = frame.local.decommit_run().is_err();
-        frame.flush(alloc, outcome)
     }
 
     // Puts a region back into its cell that was in the local queue.
@@ -146,6 +111,41 @@ impl<P: Pages, H: GcHeap> PoolCore<P, H> {
         let part = self.parts.at(place);
         part_steps::free(part, &self.plan, alloc, frame, place, outcome)
     }
+}
+
+// Decommits the next ranges of one slot.
+pub(crate) fn decommit<P: Pages, H: GcHeap>(
+    alloc: Global,
+    frame: &mut Frame<P, H>,
+    outcome: &mut Option<Outcome<P, H>>,
+)
+    requires some { 0 < length frame.old.local.ranges }
+    requires owners { HasOwners frame.old.local }
+    requires unanswered { outcome.old ≡ None }
+    ensures { (fault : Bool) × (queue : Queue) × Decommits fault frame.old.local queue × FollowsRun fault frame.old.local queue × ((c : PoolCore P H) → ◌≡◌ {A = After P H} (record { core = c; frame = frame.new; outcome = outcome.new }) (stepped (decommit_row queue c frame.old))) }
+{
+    let _fault = frame.local.decommit_run().is_err();
+    frame.flush(alloc, outcome)
+}
+
+// Zeroes the next slot of a kind that has to be zeroed by hand. Whether there was one: else nothing is changed.
+pub(crate) fn zero<P: Pages, H: GcHeap>(
+    alloc: Global,
+    frame: &mut Frame<P, H>,
+    kind: SlotKind,
+    outcome: &mut Option<Outcome<P, H>>,
+) -> bool
+    requires none { frame.old.local.ranges ≡ [] }
+    requires unanswered { outcome.old ≡ None }
+    ensures value { result ≡ list_any (is_to_zero kind) frame.old.local.slots }
+    ensures row { result ≡ true → (c : PoolCore P H) → ◌≡◌ {A = After P H} (record { core = c; frame = frame.new; outcome = outcome.new }) (stepped (zero_row kind c frame.old)) }
+    ensures same { result ≡ false → (frame.new ≡ frame.old) × (outcome.new ≡ None) }
+{
+    if frame.local.zero_next(kind) {
+        frame.flush(alloc, outcome);
+        return true;
+    }
+    false
 }
 
 // The kind of the slots that go back: of those that wait to be freed, or else the first that is queued.

@@ -4,14 +4,14 @@ ghost use Rattle.pool_types.specs.MemoryTypes.{minimum_byte_size};
 ghost use Rattle.pool_images.specs.Slots.{Slot, IsClean, FitsInto, hides};
 ghost use Rattle.pool_alloc.specs.Answers.{InstantiatesAs, InstantiatesFor, FollowsPlan, FollowsPlanFor};
 ghost use Rattle.pool_alloc.specs.Rows.{instantiate_row};
-ghost use Rattle.pool_alloc.specs.Steps.{memories_wanted, images_wanted, image_wanted};
+ghost use Rattle.pool_alloc.specs.Steps.{memories_wanted, images_wanted, image_wanted, under};
 ghost use Rattle.pool_alloc.specs.Turns.{After, stepped};
 ghost use Rattle.pool_alloc.specs.CanStep.{HasNext, CanBegin};
 ghost use Rattle.pool_alloc.specs.Modules.{IfAllocated};
 ghost use Rattle.pool_alloc.specs.declared.pool_core.PoolCore.{PoolCore};
 
 use crate::frame::{Asked, Frame, ModuleCall, Outcome, Phase, TakenSlot};
-use crate::pool_core::PoolCore;
+use crate::pool_core::Settings;
 use pool_images::{MemoryImage, MemoryImageSlot};
 use pool_pages::Pages;
 use pool_slots::{AllocError, GcHeap, ImageSlot};
@@ -32,43 +32,45 @@ impl ModuleCall {
     }
 }
 
-impl<P: Pages, H: GcHeap> PoolCore<P, H> {
-    // Instantiates an image slot for the memory that is allocated.
-    #[inline(never)]
-    pub(crate) fn instantiate(
-        &mut self,
-        frame: &mut Frame<P, H>,
-        at: TakenSlot,
-        held: MemoryImageSlot<P>,
-    )
-        requires next { HasNext frame.old.asked (length frame.old.objects.memories.items) }
-        requires clean { IsClean held }
-        requires can { IfAllocated frame.old (CanBegin held (image_wanted frame.old)) }
-        ensures { (fault : Bool) × (after : Slot) × IfAllocated frame.old (λ decl. InstantiatesFor self.old.settings decl fault (image_wanted frame.old) held after) × IfAllocated frame.old (λ decl. FollowsPlanFor self.old.settings decl fault (image_wanted frame.old) held after) × (◌≡◌ {A = After P H} (record { core = self.new; frame = frame.new; outcome = None }) (stepped (instantiate_row fault after at self.old frame.old))) }
-    {
-        let mut held = held;
-        let fault = self.begin(frame, &mut held);
-        begun(frame, fault, at, held)
-    }
+// Instantiates an image slot for the memory that is allocated.
+#[inline(never)]
+pub(crate) fn instantiate<P: Pages, H: GcHeap>(
+    settings: &Settings,
+    frame: &mut Frame<P, H>,
+    at: TakenSlot,
+    held: MemoryImageSlot<P>,
+)
+    requires next { HasNext frame.old.asked (length frame.old.objects.memories.items) }
+    requires clean { IsClean held }
+    requires can { IfAllocated frame.old (CanBegin held (image_wanted frame.old)) }
+    ensures { (fault : Bool) × (after : Slot) × IfAllocated frame.old (λ decl. InstantiatesFor settings.now decl fault (image_wanted frame.old) held after) × IfAllocated frame.old (λ decl. FollowsPlanFor settings.now decl fault (image_wanted frame.old) held after) × ((c : PoolCore P H) → ◌≡◌ {A = After P H} (record { core = under settings.now c.plan c; frame = frame.new; outcome = None }) (stepped (instantiate_row fault after at (under settings.now c.plan c) frame.old))) }
+{
+    let mut held = held;
+    let fault = begin(settings, frame, &mut held);
+    begun(frame, fault, at, held)
+}
 
-    // Whether a page call failed.
-    fn begin(&self, frame: &Frame<P, H>, held: &mut MemoryImageSlot<P>) -> bool
-        requires next { HasNext frame.now.asked (length frame.now.objects.memories.items) }
-        requires clean { IsClean held.old }
-        requires can { IfAllocated frame.now (CanBegin held.old (image_wanted frame.now)) }
-        ensures begun { IfAllocated frame.now (λ decl. InstantiatesFor self.now.settings decl result (image_wanted frame.now) held.old held.new) }
-        ensures planned { IfAllocated frame.now (λ decl. FollowsPlanFor self.now.settings decl result (image_wanted frame.now) held.old held.new) }
-    {
-        let memory = frame.objects.memories.len();
-        match &frame.asked {
-            Asked::Nothing | Asked::Stack => unreachable!(),
-            Asked::Module(call) => {
-                let decl = &call.info.memories.as_slice()[memory];
-                let image = call.image(memory);
-                begin_memory(&decl.ty, &self.settings.tunables, image, held)
-            }
-            Asked::Heap(ty) => begin_memory(ty, &self.settings.tunables, None, held),
+// Whether a page call failed.
+fn begin<P: Pages, H: GcHeap>(
+    settings: &Settings,
+    frame: &Frame<P, H>,
+    held: &mut MemoryImageSlot<P>,
+) -> bool
+    requires next { HasNext frame.now.asked (length frame.now.objects.memories.items) }
+    requires clean { IsClean held.old }
+    requires can { IfAllocated frame.now (CanBegin held.old (image_wanted frame.now)) }
+    ensures begun { IfAllocated frame.now (λ decl. InstantiatesFor settings.now decl result (image_wanted frame.now) held.old held.new) }
+    ensures planned { IfAllocated frame.now (λ decl. FollowsPlanFor settings.now decl result (image_wanted frame.now) held.old held.new) }
+{
+    let memory = frame.objects.memories.len();
+    match &frame.asked {
+        Asked::Nothing | Asked::Stack => unreachable!(),
+        Asked::Module(call) => {
+            let decl = &call.info.memories.as_slice()[memory];
+            let image = call.image(memory);
+            begin_memory(&decl.ty, &settings.tunables, image, held)
         }
+        Asked::Heap(ty) => begin_memory(ty, &settings.tunables, None, held),
     }
 }
 

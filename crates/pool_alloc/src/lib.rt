@@ -6,8 +6,9 @@
 //! are read and written without the pool and given back with `Call::GiveBack`. `InstanceAllocator` is the trait of
 //! allocators with one call for each request; `pool_on_demand` implements it, and this pool doesn't.
 //!
-//! To add a step touch `Phase` in `frame.rt`, its code in a `*_steps.rt` and its call in `step.rt`; then its row in
-//! `specs/Rows.antt`, and its share of `specs/Bounds.antt`, `specs/Places.antt` and `specs/Sound.antt`.
+//! To add a step touch `Phase` in `frame.rt`, its code in a `*_steps.rt`, its counter in `counting.rt` where it counts,
+//! and its call in `step.rt`; then its row in `specs/Rows.antt`, and its share of `specs/Bounds.antt`,
+//! `specs/Places.antt` and `specs/Sound.antt`.
 //!
 //! From Wasmtime: `vm/instance/allocator.rs`, and under it `pooling.rs` and the calls of `pooling/`. It stands on
 //! `pool_slots` and the crates below it.
@@ -33,10 +34,15 @@ mod frame_turns;
 mod reserved;
 
 // The step, and the part that it is on
+mod next_place;
 mod part_at;
 mod part_steps;
 mod part_sweeps;
 mod step;
+mod step_part;
+
+// Steps that count, on the core's counters
+mod counting;
 
 // Steps of a request
 mod allocate_steps;
@@ -91,6 +97,7 @@ pub use heap_lease::HeapLease;
 pub use instance_allocator::InstanceAllocator;
 pub use lease::{InstanceLease, MemoryLease};
 pub use metrics::Metrics;
+pub use parts::Parts;
 pub use pool_core::{Counters, PoolCore, Settings};
 pub use purge::{PurgeCursor, PurgeStep};
 pub use release::{ReleaseCursor, ReleaseStep};

@@ -12,12 +12,13 @@ ghost use Rattle.pool_alloc.specs.CanStep.{HasNext, CanMake};
 ghost use Rattle.pool_alloc.specs.Modules.{IfAllocated};
 ghost use Rattle.pool_alloc.specs.Own.{refusal_of};
 ghost use Rattle.pool_alloc.specs.Rows.{made_by, make_memory_row};
+ghost use Rattle.pool_alloc.specs.Steps.{under};
 ghost use Rattle.pool_alloc.specs.Turns.{After, stepped};
 ghost use Rattle.pool_alloc.specs.declared.pool_core.PoolCore.{PoolCore};
 
 use crate::frame::{Asked, Frame, Object, Outcome, Phase, TakenSlot};
 use crate::lease::MemoryLease;
-use crate::pool_core::{PoolCore, Settings};
+use crate::pool_core::Settings;
 use pool_images::MemoryImageSlot;
 use pool_limits::ResourceLimiter;
 use pool_memory::{Memory, MemoryError, StaticMemory};
@@ -28,50 +29,48 @@ use pool_types::MemoryType;
 // A memory in its slot, or the slot of a memory that is refused.
 type Making<P> = Result<Memory<(), StaticMemory<P>>, (MemoryImageSlot<P>, MemoryError)>;
 
-impl<P: Pages, H: GcHeap> PoolCore<P, H> {
-    // Asks the limiter, and makes the memory.
-    #[inline(never)]
-    pub(crate) fn make_memory<L: ResourceLimiter>(
-        &mut self,
-        frame: &mut Frame<P, H>,
-        at: TakenSlot,
-        held: MemoryImageSlot<P>,
-        limiter: &mut L,
-    )
-        requires next { HasNext frame.old.asked (length frame.old.objects.memories.items) }
-        requires can { IfAllocated frame.old (CanMake self.old.settings held) }
-        ensures { (answer : Result Bool LimiterError) × IfAllocated frame.old (AsksForMemory answer (L.told limiter.old) (L.told limiter.new)) × IfAllocated frame.old (λ decl. Exchanged L.leads (may_grow (minimum_question decl.ty) answer ∷ []) limiter.old limiter.new) × (◌≡◌ {A = After P H} (record { core = self.new; frame = frame.new; outcome = None }) (stepped (make_memory_row answer at held self.old frame.old))) }
-    {
-        let making = self.make(frame, held, limiter);
-        was_made(frame, at, making)
-    }
+// Asks the limiter, and makes the memory.
+#[inline(never)]
+pub(crate) fn make_memory<P: Pages, H: GcHeap, L: ResourceLimiter>(
+    settings: &Settings,
+    frame: &mut Frame<P, H>,
+    at: TakenSlot,
+    held: MemoryImageSlot<P>,
+    limiter: &mut L,
+)
+    requires next { HasNext frame.old.asked (length frame.old.objects.memories.items) }
+    requires can { IfAllocated frame.old (CanMake settings.now held) }
+    ensures { (answer : Result Bool LimiterError) × IfAllocated frame.old (AsksForMemory answer (L.told limiter.old) (L.told limiter.new)) × IfAllocated frame.old (λ decl. Exchanged L.leads (may_grow (minimum_question decl.ty) answer ∷ []) limiter.old limiter.new) × ((c : PoolCore P H) → ◌≡◌ {A = After P H} (record { core = under settings.now c.plan c; frame = frame.new; outcome = None }) (stepped (make_memory_row answer at held (under settings.now c.plan c) frame.old))) }
+{
+    let making = make_next_memory(settings, frame, held, limiter);
+    was_made(frame, at, making)
+}
 
-    // The memory that is allocated.
-    fn make<L: ResourceLimiter>(
-        &self,
-        frame: &Frame<P, H>,
-        held: MemoryImageSlot<P>,
-        limiter: &mut L,
-    ) -> Making<P>
-        requires next { HasNext frame.now.asked (length frame.now.objects.memories.items) }
-        requires can { IfAllocated frame.now (CanMake self.now.settings held) }
-        ensures asked { IfAllocated frame.now (AsksForMemory (static_limiter_answer result) (L.told limiter.old) (L.told limiter.new)) }
-        ensures exchanged { IfAllocated frame.now (λ decl. Exchanged L.leads (may_grow (minimum_question decl.ty) (static_limiter_answer result) ∷ []) limiter.old limiter.new) }
-        ensures value { IfAllocated frame.now (λ decl. result ≡ static_answer (static_limiter_answer result) decl.ty self.now.settings.max_memory_size held) }
-    {
-        let memory = frame.objects.memories.len();
-        match &frame.asked {
-            Asked::Nothing | Asked::Stack => unreachable!(),
-            Asked::Module(call) => {
-                let decl = &call.info.memories.as_slice()[memory];
-                make_memory(&decl.ty, &self.settings, held, limiter)
-            }
-            Asked::Heap(ty) => make_memory(ty, &self.settings, held, limiter),
+// The memory that is allocated.
+fn make_next_memory<P: Pages, H: GcHeap, L: ResourceLimiter>(
+    settings: &Settings,
+    frame: &Frame<P, H>,
+    held: MemoryImageSlot<P>,
+    limiter: &mut L,
+) -> Making<P>
+    requires next { HasNext frame.now.asked (length frame.now.objects.memories.items) }
+    requires can { IfAllocated frame.now (CanMake settings.now held) }
+    ensures asked { IfAllocated frame.now (AsksForMemory (static_limiter_answer result) (L.told limiter.old) (L.told limiter.new)) }
+    ensures exchanged { IfAllocated frame.now (λ decl. Exchanged L.leads (may_grow (minimum_question decl.ty) (static_limiter_answer result) ∷ []) limiter.old limiter.new) }
+    ensures value { IfAllocated frame.now (λ decl. result ≡ static_answer (static_limiter_answer result) decl.ty settings.now.max_memory_size held) }
+{
+    let memory = frame.objects.memories.len();
+    match &frame.asked {
+        Asked::Nothing | Asked::Stack => unreachable!(),
+        Asked::Module(call) => {
+            let decl = &call.info.memories.as_slice()[memory];
+            make_memory_of(&decl.ty, settings, held, limiter)
         }
+        Asked::Heap(ty) => make_memory_of(ty, settings, held, limiter),
     }
 }
 
-fn make_memory<P: Pages, L: ResourceLimiter>(
+fn make_memory_of<P: Pages, L: ResourceLimiter>(
     ty: &MemoryType,
     settings: &Settings,
     held: MemoryImageSlot<P>,

@@ -30,6 +30,13 @@ impl<P: Pages, H: GcHeap> Parts<P, H> {
         Parts { list }
     }
 
+    /// Takes no memory.
+    pub fn into_list(self) -> Vec<PoolPart<P, H>>
+        ensures { result.items ≡ self }
+    {
+        self.list
+    }
+
     /// How many slots of a kind are warm. Stands still at the end of its type.
     pub fn unused_warm_slots(&self, kind: SlotKind) -> u32
         ensures { result ≡ warm_slots kind self.now }

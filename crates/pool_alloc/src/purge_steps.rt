@@ -5,126 +5,42 @@ ghost use Rattle.pool_slots.specs.Cells.{is_taken};
 ghost use Rattle.pool_slots.specs.CellOf.{cell_of};
 ghost use Rattle.pool_alloc.specs.Answers.{Empties, Forgets, FollowsForget, RemovesImage, PurgeTold, PurgePlanned};
 ghost use Rattle.pool_alloc.specs.Leases.{memory_slot};
-ghost use Rattle.pool_alloc.specs.CanStep.{CanForget, CanGoOn, CanPurge, CanTakeOf, CanPutOf, CanFreeOf};
+ghost use Rattle.pool_alloc.specs.CanStep.{CanForget, CanGoOn};
+ghost use Rattle.pool_alloc.specs.NextPlaces.{purge_place, CanPurgeAlone};
 ghost use Rattle.pool_alloc.specs.Purges.{has_turns, purged_stripe, found_one, behind_memory, after_forgetting, known_after, purge_to, purge_row};
 ghost use Rattle.pool_alloc.specs.Steps.{StepGiven};
 ghost use Rattle.pool_alloc.specs.Turns.{After, Left, after, goes, stepped};
+ghost use Rattle.pool_alloc.specs.declared.pool_core.PoolCore.{PoolCore};
 
 use crate::frame::{Frame, Outcome, Phase, TakenSlot};
-use crate::freeing::{home, memory_slot};
-use crate::part_sweeps;
-use crate::pool_core::{PoolCore, Settings};
+use crate::freeing::memory_slot;
+use crate::pool_core::Settings;
 use crate::purge::{PurgeCursor, PurgeStep};
 use pool_images::MemoryImageSlot;
 use pool_pages::Pages;
-use pool_slots::{GcHeap, ImageSlot, Plan, SlotName};
+use pool_slots::{GcHeap, ImageSlot, Plan};
 
-impl<P: Pages, H: GcHeap> PoolCore<P, H> {
-    // A step of a purge.
-    #[inline(never)]
-    pub(crate) fn purge(
-        &mut self,
-        frame: &mut Frame<P, H>,
-        cursor: PurgeCursor,
-        step: PurgeStep<P>,
-        outcome: &mut Option<Outcome<P, H>>,
-    )
-        requires can { CanPurge cursor step self.old }
-        requires unanswered { outcome.old ≡ None }
-        ensures { (g : StepGiven H) × PurgeTold g step × PurgePlanned g step × (◌≡◌ {A = After P H} (record { core = self.new; frame = frame.new; outcome = outcome.new }) (stepped (purge_row g cursor step self.old frame.old))) }
-    {
-        match step {
-            PurgeStep::Pick(tried) => self.pick_affine(frame, cursor, tried, outcome),
-            PurgeStep::TakeRegion(name) => self.take_affine(frame, cursor, name),
-            PurgeStep::Forget(at, held) => forget(frame, cursor, at, held),
-            PurgeStep::PutRegion(at, held) => self.put_affine(frame, cursor, at, held),
-            PurgeStep::Free(name) => self.free_affine(frame, cursor, name, outcome),
-        }
-    }
-
-    // Picks a warm slot that was used for the memory last, from the shard of the stripe with this number.
-    fn pick_affine(
-        &mut self,
-        frame: &mut Frame<P, H>,
-        cursor: PurgeCursor,
-        tried: u32,
-        outcome: &mut Option<Outcome<P, H>>,
-    )
-        requires can { CanPurge cursor (PurgeStep.Pick tried) self.old }
-        requires unanswered { outcome.old ≡ None }
-        ensures { (g : StepGiven H) → ◌≡◌ {A = After P H} (record { core = self.new; frame = frame.new; outcome = outcome.new }) (stepped (purge_row g cursor (PurgeStep.Pick tried) self.old frame.old)) }
-    {
-        if !has_turns(&self.settings, &self.plan) {
-            return frame.end(Outcome::Purged(cursor.purged), outcome);
-        }
-        let place = cursor.allocator(&self.plan).first_place + tried;
-        let part = self.parts.at(place);
-        part_sweeps::pick_affine(
-            part,
-            &self.settings,
-            &self.plan,
-            frame,
-            cursor,
-            tried,
-            outcome,
-        )
-    }
-
-    // Takes the region of the slot that was found.
-    fn take_affine(&mut self, frame: &mut Frame<P, H>, cursor: PurgeCursor, name: SlotName)
-        requires { CanTakeOf name self.old }
-        ensures { (g : StepGiven H) → ◌≡◌ {A = After P H} (record { core = self.new; frame = frame.new; outcome = None }) (stepped (purge_row g cursor (PurgeStep.TakeRegion name) self.old frame.old)) }
-    {
-        let place = self.plan.cell_place(name);
-        let part = self.parts.at(place);
-        part_sweeps::take_affine(part, frame, cursor, name)
-    }
-
-    // Puts it back.
-    fn put_affine(
-        &mut self,
-        frame: &mut Frame<P, H>,
-        cursor: PurgeCursor,
-        at: TakenSlot,
-        held: ImageSlot<P>,
-    )
-        requires { CanPutOf at.name held self.old }
-        ensures { (g : StepGiven H) → ◌≡◌ {A = After P H} (record { core = self.new; frame = frame.new; outcome = None }) (stepped (purge_row g cursor (PurgeStep.PutRegion at held) self.old frame.old)) }
-    {
-        let place = self.plan.cell_place(at.name);
-        let part = self.parts.at(place);
-        part_sweeps::put_affine(part, frame, cursor, at.name, held)
-    }
-
-    // Frees the slot. Nothing of it is resident.
-    fn free_affine(
-        &mut self,
-        frame: &mut Frame<P, H>,
-        cursor: PurgeCursor,
-        name: SlotName,
-        outcome: &mut Option<Outcome<P, H>>,
-    )
-        requires going { CanGoOn self.old.settings self.old.plan cursor }
-        requires slot { CanFreeOf name self.old }
-        requires unanswered { outcome.old ≡ None }
-        ensures { (g : StepGiven H) → ◌≡◌ {A = After P H} (record { core = self.new; frame = frame.new; outcome = outcome.new }) (stepped (purge_row g cursor (PurgeStep.Free name) self.old frame.old)) }
-    {
-        let place = home(&self.plan, name).place;
-        let part = self.parts.at(place);
-        part_sweeps::free_affine(
-            part,
-            &self.settings,
-            &self.plan,
-            frame,
-            cursor,
-            name,
-            outcome,
-        )
+// A step of a purge that changes no part: a purge without turns ends, and what a slot holds is forgotten.
+#[inline(never)]
+pub(crate) fn purge_alone<P: Pages, H: GcHeap>(
+    frame: &mut Frame<P, H>,
+    cursor: PurgeCursor,
+    step: PurgeStep<P>,
+    outcome: &mut Option<Outcome<P, H>>,
+)
+    requires can { CanPurgeAlone step }
+    requires unanswered { outcome.old ≡ None }
+    ensures { (g : StepGiven H) × PurgeTold g step × PurgePlanned g step × ((c : PoolCore P H) → purge_place c.settings c.plan cursor step ≡ None → ◌≡◌ {A = After P H} (record { core = c; frame = frame.new; outcome = outcome.new }) (stepped (purge_row g cursor step c frame.old))) }
+{
+    match step {
+        PurgeStep::Pick(_tried) => frame.end(Outcome::Purged(cursor.purged), outcome),
+        PurgeStep::Forget(at, held) => forget(frame, cursor, at, held),
+        _ => unreachable!(),
     }
 }
 
 // Whether a purge has turns.
-fn has_turns(settings: &Settings, plan: &Plan) -> bool
+pub(crate) fn has_turns(settings: &Settings, plan: &Plan) -> bool
     ensures { result ≡ has_turns settings.now.max_memories_per_module plan.now }
 {
     plan.totals.memory > 0 && settings.max_memories_per_module > 0

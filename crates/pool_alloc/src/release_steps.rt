@@ -5,15 +5,15 @@ ghost use Rattle.pool_images.specs.Slots.{Slot, IsClean};
 ghost use Rattle.pool_slots.specs.Cells.{is_taken};
 ghost use Rattle.pool_slots.specs.CellOf.{cell_of};
 ghost use Rattle.pool_alloc.specs.Answers.{DecommitsWhole, Drains, FollowsDrain, ReleaseTold, ReleasePlanned};
-ghost use Rattle.pool_alloc.specs.CanStep.{CanDecommit, CanDrain, CanEndStripe, CanFreeOf, CanPutOf, CanRelease, CanTakeOf, CanTakeWarm};
-ghost use Rattle.pool_alloc.specs.Releases.{slots_in, nth_taken, after_decommit, behind_stripe, free_first, drain_from, reserve_row, release_row};
-ghost use Rattle.pool_alloc.specs.Steps.{StepGiven};
+ghost use Rattle.pool_alloc.specs.CanStep.{CanDecommit, CanDrain, CanEndStripe};
+ghost use Rattle.pool_alloc.specs.NextPlaces.{CanReleaseAlone};
+ghost use Rattle.pool_alloc.specs.Releases.{slots_in, after_decommit, behind_stripe, free_first, drain_from, reserve_row, release_row};
+ghost use Rattle.pool_alloc.specs.Steps.{StepGiven, under};
 ghost use Rattle.pool_alloc.specs.Turns.{After, Left, after, goes, stepped};
+ghost use Rattle.pool_alloc.specs.declared.pool_core.PoolCore.{PoolCore};
 
-use crate::frame::{Frame, FreedSlot, Outcome, Phase, TakenSlot};
-use crate::freeing::home;
-use crate::part_sweeps;
-use crate::pool_core::{PoolCore, Settings};
+use crate::frame::{Frame, Outcome, Phase, TakenSlot};
+use crate::pool_core::Settings;
 use crate::release::{ReleaseCursor, ReleaseStep};
 use crate::reserved::ReservedList;
 use pool_images::MemoryImageSlot;
@@ -23,130 +23,55 @@ use pool_slots::{AllocError, Allocator, GcHeap, ImageSlot, Plan};
 use pool_types::HostAlignedByteCount;
 use std::alloc::Global;
 
-impl<P: Pages, H: GcHeap> PoolCore<P, H> {
-    // A step of a release.
-    #[inline(never)]
-    pub(crate) fn release(
-        &mut self,
-        alloc: Global,
-        frame: &mut Frame<P, H>,
-        step: ReleaseStep<P>,
-        outcome: &mut Option<Outcome<P, H>>,
-    )
-        requires can { CanRelease step self.old }
-        requires unanswered { outcome.old ≡ None }
-        ensures { (g : StepGiven H) × ReleaseTold self.old.settings g step × ReleasePlanned self.old.settings g step × (◌≡◌ {A = After P H} (record { core = self.new; frame = frame.new; outcome = outcome.new }) (stepped (release_row g step self.old frame.old))) }
-    {
-        match step {
-            ReleaseStep::Reserve => self.reserve(alloc, frame, outcome),
-            ReleaseStep::TakeWarm(cursor, shard) => self.take_warm(frame, cursor, shard, outcome),
-            ReleaseStep::TakeRegion(cursor, at) => self.take_resident(frame, cursor, at),
-            ReleaseStep::Decommit(cursor, at, slot, held) => {
-                decommit(&self.settings, frame, cursor, at, slot, held)
-            }
-            ReleaseStep::PutRegion(cursor, at, slot, held) => {
-                self.put_resident(frame, cursor, at, slot, held, outcome)
-            }
-            ReleaseStep::Free(cursor, slot) => self.free_taken(frame, cursor, slot, outcome),
+// A step of a release that changes no part: its lists are reserved, and the region of a slot is decommitted.
+#[inline(never)]
+pub(crate) fn release_alone<P: Pages, H: GcHeap>(
+    settings: &Settings,
+    plan: &Plan,
+    alloc: Global,
+    frame: &mut Frame<P, H>,
+    step: ReleaseStep<P>,
+    outcome: &mut Option<Outcome<P, H>>,
+)
+    requires can { CanReleaseAlone settings.now plan.now step }
+    requires unanswered { outcome.old ≡ None }
+    ensures { (g : StepGiven H) × ReleaseTold settings.now g step × ReleasePlanned settings.now g step × ((c : PoolCore P H) → ◌≡◌ {A = After P H} (record { core = under settings.now plan.now c; frame = frame.new; outcome = outcome.new }) (stepped (release_row g step (under settings.now plan.now c) frame.old))) }
+{
+    match step {
+        ReleaseStep::Reserve => reserve(plan, alloc, frame, outcome),
+        ReleaseStep::Decommit(cursor, at, slot, held) => {
+            decommit(settings, frame, cursor, at, slot, held)
         }
+        _ => unreachable!(),
     }
+}
 
-    // Reserves room for the slots of all stripes.
-    fn reserve(
-        &mut self,
-        alloc: Global,
-        frame: &mut Frame<P, H>,
-        outcome: &mut Option<Outcome<P, H>>,
-    )
-        requires can { length self.old.plan.memories < 2 ^ 32 }
-        requires unanswered { outcome.old ≡ None }
-        ensures { (wants : Bool) × (◌≡◌ {A = After P H} (record { core = self.new; frame = frame.new; outcome = outcome.new }) (stepped (reserve_row wants self.old frame.old))) }
-    {
-        let room = slots_in(self.plan.memories.as_slice());
-        let Ok(local) = Taken::new(alloc, room) else {
-            return frame.end(Outcome::Refused(AllocError::Memory), outcome);
-        };
-        let Ok(taken) = ReservedList::with_room(alloc, room) else {
-            return frame.end(Outcome::Refused(AllocError::Memory), outcome);
-        };
-        let cursor = ReleaseCursor {
-            stripe: 0,
-            local,
-            taken,
-            failed: false,
-            released: 0,
-        };
-        frame.go(Phase::Release(ReleaseStep::TakeWarm(cursor, 0)))
-    }
-
-    // Takes all warm slots of the shard of the stripe with this number.
-    fn take_warm(
-        &mut self,
-        frame: &mut Frame<P, H>,
-        cursor: ReleaseCursor,
-        shard: u32,
-        outcome: &mut Option<Outcome<P, H>>,
-    )
-        requires can { CanTakeWarm self.old cursor shard }
-        requires unanswered { outcome.old ≡ None }
-        ensures { (g : StepGiven H) → ◌≡◌ {A = After P H} (record { core = self.new; frame = frame.new; outcome = outcome.new }) (stepped (release_row g (ReleaseStep.TakeWarm cursor shard) self.old frame.old)) }
-    {
-        let place = cursor.allocator(&self.plan).first_place + shard;
-        let part = self.parts.at(place);
-        part_sweeps::take_warm(part, &self.plan, frame, cursor, shard, outcome)
-    }
-
-    // Takes the region of the slot at this place of those that were taken.
-    fn take_resident(&mut self, frame: &mut Frame<P, H>, cursor: ReleaseCursor, at: usize)
-        requires inside { at < length cursor.taken.items }
-        requires can { CanTakeOf (nth_taken cursor at).name self.old }
-        ensures { (g : StepGiven H) → ◌≡◌ {A = After P H} (record { core = self.new; frame = frame.new; outcome = None }) (stepped (release_row g (ReleaseStep.TakeRegion cursor at) self.old frame.old)) }
-    {
-        let name = cursor.slot(at).name;
-        let place = self.plan.cell_place(name);
-        let part = self.parts.at(place);
-        part_sweeps::take_resident(part, frame, cursor, at, name)
-    }
-
-    // Puts it back, in the state that it had. The next slot with resident bytes follows.
-    fn put_resident(
-        &mut self,
-        frame: &mut Frame<P, H>,
-        cursor: ReleaseCursor,
-        at: usize,
-        slot: TakenSlot,
-        held: ImageSlot<P>,
-        outcome: &mut Option<Outcome<P, H>>,
-    )
-        requires going { CanEndStripe self.old.plan cursor }
-        requires inside { at < length cursor.taken.items }
-        requires can { CanPutOf slot.name held self.old }
-        requires unanswered { outcome.old ≡ None }
-        ensures { (g : StepGiven H) → ◌≡◌ {A = After P H} (record { core = self.new; frame = frame.new; outcome = outcome.new }) (stepped (release_row g (ReleaseStep.PutRegion cursor at slot held) self.old frame.old)) }
-    {
-        let place = self.plan.cell_place(slot.name);
-        let part = self.parts.at(place);
-        part_sweeps::put_resident(part, &self.plan, frame, cursor, at, held, outcome)
-    }
-
-    // Frees a slot. It keeps nothing resident where all decommits of the stripe succeeded.
-    fn free_taken(
-        &mut self,
-        frame: &mut Frame<P, H>,
-        cursor: ReleaseCursor,
-        slot: FreedSlot,
-        outcome: &mut Option<Outcome<P, H>>,
-    )
-        requires going { CanEndStripe self.old.plan cursor }
-        requires bytes { slot.bytes ≤ 2 ^ 32 }
-        requires can { CanFreeOf slot.name self.old }
-        requires unanswered { outcome.old ≡ None }
-        ensures { (g : StepGiven H) → ◌≡◌ {A = After P H} (record { core = self.new; frame = frame.new; outcome = outcome.new }) (stepped (release_row g (ReleaseStep.Free cursor slot) self.old frame.old)) }
-    {
-        let place = home(&self.plan, slot.name).place;
-        let part = self.parts.at(place);
-        part_sweeps::free_taken(part, &self.plan, frame, cursor, slot, outcome)
-    }
+// Reserves room for the slots of all stripes.
+pub(crate) fn reserve<P: Pages, H: GcHeap>(
+    plan: &Plan,
+    alloc: Global,
+    frame: &mut Frame<P, H>,
+    outcome: &mut Option<Outcome<P, H>>,
+)
+    requires can { length plan.now.memories < 2 ^ 32 }
+    requires unanswered { outcome.old ≡ None }
+    ensures { (wants : Bool) × ((c : PoolCore P H) → ◌≡◌ {A = After P H} (record { core = under c.settings plan.now c; frame = frame.new; outcome = outcome.new }) (stepped (reserve_row wants (under c.settings plan.now c) frame.old))) }
+{
+    let room = slots_in(plan.memories.as_slice());
+    let Ok(local) = Taken::new(alloc, room) else {
+        return frame.end(Outcome::Refused(AllocError::Memory), outcome);
+    };
+    let Ok(taken) = ReservedList::with_room(alloc, room) else {
+        return frame.end(Outcome::Refused(AllocError::Memory), outcome);
+    };
+    let cursor = ReleaseCursor {
+        stripe: 0,
+        local,
+        taken,
+        failed: false,
+        released: 0,
+    };
+    frame.go(Phase::Release(ReleaseStep::TakeWarm(cursor, 0)))
 }
 
 // How many slots these allocators have.

@@ -2,87 +2,104 @@ ghost use Rattle.std.specs.Prelude.{◌≡◌, ◌^◌, ◌<◌, ◌≤◌, [], 
 ghost use Rattle.pool_images.specs.Slots.{Slot};
 ghost use Rattle.pool_memory.specs.Memories.{slot_of};
 ghost use Rattle.pool_alloc.specs.Answers.{Resets, FollowsReset, ResetTold, ResetPlanned};
-ghost use Rattle.pool_alloc.specs.CanStep.{CanReset, CanResetTable, CanStepAt};
+ghost use Rattle.pool_alloc.specs.CanStep.{CanReset, CanResetObject, CanResetStack, CanResetTable};
 ghost use Rattle.pool_alloc.specs.Leases.{memory_slot, slot_taken};
-ghost use Rattle.pool_alloc.specs.Rows.{was_reset, reset_turn, table_reset_row, reset_row};
-ghost use Rattle.pool_alloc.specs.Steps.{StepGiven};
+ghost use Rattle.pool_alloc.specs.Rows.{was_reset, reset_turn, table_reset_row, stack_reset_row, reset_row};
+ghost use Rattle.pool_alloc.specs.Steps.{StepGiven, under};
 ghost use Rattle.pool_alloc.specs.Turns.{After, Left, after, stepped};
+ghost use Rattle.pool_alloc.specs.declared.pool_core.PoolCore.{PoolCore};
 
 use crate::frame::{Frame, Object, Outcome, Phase, TakenSlot};
 use crate::freeing::memory_slot;
 use crate::lease::MemoryLease;
-use crate::pool_core::PoolCore;
+use crate::pool_core::Settings;
+use crate::stack_lease::StackLease;
 use crate::table_lease::TableLease;
-use crate::table_steps::reset_table;
+use crate::{stack_steps, table_steps};
 use pool_images::{MemoryImageSlot, Ranges};
 use pool_pages::Pages;
 use pool_slots::{GcHeap, HeldSlot, ImageSlot, QueueKind, QueuedSlot};
 use std::alloc::Global;
 
-impl<P: Pages, H: GcHeap> PoolCore<P, H> {
-    // Resets an object into the local queue.
-    #[inline(never)]
-    pub(crate) fn reset(
-        &mut self,
-        alloc: Global,
-        frame: &mut Frame<P, H>,
-        object: Object<P>,
-        outcome: &mut Option<Outcome<P, H>>,
-    )
-        requires can { CanStepAt (Phase.Reset object) self.old frame.old }
-        requires unanswered { outcome.old ≡ None }
-        ensures { (g : StepGiven H) × ResetTold self.old.settings g object × ResetPlanned self.old.settings g object × (◌≡◌ {A = After P H} (record { core = self.new; frame = frame.new; outcome = outcome.new }) (stepped (reset_row g object self.old frame.old))) }
-    {
-        match object {
-            Object::Memory(lease) => self.reset_memory(alloc, frame, lease, outcome),
-            Object::Table(lease) => self.reset_table(alloc, frame, lease, outcome),
-            Object::Stack(lease) => self.reset_stack(alloc, frame, lease, outcome),
-        }
+// Resets an object into the local queue.
+#[inline(never)]
+pub(crate) fn reset<P: Pages, H: GcHeap>(
+    settings: &Settings,
+    alloc: Global,
+    frame: &mut Frame<P, H>,
+    object: Object<P>,
+    outcome: &mut Option<Outcome<P, H>>,
+)
+    requires can { CanResetObject settings.now object frame.old.local }
+    requires unanswered { outcome.old ≡ None }
+    ensures { (g : StepGiven H) × ResetTold settings.now g object × ResetPlanned settings.now g object × ((c : PoolCore P H) → ◌≡◌ {A = After P H} (record { core = under settings.now c.plan c; frame = frame.new; outcome = outcome.new }) (stepped (reset_row g object (under settings.now c.plan c) frame.old))) }
+{
+    match object {
+        Object::Memory(lease) => reset_memory(settings, alloc, frame, lease, outcome),
+        Object::Table(lease) => reset_table(settings, alloc, frame, lease, outcome),
+        Object::Stack(lease) => reset_stack(settings, alloc, frame, lease, outcome),
     }
+}
 
-    // Resets a table into the local queue, likewise. That makes no page call.
-    fn reset_table(
-        &mut self,
-        alloc: Global,
-        frame: &mut Frame<P, H>,
-        lease: TableLease<P>,
-        outcome: &mut Option<Outcome<P, H>>,
-    )
-        requires can { CanResetTable self.old.settings lease frame.old.local }
-        requires unanswered { outcome.old ≡ None }
-        ensures { ◌≡◌ {A = After P H} (record { core = self.new; frame = frame.new; outcome = outcome.new }) (stepped (table_reset_row lease self.old frame.old)) }
-    {
-        let keep = self.settings.table_keep_resident;
-        reset_table(self.settings.page, keep, lease, &mut frame.local);
-        was_reset(alloc, self.settings.batch, frame, outcome)
-    }
+// Resets a table into the local queue, likewise. That makes no page call.
+fn reset_table<P: Pages, H: GcHeap>(
+    settings: &Settings,
+    alloc: Global,
+    frame: &mut Frame<P, H>,
+    lease: TableLease<P>,
+    outcome: &mut Option<Outcome<P, H>>,
+)
+    requires can { CanResetTable settings.now lease frame.old.local }
+    requires unanswered { outcome.old ≡ None }
+    ensures { (c : PoolCore P H) → ◌≡◌ {A = After P H} (record { core = under settings.now c.plan c; frame = frame.new; outcome = outcome.new }) (stepped (table_reset_row lease (under settings.now c.plan c) frame.old)) }
+{
+    let keep = settings.table_keep_resident;
+    table_steps::reset_table(settings.page, keep, lease, &mut frame.local);
+    was_reset(alloc, settings.batch, frame, outcome)
+}
 
-    // Resets a memory into the local queue. That is flushed where it has no range or as many as a batch, and else goes
-    // to the home queue. Where a page call of the reset failed, nothing is known of the slot.
-    fn reset_memory(
-        &mut self,
-        alloc: Global,
-        frame: &mut Frame<P, H>,
-        lease: MemoryLease<P>,
-        outcome: &mut Option<Outcome<P, H>>,
-    )
-        requires can { CanReset self.old.settings (slot_of lease.memory) frame.old.local }
-        requires unanswered { outcome.old ≡ None }
-        ensures { (fault : Bool) × (after : Slot) × Resets fault self.old.settings.keep_resident.bytes (slot_taken lease) (slot_of lease.memory) after × FollowsReset self.old.settings.keep_resident.bytes fault (slot_of lease.memory) after × (◌≡◌ {A = After P H} (record { core = self.new; frame = frame.new; outcome = outcome.new }) (stepped (was_reset fault after lease self.old frame.old))) }
-    {
-        let at = slot_taken(&lease);
-        let mut slot = lease.memory.unwrap_static_image();
-        let mut ranges = Ranges::new();
-        let keep = self.settings.keep_resident;
-        let Ok(kept) = slot.clear_and_remain_ready(false, keep, &mut ranges) else {
-            slot.forget();
-            return frame.go(Phase::PutBack(at, ImageSlot::Unknown(slot)));
-        };
-        let item = memory_queued(at, slot, kept);
-        let listed = ranges.as_slice();
-        frame.local.push_reset(QueueKind::Memory, item, listed);
-        was_reset(alloc, self.settings.batch, frame, outcome)
-    }
+// Resets a stack into the local queue, likewise.
+fn reset_stack<P: Pages, H: GcHeap>(
+    settings: &Settings,
+    alloc: Global,
+    frame: &mut Frame<P, H>,
+    lease: StackLease<P>,
+    outcome: &mut Option<Outcome<P, H>>,
+)
+    requires can { CanResetStack settings.now lease frame.old.local }
+    requires unanswered { outcome.old ≡ None }
+    ensures { (c : PoolCore P H) → ◌≡◌ {A = After P H} (record { core = under settings.now c.plan c; frame = frame.new; outcome = outcome.new }) (stepped (stack_reset_row lease (under settings.now c.plan c) frame.old)) }
+{
+    let keep = settings.stack_keep_resident;
+    stack_steps::reset_stack(keep, lease, &mut frame.local);
+    was_reset(alloc, settings.batch, frame, outcome)
+}
+
+// Resets a memory into the local queue. That is flushed where it has no range or as many as a batch, and else goes
+// to the home queue. Where a page call of the reset failed, nothing is known of the slot.
+fn reset_memory<P: Pages, H: GcHeap>(
+    settings: &Settings,
+    alloc: Global,
+    frame: &mut Frame<P, H>,
+    lease: MemoryLease<P>,
+    outcome: &mut Option<Outcome<P, H>>,
+)
+    requires can { CanReset settings.now (slot_of lease.memory) frame.old.local }
+    requires unanswered { outcome.old ≡ None }
+    ensures { (fault : Bool) × (after : Slot) × Resets fault settings.now.keep_resident.bytes (slot_taken lease) (slot_of lease.memory) after × FollowsReset settings.now.keep_resident.bytes fault (slot_of lease.memory) after × ((c : PoolCore P H) → ◌≡◌ {A = After P H} (record { core = under settings.now c.plan c; frame = frame.new; outcome = outcome.new }) (stepped (was_reset fault after lease (under settings.now c.plan c) frame.old))) }
+{
+    let at = slot_taken(&lease);
+    let mut slot = lease.memory.unwrap_static_image();
+    let mut ranges = Ranges::new();
+    let keep = settings.keep_resident;
+    let Ok(kept) = slot.clear_and_remain_ready(false, keep, &mut ranges) else {
+        slot.forget();
+        return frame.go(Phase::PutBack(at, ImageSlot::Unknown(slot)));
+    };
+    let item = memory_queued(at, slot, kept);
+    let listed = ranges.as_slice();
+    frame.local.push_reset(QueueKind::Memory, item, listed);
+    was_reset(alloc, settings.batch, frame, outcome)
 }
 
 // A memory's slot on its way back, which is clean once its ranges are decommitted, and keeps so many bytes resident.
@@ -109,7 +126,7 @@ fn slot_taken<P: Pages>(lease: &MemoryLease<P>) -> TakenSlot
 }
 
 // What comes after a reset.
-pub(crate) fn was_reset<P: Pages, H: GcHeap>(
+fn was_reset<P: Pages, H: GcHeap>(
     alloc: Global,
     batch: usize,
     frame: &mut Frame<P, H>,

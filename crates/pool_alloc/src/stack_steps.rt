@@ -1,85 +1,62 @@
-ghost use Rattle.std.specs.Prelude.{◌≡◌, ◌≤◌, ◌^◌, ◌<◌, ◌+◌, false, None};
+ghost use Rattle.std.specs.Prelude.{◌≡◌, ◌≤◌, ◌^◌, ◌+◌, ◌-◌, false, None};
 ghost use Rattle.pool_types.specs.Count.{count};
 ghost use Rattle.pool_slots.specs.PlainSlots.{IsPlain};
 ghost use Rattle.pool_slots.specs.SlotQueues.{plain_slot};
 ghost use Rattle.pool_slots.specs.declared.errors.AllocError.TheVariants as refusal;
-ghost use Rattle.pool_alloc.specs.CanStep.{CanResetStack};
 ghost use Rattle.pool_alloc.specs.PoolStacks.{stack_made, stack_reset};
-ghost use Rattle.pool_alloc.specs.Rows.{count_object_row, stack_reset_row, test_stack_row, uncount_object_row};
+ghost use Rattle.pool_alloc.specs.Rows.{count_object_row, test_stack_row, uncount_object_row};
 ghost use Rattle.pool_alloc.specs.StackLeases.{stack_slot};
+ghost use Rattle.pool_alloc.specs.Steps.{counting_stacks, under};
 ghost use Rattle.pool_alloc.specs.TableSteps.{CanQueue};
 ghost use Rattle.pool_alloc.specs.Turns.{After, stepped, resting};
+ghost use Rattle.pool_alloc.specs.declared.pool_core.PoolCore.{PoolCore};
 
 use crate::frame::{Frame, Grant, Object, Outcome, Phase, TakenSlot};
 use crate::lease::InstanceLease;
-use crate::pool_core::{PoolCore, Settings};
-use crate::reset_step::was_reset;
+use crate::pool_core::Settings;
 use crate::stack_lease::StackLease;
+use crate::validate_step::refuse_at_once;
 use pool_images::Ranges;
 use pool_pages::{PageRegion, Pages};
 use pool_slots::{AllocError, DecommitQueue, GcHeap, QueueKind, Stack};
 use pool_types::HostAlignedByteCount;
 use std::alloc::Global;
 
-impl<P: Pages, H: GcHeap> PoolCore<P, H> {
-    // Tests whether stacks are enabled.
-    #[inline(never)]
-    pub(crate) fn test_stack(
-        &mut self,
-        alloc: Global,
-        frame: &mut Frame<P, H>,
-        outcome: &mut Option<Outcome<P, H>>,
-    )
-        requires unanswered { outcome.old ≡ None }
-        ensures { ◌≡◌ {A = After P H} (record { core = self.new; frame = frame.new; outcome = outcome.new }) (stepped (test_stack_row self.old (resting frame.old))) }
-    {
-        frame.rest();
-        if self.settings.stack_size == 0 {
-            return self.refuse_at_once(frame, AllocError::StacksDisabled, outcome);
-        }
-        frame.objects = InstanceLease::none(alloc);
-        frame.go(Phase::Pick(0))
+// Tests whether stacks are enabled.
+#[inline(never)]
+pub(crate) fn test_stack<P: Pages, H: GcHeap>(
+    settings: &Settings,
+    alloc: Global,
+    frame: &mut Frame<P, H>,
+    outcome: &mut Option<Outcome<P, H>>,
+)
+    requires unanswered { outcome.old ≡ None }
+    ensures { (c : PoolCore P H) → ◌≡◌ {A = After P H} (record { core = under settings.now c.plan c; frame = frame.new; outcome = outcome.new }) (stepped (test_stack_row (under settings.now c.plan c) (resting frame.old))) }
+{
+    frame.rest();
+    if settings.stack_size == 0 {
+        return refuse_at_once(frame, AllocError::StacksDisabled, outcome);
     }
+    frame.objects = InstanceLease::none(alloc);
+    frame.go(Phase::Pick(0))
+}
 
-    // Grants a stack, with which its call ends.
-    pub(crate) fn count_stack(
-        &mut self,
-        frame: &mut Frame<P, H>,
-        lease: StackLease<P>,
-        outcome: &mut Option<Outcome<P, H>>,
-    )
-        requires can { self.old.counters.stacks + 1 < 2 ^ 64 }
-        requires unanswered { outcome.old ≡ None }
-        ensures { ◌≡◌ {A = After P H} (record { core = self.new; frame = frame.new; outcome = outcome.new }) (stepped (count_object_row (Object.Stack lease) self.old frame.old)) }
-    {
-        self.counters.stacks += 1;
-        frame.end(Outcome::Granted(Grant::Stack(lease)), outcome)
-    }
+// Grants a stack, with which its call ends.
+pub(crate) fn count_stack<P: Pages, H: GcHeap>(
+    frame: &mut Frame<P, H>,
+    lease: StackLease<P>,
+    outcome: &mut Option<Outcome<P, H>>,
+)
+    requires unanswered { outcome.old ≡ None }
+    ensures { (c : PoolCore P H) → ◌≡◌ {A = After P H} (record { core = counting_stacks (c.counters.stacks + 1) c; frame = frame.new; outcome = outcome.new }) (stepped (count_object_row (Object.Stack lease) c frame.old)) }
+{
+    frame.end(Outcome::Granted(Grant::Stack(lease)), outcome)
+}
 
-    pub(crate) fn uncount_stack(&mut self, frame: &mut Frame<P, H>, lease: StackLease<P>)
-        requires { 0 < self.old.counters.stacks }
-        ensures { ◌≡◌ {A = After P H} (record { core = self.new; frame = frame.new; outcome = None }) (stepped (uncount_object_row (Object.Stack lease) self.old frame.old)) }
-    {
-        self.counters.stacks -= 1;
-        frame.go(Phase::Reset(Object::Stack(lease)))
-    }
-
-    // Resets a stack into the local queue. That makes no page call.
-    pub(crate) fn reset_stack(
-        &mut self,
-        alloc: Global,
-        frame: &mut Frame<P, H>,
-        lease: StackLease<P>,
-        outcome: &mut Option<Outcome<P, H>>,
-    )
-        requires can { CanResetStack self.old.settings lease frame.old.local }
-        requires unanswered { outcome.old ≡ None }
-        ensures { ◌≡◌ {A = After P H} (record { core = self.new; frame = frame.new; outcome = outcome.new }) (stepped (stack_reset_row lease self.old frame.old)) }
-    {
-        let keep = self.settings.stack_keep_resident;
-        reset_stack(keep, lease, &mut frame.local);
-        was_reset(alloc, self.settings.batch, frame, outcome)
-    }
+pub(crate) fn uncount_stack<P: Pages, H: GcHeap>(frame: &mut Frame<P, H>, lease: StackLease<P>)
+    ensures { (c : PoolCore P H) → ◌≡◌ {A = After P H} (record { core = counting_stacks (c.counters.stacks - 1) c; frame = frame.new; outcome = None }) (stepped (uncount_object_row (Object.Stack lease) c frame.old)) }
+{
+    frame.go(Phase::Reset(Object::Stack(lease)))
 }
 
 // The stack in the region of a slot, whose first page is the guard.
@@ -104,7 +81,7 @@ pub(crate) fn stack_made<P: Pages>(
 }
 
 // Resets a stack into a queue.
-fn reset_stack<P: Pages>(
+pub(crate) fn reset_stack<P: Pages>(
     keep_resident: HostAlignedByteCount,
     lease: StackLease<P>,
     local: &mut DecommitQueue<P>,

@@ -8,12 +8,13 @@ ghost use Rattle.pool_alloc.specs.TableSteps.{IsInRegion, CanQueue, table_reset,
 ghost use Rattle.pool_alloc.specs.CanStep.{HasTableNext, CanMakeTable};
 ghost use Rattle.pool_alloc.specs.Modules.{IfTable};
 ghost use Rattle.pool_alloc.specs.Rows.{table_made_by, make_table_row};
+ghost use Rattle.pool_alloc.specs.Steps.{under};
 ghost use Rattle.pool_alloc.specs.Turns.{After, stepped};
 ghost use Rattle.pool_alloc.specs.declared.pool_core.PoolCore.{PoolCore};
 ghost use Rattle.pool_alloc.specs.TableLeases.{table_slot};
 
 use crate::frame::{Asked, Frame, Object, Outcome, Phase, TakenSlot};
-use crate::pool_core::{PoolCore, Settings};
+use crate::pool_core::Settings;
 use crate::table_lease::TableLease;
 use pool_images::Ranges;
 use pool_limits::ResourceLimiter;
@@ -28,43 +29,41 @@ use pool_types::{HostAlignedByteCount, PageSize, TableType, Tunables};
 /// A table in its slot, or the region of one that is refused.
 type TableMaking<P> = Result<TableLease<P>, (PageRegion<P>, AllocError)>;
 
-impl<P: Pages, H: GcHeap> PoolCore<P, H> {
-    // Asks the limiter, and makes the table.
-    #[inline(never)]
-    pub(crate) fn make_table<L: ResourceLimiter>(
-        &mut self,
-        frame: &mut Frame<P, H>,
-        at: TakenSlot,
-        region: PageRegion<P>,
-        limiter: &mut L,
-    )
-        requires next { HasTableNext frame.old.asked (length frame.old.objects.tables.items) }
-        requires can { IfTable frame.old (CanMakeTable self.old.settings region) }
-        ensures { (answer : Result Bool LimiterError) × IfTable frame.old (AsksForTable answer (L.told limiter.old) (L.told limiter.new)) × IfTable frame.old (λ ty. Exchanged L.leads (may_grow (making_question ty) answer ∷ []) limiter.old limiter.new) × (◌≡◌ {A = After P H} (record { core = self.new; frame = frame.new; outcome = None }) (stepped (make_table_row answer at region self.old frame.old))) }
-    {
-        let making = self.make_next_table(frame, at, region, limiter);
-        table_made(frame, at, making)
-    }
+// Asks the limiter, and makes the table.
+#[inline(never)]
+pub(crate) fn make_table<P: Pages, H: GcHeap, L: ResourceLimiter>(
+    settings: &Settings,
+    frame: &mut Frame<P, H>,
+    at: TakenSlot,
+    region: PageRegion<P>,
+    limiter: &mut L,
+)
+    requires next { HasTableNext frame.old.asked (length frame.old.objects.tables.items) }
+    requires can { IfTable frame.old (CanMakeTable settings.now region) }
+    ensures { (answer : Result Bool LimiterError) × IfTable frame.old (AsksForTable answer (L.told limiter.old) (L.told limiter.new)) × IfTable frame.old (λ ty. Exchanged L.leads (may_grow (making_question ty) answer ∷ []) limiter.old limiter.new) × ((c : PoolCore P H) → ◌≡◌ {A = After P H} (record { core = under settings.now c.plan c; frame = frame.new; outcome = None }) (stepped (make_table_row answer at region (under settings.now c.plan c) frame.old))) }
+{
+    let making = make_next_table(settings, frame, at, region, limiter);
+    table_made(frame, at, making)
+}
 
-    // The table that is allocated.
-    fn make_next_table<L: ResourceLimiter>(
-        &self,
-        frame: &Frame<P, H>,
-        at: TakenSlot,
-        region: PageRegion<P>,
-        limiter: &mut L,
-    ) -> TableMaking<P>
-        requires next { HasTableNext frame.now.asked (length frame.now.objects.tables.items) }
-        requires can { IfTable frame.now (CanMakeTable self.now.settings region) }
-        ensures { (answer : Result Bool LimiterError) × IfTable frame.now (MakesFor L.told L.leads self.now.settings answer at region limiter.old limiter.new result) }
-    {
-        let table = frame.objects.tables.len();
-        match &frame.asked {
-            Asked::Nothing | Asked::Stack | Asked::Heap(_) => unreachable!(),
-            Asked::Module(call) => {
-                let ty = &call.info.tables.as_slice()[table];
-                make_table_of(ty, &self.settings, at, region, limiter)
-            }
+// The table that is allocated.
+fn make_next_table<P: Pages, H: GcHeap, L: ResourceLimiter>(
+    settings: &Settings,
+    frame: &Frame<P, H>,
+    at: TakenSlot,
+    region: PageRegion<P>,
+    limiter: &mut L,
+) -> TableMaking<P>
+    requires next { HasTableNext frame.now.asked (length frame.now.objects.tables.items) }
+    requires can { IfTable frame.now (CanMakeTable settings.now region) }
+    ensures { (answer : Result Bool LimiterError) × IfTable frame.now (MakesFor L.told L.leads settings.now answer at region limiter.old limiter.new result) }
+{
+    let table = frame.objects.tables.len();
+    match &frame.asked {
+        Asked::Nothing | Asked::Stack | Asked::Heap(_) => unreachable!(),
+        Asked::Module(call) => {
+            let ty = &call.info.tables.as_slice()[table];
+            make_table_of(ty, settings, at, region, limiter)
         }
     }
 }
@@ -82,7 +81,7 @@ fn make_table_of<P: Pages, L: ResourceLimiter>(
     let bytes = data_size(settings.table_elements, settings.table_slot, ty.element);
     let tunables = &settings.tunables.tunables;
     let pages = region.into_pages();
-    match make_table(ty, tunables, bytes, at, pages, limiter) {
+    match make_lease(ty, tunables, bytes, at, pages, limiter) {
         Ok(lease) => Ok(lease),
         Err((pages, error)) => Err((PageRegion::new(pages), error)),
     }
@@ -138,7 +137,7 @@ pub(crate) fn reset_table<P: Pages>(
 }
 
 /// Asks the limiter for a table's minimum, and makes the table over the region of its slot, of which it has so many bytes.
-pub(crate) fn make_table<P: Pages, L: ResourceLimiter>(
+fn make_lease<P: Pages, L: ResourceLimiter>(
     ty: &TableType,
     tunables: &Tunables,
     bytes: usize,

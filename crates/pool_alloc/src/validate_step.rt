@@ -3,89 +3,90 @@ ghost use Rattle.pool_types.specs.MemoryTypes.{refused_limits};
 ghost use Rattle.pool_slots.specs.declared.errors.AllocError.TheVariants as refusal;
 ghost use Rattle.pool_alloc.specs.CanStep.{CanValidate};
 ghost use Rattle.pool_alloc.specs.Refusals.{first_refused, offset_refused, number_refused, memory_refused, tables_refused, long_table, objects_refused, module_refused};
-ghost use Rattle.pool_alloc.specs.Rows.{refused_at_once, validated, validate_row};
-ghost use Rattle.pool_alloc.specs.Steps.{info_wanted, memories_wanted};
-ghost use Rattle.pool_alloc.specs.Turns.{After, stepped, resting};
+ghost use Rattle.pool_alloc.specs.Rows.{validated, validate_row};
+ghost use Rattle.pool_alloc.specs.Steps.{info_wanted, memories_wanted, under};
+ghost use Rattle.pool_alloc.specs.Turns.{After, Left, after, ends, failing, stepped, resting};
+ghost use Rattle.pool_alloc.specs.declared.pool_core.PoolCore.{PoolCore};
 ghost use Rattle.std.specs.Option.{option_or};
 
 use crate::frame::{Asked, Frame, Outcome, Phase};
 use crate::frame_turns::drop_phase;
 use crate::lease::InstanceLease;
-use crate::pool_core::{PoolCore, Settings};
+use crate::pool_core::Settings;
 use crate::reserved::ReservedList;
 use crate::size_rules::size_refused;
 use crate::table_rules::{long_table, table_limits_refused, tables_refused};
 use pool_pages::Pages;
-use pool_slots::{AllocError, GcHeap};
+use pool_slots::{AllocError, GcHeap, Plan};
 use pool_types::{ImageDecl, MemoryDecl, MemoryType, ModuleInfo, PageSize, TableType, Unsupported};
 use std::alloc::Global;
 
-impl<P: Pages, H: GcHeap> PoolCore<P, H> {
-    // Tests the module, and reserves the lists of what is to be granted.
-    #[inline(never)]
-    pub(crate) fn validate(
-        &mut self,
-        alloc: Global,
-        frame: &mut Frame<P, H>,
-        outcome: &mut Option<Outcome<P, H>>,
-    )
-        requires can { CanValidate (memories_wanted frame.old.asked) }
-        requires unanswered { outcome.old ≡ None }
-        ensures { (wants : Bool) × (◌≡◌ {A = After P H} (record { core = self.new; frame = frame.new; outcome = outcome.new }) (stepped (validate_row wants self.old (resting frame.old)))) }
-    {
-        frame.rest();
-        match self.module_refused(frame) {
-            Some(rule) => self.refuse_at_once(frame, AllocError::Unsupported(rule), outcome),
-            None => self.reserve_grants(alloc, frame, Phase::CountInstance, outcome),
+// Tests the module, and reserves the lists of what is to be granted.
+#[inline(never)]
+pub(crate) fn validate<P: Pages, H: GcHeap>(
+    settings: &Settings,
+    plan: &Plan,
+    alloc: Global,
+    frame: &mut Frame<P, H>,
+    outcome: &mut Option<Outcome<P, H>>,
+)
+    requires can { CanValidate (memories_wanted frame.old.asked) }
+    requires unanswered { outcome.old ≡ None }
+    ensures { (wants : Bool) × ((c : PoolCore P H) → ◌≡◌ {A = After P H} (record { core = under settings.now plan.now c; frame = frame.new; outcome = outcome.new }) (stepped (validate_row wants (under settings.now plan.now c) (resting frame.old)))) }
+{
+    frame.rest();
+    match asked_refused(settings, plan, frame) {
+        Some(rule) => refuse_at_once(frame, AllocError::Unsupported(rule), outcome),
+        None => reserve_grants(alloc, frame, Phase::CountInstance, outcome),
+    }
+}
+
+// The call ends with a refusal before anything is granted.
+pub(crate) fn refuse_at_once<P: Pages, H: GcHeap>(
+    frame: &mut Frame<P, H>,
+    error: AllocError,
+    outcome: &mut Option<Outcome<P, H>>,
+)
+    requires unanswered { outcome.old ≡ None }
+    ensures { ◌≡◌ {A = Left P H} (record { frame = frame.new; outcome = outcome.new }) (after (failing error frame.old) (ends (Outcome.Refused error))) }
+{
+    frame.end(Outcome::Refused(error), outcome)
+}
+
+// The lists of what is to be granted are reserved, and this phase is next.
+pub(crate) fn reserve_grants<P: Pages, H: GcHeap>(
+    alloc: Global,
+    frame: &mut Frame<P, H>,
+    next: Phase<P, H>,
+    outcome: &mut Option<Outcome<P, H>>,
+)
+    requires unanswered { outcome.old ≡ None }
+    ensures { (wants : Bool) × ((c : PoolCore P H) → ◌≡◌ {A = After P H} (record { core = c; frame = frame.new; outcome = outcome.new }) (stepped (validated None wants next c frame.old))) }
+{
+    match room_for(alloc, frame.memories_wanted(), frame.tables_wanted()) {
+        Ok(objects) => {
+            frame.objects = objects;
+            frame.go(next)
+        }
+        Err(_) => {
+            drop_phase(next);
+            refuse_at_once(frame, AllocError::Memory, outcome)
         }
     }
+}
 
-    // The call ends with a refusal before anything is granted.
-    pub(crate) fn refuse_at_once(
-        &mut self,
-        frame: &mut Frame<P, H>,
-        error: AllocError,
-        outcome: &mut Option<Outcome<P, H>>,
-    )
-        requires unanswered { outcome.old ≡ None }
-        ensures { ◌≡◌ {A = After P H} (record { core = self.new; frame = frame.new; outcome = outcome.new }) (stepped (refused_at_once error self.old frame.old)) }
-    {
-        frame.end(Outcome::Refused(error), outcome)
-    }
-
-    // The lists of what is to be granted are reserved, and this phase is next.
-    pub(crate) fn reserve_grants(
-        &mut self,
-        alloc: Global,
-        frame: &mut Frame<P, H>,
-        next: Phase<P, H>,
-        outcome: &mut Option<Outcome<P, H>>,
-    )
-        requires unanswered { outcome.old ≡ None }
-        ensures { (wants : Bool) × (◌≡◌ {A = After P H} (record { core = self.new; frame = frame.new; outcome = outcome.new }) (stepped (validated None wants next self.old frame.old))) }
-    {
-        match room_for(alloc, frame.memories_wanted(), frame.tables_wanted()) {
-            Ok(objects) => {
-                frame.objects = objects;
-                frame.go(next)
-            }
-            Err(_) => {
-                drop_phase(next);
-                self.refuse_at_once(frame, AllocError::Memory, outcome)
-            }
-        }
-    }
-
-    // The first rule that the module breaks.
-    fn module_refused(&self, frame: &Frame<P, H>) -> Option<Unsupported>
-        requires { CanValidate (memories_wanted frame.now.asked) }
-        ensures { result ≡ module_refused self.now.settings self.now.plan.totals.table (info_wanted frame.now.asked) }
-    {
-        let total = self.plan.totals.table;
-        match &frame.asked {
-            Asked::Nothing | Asked::Stack | Asked::Heap(_) => None,
-            Asked::Module(call) => module_refused(&self.settings, total, &call.info),
-        }
+// The first rule that the module breaks which is asked for.
+fn asked_refused<P: Pages, H: GcHeap>(
+    settings: &Settings,
+    plan: &Plan,
+    frame: &Frame<P, H>,
+) -> Option<Unsupported>
+    requires { CanValidate (memories_wanted frame.now.asked) }
+    ensures { result ≡ module_refused settings.now plan.now.totals.table (info_wanted frame.now.asked) }
+{
+    match &frame.asked {
+        Asked::Nothing | Asked::Stack | Asked::Heap(_) => None,
+        Asked::Module(call) => module_refused(settings, plan.totals.table, &call.info),
     }
 }
 

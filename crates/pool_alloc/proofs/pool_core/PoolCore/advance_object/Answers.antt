@@ -1,11 +1,11 @@
 use Rattle.std.proofs.Common.{refl}
-use Rattle.pool_alloc.specs.declared.frame.Phase.TheVariants.{Reset, CountObject, CountHeap, UncountObject, UncountHeap, PutHeap, FreeHeap}
+use Rattle.pool_alloc.specs.declared.frame.Phase.TheVariants.{Reset, CountObject, CountHeap, UncountObject, UncountHeap}
 use Rattle.pool_alloc.proofs.Advancing.{nothing_told}
 use Rattle.pool_alloc.proofs.Holding.{to_row}
 use Rattle.pool_alloc.proofs.pool_core.PoolCore.advance_object.Goals as goal
 
 pub returns-in-Reset : goal.returns-in-Reset
-returns-in-Reset g c told = to_row told told c.reset.ensures.0 (Reset c.in-Reset.object) c.args.self.now (record c.args.frame.now { phase = c.args.phase }) _ c.args.frame.now.phase c.in-Reset.is c.requires.idle c.reset.ensures.1 c.reset.ensures.2 refl refl tt c.reset.ensures.3
+returns-in-Reset g c told = to_row told told c.reset.ensures.0 (Reset c.in-Reset.object) c.args.self.now (record c.args.frame.now { phase = c.args.phase }) _ c.args.frame.now.phase c.in-Reset.is c.requires.idle c.reset.ensures.1 c.reset.ensures.2 refl refl tt (c.reset.ensures.3 c.args.self.now)
 
 pub returns-in-CountObject : goal.returns-in-CountObject
 returns-in-CountObject g c told = to_row told told nothing_told (CountObject c.in-CountObject.object) c.args.self.now (record c.args.frame.now { phase = c.args.phase }) _ c.args.frame.now.phase c.in-CountObject.is c.requires.idle tt tt refl refl tt c.count_object.ensures
@@ -15,12 +15,6 @@ returns-in-UncountObject g c told = to_row told told nothing_told (UncountObject
 
 pub returns-in-UncountHeap : goal.returns-in-UncountHeap
 returns-in-UncountHeap g c told = to_row told told nothing_told (UncountHeap c.in-UncountHeap.lease c.in-UncountHeap.memory) c.args.self.now (record c.args.frame.now { phase = c.args.phase }) _ c.args.frame.now.phase c.in-UncountHeap.is c.requires.idle tt tt refl refl tt (rw c.requires.unanswered c.uncount_heap.ensures)
-
-pub returns-in-PutHeap : goal.returns-in-PutHeap
-returns-in-PutHeap g c told = to_row told told nothing_told (PutHeap c.in-PutHeap.lease c.in-PutHeap.memory) c.args.self.now (record c.args.frame.now { phase = c.args.phase }) _ c.args.frame.now.phase c.in-PutHeap.is c.requires.idle tt tt refl refl tt (rw c.requires.unanswered c.put_heap.ensures)
-
-pub returns-in-FreeHeap : goal.returns-in-FreeHeap
-returns-in-FreeHeap g c told = to_row told told nothing_told (FreeHeap c.in-FreeHeap.name c.in-FreeHeap.memory) c.args.self.now (record c.args.frame.now { phase = c.args.phase }) _ c.args.frame.now.phase c.in-FreeHeap.is c.requires.idle tt tt refl refl tt (rw c.requires.unanswered c.free_heap.ensures)
 
 pub returns-in-CountHeap : goal.returns-in-CountHeap
 returns-in-CountHeap g c told = to_row told told nothing_told (CountHeap c.in-CountHeap.lease) c.args.self.now (record c.args.frame.now { phase = c.args.phase }) _ c.args.frame.now.phase c.in-CountHeap.is c.requires.idle tt tt refl refl tt c.count_heap.ensures

@@ -1,4 +1,4 @@
-use Rattle.pool_alloc.proofs.Closings.{can_close, closing_counts_on, closing_step, closing_fewer, closing_plan, nobody}
+use Rattle.pool_alloc.proofs.Closings.{can_close, closing_counts_on, closing_step, closing_fewer, closing_plan, closing_settings, nobody}
 use Rattle.pool_alloc.proofs.Steps.{can_step_at}
 use Rattle.pool_alloc.proofs.pool_core.PoolCore.closing_step.Goals as goal
 
@@ -16,3 +16,6 @@ returns-clause-fewer g c = closing_fewer g.of.maker g.of.emptied nobody nobody c
 
 pub returns-clause-plan : goal.returns-clause-plan
 returns-clause-plan g c = closing_plan g.of.maker g.of.emptied nobody nobody c.args.self.now c.args.frame.now _ c.requires.1.1.1 c.requires.1.1.0 (c.flush_on.ensures nobody)
+
+pub returns-clause-settings : goal.returns-clause-settings
+returns-clause-settings g c = closing_settings g.of.maker g.of.emptied nobody nobody c.args.self.now c.args.frame.now _ c.requires.1.1.1 c.requires.1.1.0 (c.flush_on.ensures nobody)

@@ -7,7 +7,7 @@ use Rattle.pool_alloc.proofs.pool_core.PoolCore.flush.Goals as goal
 pub returns-then-raw_len-gt0 : goal.returns-then-raw_len-gt0
 returns-then-raw_len-gt0 g c =
     let some : 0 < length c.args.frame.now.local.ranges = rw (← c.raw_len.ensures.value) c.if-raw_len-gt0.true in
-    flushes_to run c.args.self.now c.args.frame.now _ (flush_runs c.args.frame.now.local c.args.frame.now.freed.items some) (record nothing_told { fault = c.decommit.ensures.0; queue = c.decommit.ensures.1 }, c.decommit.ensures.2, c.decommit.ensures.3, c.decommit.ensures.4)
+    flushes_to run c.args.self.now c.args.frame.now _ (flush_runs c.args.frame.now.local c.args.frame.now.freed.items some) (record nothing_told { fault = c.decommit.ensures.0; queue = c.decommit.ensures.1 }, c.decommit.ensures.2, c.decommit.ensures.3, c.decommit.ensures.4 c.args.self.now)
 
 pub returns : goal.returns
 returns g c =

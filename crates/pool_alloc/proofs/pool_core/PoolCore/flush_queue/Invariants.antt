@@ -10,6 +10,7 @@ ghost-closing_step g a = g.of
 abbrev pub invariant-loop-alloc : goal.invariant-loop-alloc
 invariant-loop-alloc g l = record {
   closing : IsClosing g.of.maker g.of.emptied l.self l.frame;
+  settings : l.self.settings ≡ l.fn.self.settings;
   plan : l.self.plan ≡ l.fn.self.plan;
 }
 

@@ -10,6 +10,7 @@ ghost-flush_queue g a = record { maker = g.maker; emptied = a.at + 1 }
 abbrev pub invariant-loop-at : goal.invariant-loop-at
 invariant-loop-at g l = record {
   closed : IsClosed g.maker l.at l.self l.frame;
+  settings : l.self.settings ≡ l.fn.self.settings;
   plan : l.self.plan ≡ l.fn.self.plan;
   last : l.at-end ≡ queues_searched l.fn.self.plan;
 }
