@@ -11,7 +11,7 @@ use Rattle.pool_slots.specs.declared.heap_list.HeapEntry.{HeapEntry}
 use Rattle.pool_slots.specs.ListUnits.{bare, is_right, is_region, IsShardOf, StandsAs, StandAsPlanned, AwayOnce}
 use Rattle.pool_slots.specs.PartUnits.{part_away}
 use Rattle.pool_slots.specs.Parts.{part_at}
-use Rattle.pool_slots.specs.Plans.{allocators_of, allocators, number_in, number_at, slots_at, has_number, home_in, home_among, home_of, cell_place, Role, shard_role, cell_role, queue_role, heaps_role, no_role, Block, shards_block, cells_block, blocks, is_within, role_among, role_at, IsAllocator, have_number, IsPlanned}
+use Rattle.pool_slots.specs.Plans.{allocators_of, allocators, number_in, number_at, slots_at, has_number, home_in, home_among, home_of, cell_place, heap_or, region_place, Role, shard_role, cell_role, queue_role, heaps_role, no_role, Block, shards_block, cells_block, blocks, is_within, role_among, role_at, IsAllocator, have_number, IsPlanned}
 use Rattle.pool_slots.specs.RegionCells.{CellState, away_by, cell_away, region_of, right_to}
 use Rattle.pool_slots.specs.SlotNames.{of_kind}
 use Rattle.pool_slots.specs.declared.slot_name.SlotName.{SlotName}
@@ -342,16 +342,6 @@ cell_there plan p r cell own name role named some' =
     let is : cell.name ≡ name = region_named name cell.name cell.out cell.holds some' in
     cell_at plan p name (role ∙ ap cell_role (sym named ∙ is))
 
--- the place of the part that gives out the region of a slot: its cell, or for a heap the list of heaps
-abbrev heap_or : SlotKind → ℕ → ℕ → ℕ
-heap_or of_slot.Memory list cell = cell
-heap_or of_slot.Table list cell = cell
-heap_or of_slot.Stack list cell = cell
-heap_or of_slot.Heap list cell = list
-
-abbrev region_place : Plan → SlotName → ℕ
-region_place plan name = heap_or name.kind plan.heap_list (cell_place plan name)
-
 abbrev is_heap : SlotKind → Bool
 is_heap of_slot.Memory = false
 is_heap of_slot.Table = false
@@ -443,7 +433,7 @@ module _ {H : Type 0} where
   heap_once heaps name of_slot.Stack is = let none = (units_of_out_slots heaps).no_others name (other_kind name of_slot.Stack is refl) in omega (arith, none)
 
 module _ {P H : Type 0} where
-  region_there : (plan : Plan) (p : ℕ) (r : Role) (x : PoolPart P H) (name : SlotName) → role_at plan p ≡ r → StandsAs r x → 0 < total (is_region name) (part_away x) → p ≡ region_place plan name
+  pub region_there : (plan : Plan) (p : ℕ) (r : Role) (x : PoolPart P H) (name : SlotName) → role_at plan p ≡ r → StandsAs r x → 0 < total (is_region name) (part_away x) → p ≡ region_place plan name
   region_there plan p r (part.Shard s) name role st some' = let none = no_region name s.kind s.step s.first s.used in absurd (omega (arith, some', none))
   region_there plan p r (part.Queue q) name role st some' = absurd (omega (arith, some'))
   region_there plan p (cell_role own) (part.Memory cell) name role st some' = cell_region plan p (cell_role own) of_slot.Memory cell own name (λ list cell. refl) role st.0 st.1 some'
@@ -467,7 +457,7 @@ module _ {P H : Type 0} where
   region_there plan p queue_role (part.Heaps heaps) name role st some' = absurd st
   region_there plan p no_role (part.Heaps heaps) name role st some' = absurd st
 
-  part_region_once : (x : PoolPart P H) (name : SlotName) → total (is_region name) (part_away x) ≤ 1
+  pub part_region_once : (x : PoolPart P H) (name : SlotName) → total (is_region name) (part_away x) ≤ 1
   part_region_once (part.Shard s) name = let none = no_region name s.kind s.step s.first s.used in omega (arith, none)
   part_region_once (part.Memory cell) name = region_once name cell.name cell.out cell.holds
   part_region_once (part.Table cell) name = region_once name cell.name cell.out cell.holds
@@ -475,7 +465,7 @@ module _ {P H : Type 0} where
   part_region_once (part.Queue q) name = omega arith
   part_region_once (part.Heaps heaps) name = heap_once heaps name name.kind refl
 
-  right_there : (plan : Plan) (places p : ℕ) (r : Role) (x : PoolPart P H) (name : SlotName) → IsPlanned plan places → role_at plan p ≡ r → StandsAs r x → 0 < total (is_right name) (part_away x) → p ≡ (home_of plan name).place
+  pub right_there : (plan : Plan) (places p : ℕ) (r : Role) (x : PoolPart P H) (name : SlotName) → IsPlanned plan places → role_at plan p ≡ r → StandsAs r x → 0 < total (is_right name) (part_away x) → p ≡ (home_of plan name).place
   right_there plan places p (shard_role a j) (part.Shard s) name planned role st some' = shard_there plan places p a j s name planned role st some'
   right_there plan places p (cell_role own) (part.Shard s) name planned role st some' = absurd st
   right_there plan places p queue_role (part.Shard s) name planned role st some' = absurd st
@@ -487,7 +477,7 @@ module _ {P H : Type 0} where
   right_there plan places p r (part.Queue q) name planned role st some' = absurd (omega (arith, some'))
   right_there plan places p r (part.Heaps heaps) name planned role st some' = let none = (units_of_out_slots heaps).no_rights name in absurd (omega (arith, some', none))
 
-  part_right_once : (r : Role) (x : PoolPart P H) (name : SlotName) → StandsAs r x → total (is_right name) (part_away x) ≤ 1
+  pub part_right_once : (r : Role) (x : PoolPart P H) (name : SlotName) → StandsAs r x → total (is_right name) (part_away x) ≤ 1
   part_right_once (shard_role a j) (part.Shard s) name st =
       let bare' = bare_times (right_to name) s.kind s.step s.first s.used in
       let once = out_once s.kind s.step (right_to name) st.sound.numbers.apart s.first s.used in

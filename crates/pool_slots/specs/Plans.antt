@@ -51,6 +51,17 @@ home_of plan name = home_among (allocators_of plan name.kind) name.slot
 abbrev pub cell_place : Plan → SlotName → ℕ
 cell_place plan name = of_kind name.kind plan.cells + name.slot
 
+-- The first place for a heap, and the second for a slot of another kind.
+abbrev pub heap_or : SlotKind → ℕ → ℕ → ℕ
+heap_or Memory list cell = cell
+heap_or Table list cell = cell
+heap_or Stack list cell = cell
+heap_or Heap list cell = list
+
+-- The place of the part that gives out the region of a slot: its cell, or for a heap the list of heaps.
+abbrev pub region_place : Plan → SlotName → ℕ
+region_place plan name = heap_or name.kind plan.heap_list (cell_place plan name)
+
 -- the place of the shard that is tried after so many others, from a home on
 abbrev pub shard_tried : Allocator → ℕ → ℕ → ℕ
 shard_tried a home tried = a.first_place + (home + tried) % a.shards

@@ -1,0 +1,9 @@
+pub mod Cores
+pub mod FewParts
+pub mod Fresh
+pub mod GivenBack
+pub mod Lists
+pub mod Makers
+pub mod Multisets
+pub mod Noted
+pub mod Standing

@@ -1,0 +1,7 @@
+pub mod Counts
+pub mod Ending
+pub mod Faults
+pub mod Laws
+pub mod Origins
+pub mod Placed
+pub mod Pools
