@@ -1,9 +1,12 @@
+pub mod BesideRights
 pub mod Cores
 pub mod FewParts
 pub mod Fresh
 pub mod GivenBack
 pub mod Lists
 pub mod Makers
+pub mod MomentSteps
 pub mod Multisets
 pub mod Noted
+pub mod Puts
 pub mod Standing

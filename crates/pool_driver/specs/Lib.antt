@@ -1,3 +1,4 @@
+pub mod Carrying
 pub mod Counts
 pub mod Ending
 pub mod Faults

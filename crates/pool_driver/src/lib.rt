@@ -21,9 +21,9 @@ mod closing;
 mod making;
 mod open_pool;
 
-// A law
+// Laws
 mod laws;
 
-pub use laws::what_fits_stands;
+pub use laws::{moments_are_cores, steps_may_put, what_fits_stands};
 pub use open_pool::OpenPool;
 pub use part::{HallPart, Origin};
