@@ -2,8 +2,7 @@
 use Rattle.std.proofs.Common.{◌≡◌, ◌∙◌, ℕ, ◌+◌, Bool, true, false, refl, sym, ap, subst, Option, Some, None, true≢false, is_some, if◌then◌else◌}
 use Rattle.pool_alloc.proofs.Imports.{Exchange, Exchanged, PoolPart, Plan, part_at}
 use Rattle.pool_alloc.specs.Answers.{PurgeTold, PurgePlanned, ReleaseTold, ReleasePlanned}
-use Rattle.pool_alloc.specs.CanStep.{CanPurge, CanRelease}
-use Rattle.pool_alloc.specs.NextPlaces.{next_place, purge_place, release_place, CanPurgeAlone, CanReleaseAlone}
+use Rattle.pool_alloc.specs.NextPlaces.{next_place, purge_place, release_place}
 use Rattle.pool_alloc.specs.OnParts.{row_on}
 use Rattle.pool_alloc.specs.PartyTold.{PartyTold}
 use Rattle.pool_alloc.specs.Purges.{has_turns, purged_stripe, pick_affine_row}
@@ -63,22 +62,6 @@ release_told H s plan p (releasing_step.PutRegion r k at held) there = (tt, tt)
 release_told H s plan p (releasing_step.Free r x) there = (tt, tt)
 
 module _ {P H : Type 0} where
-  -- What a step needs that changes no part.
-  pub purges_alone : (p : PurgeCursor) (step : PurgeStep P) (c : PoolCore P H) → purge_place c.settings c.plan p step ≡ None → CanPurge p step c → CanPurgeAlone step
-  purges_alone p (purging_step.Pick tried) c alone can = tt
-  purges_alone p (purging_step.TakeRegion name) c alone can = some_place _ alone
-  purges_alone p (purging_step.Forget at held) c alone can = (can.0, can.1)
-  purges_alone p (purging_step.PutRegion at held) c alone can = some_place _ alone
-  purges_alone p (purging_step.Free name) c alone can = some_place _ alone
-
-  pub releases_alone : (step : ReleaseStep P) (c : PoolCore P H) → release_place c.plan step ≡ None → CanRelease step c → CanReleaseAlone c.settings c.plan step
-  releases_alone releasing_step.Reserve c alone can = can
-  releases_alone (releasing_step.TakeWarm r j) c alone can = some_place _ alone
-  releases_alone (releasing_step.TakeRegion r k) c alone can = some_place _ alone
-  releases_alone (releasing_step.Decommit r k at held) c alone can = (can.0, can.1)
-  releases_alone (releasing_step.PutRegion r k at held) c alone can = some_place _ alone
-  releases_alone (releasing_step.Free r x) c alone can = some_place _ alone
-
   -- The row on the pool is that on the part.
   abbrev RowAt : StepGiven H → Phase P H → PoolCore P H → Frame P H → ℕ → Type 0
   RowAt g phase c f q = lifted (λ (x : PoolPart P H). with_part q x c) (row_on c.settings c.plan phase (part_at q c.parts) f) ≡ row_of g phase c f
