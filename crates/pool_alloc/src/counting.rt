@@ -12,7 +12,8 @@ use pool_pages::Pages;
 use pool_slots::GcHeap;
 use std::alloc::Global;
 
-// The steps that count, on the core's counters. Each changes one counter. Where a limit is tested, or a stripe drawn, the step goes on by the number that was found there.
+// The steps that count, on the core's counters. Each changes one counter. Where a limit is tested, or a stripe drawn,
+// the step goes on by the number that was found there.
 impl<P: Pages, H: GcHeap> PoolCore<P, H> {
     // Draws a number from the key counter: it gives the party its stripe.
     pub(crate) fn draw_key(&mut self, frame: &mut Frame<P, H>, outcome: &mut Option<Outcome<P, H>>)
