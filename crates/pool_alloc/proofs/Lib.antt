@@ -5,6 +5,7 @@ pub mod AskingRows
 pub mod Begun
 pub mod BegunCalls
 pub mod Below
+pub mod ClosingSteps
 pub mod Closings
 pub mod ComponentRows
 pub mod Weights
@@ -30,7 +31,9 @@ pub mod LocalQueues
 pub mod MadeNumbers
 pub mod MadePools
 pub mod Makings
+pub mod NextTargets
 pub mod OneParts
+pub mod OnCounters
 pub mod OnParts
 pub mod OwnRegions
 pub mod PhaseSlots
@@ -56,6 +59,7 @@ pub mod SoundSteps
 pub mod StackRegions
 pub mod Stages
 pub mod Steps
+pub mod StepsAlone
 pub mod Striping
 pub mod Supporting
 pub mod SweepSteps

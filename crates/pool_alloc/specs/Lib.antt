@@ -13,8 +13,8 @@ mod Imports
 pub mod Leases
 pub mod Made
 pub mod Modules
-pub mod NextPlaces
 pub mod Objects
+pub mod OnCounters
 pub mod OnParts
 pub mod Own
 pub mod PartFlows
@@ -35,10 +35,12 @@ pub mod SoundSteps
 pub mod StackLeases
 pub mod Stages
 pub mod Stepping
+pub mod StepsAlone
 pub mod Steps
 pub mod Sums
 pub mod TableLeases
 pub mod TableSteps
+pub mod Targets
 pub mod Turns
 pub mod Wants
 pub mod Whole

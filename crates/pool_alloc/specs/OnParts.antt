@@ -1,18 +1,17 @@
 -- The steps that change one part of the pool, on that part alone: what each needs of it, and its row. The step table has the same
--- rows on the whole pool. So in this crate whoever holds the part makes the step. A flush isn't here: what it changes is known
--- only once the slot that goes back is out of its queue.
-use Rattle.std.specs.Prelude.{◌+◌, ◌^◌, ◌<◌, ◌≤◌, List, length, Some, None}
-use Rattle.pool_alloc.specs.Imports.{ShardState, CellState, HeapEntry, Queue, IsSpareOf, IsShardPart, IsCellPart, IsHere, IsOut, IsCleanOnceUsed, IsAwaited, CanMerge, cell_of, cell_of_part, heap_slot, PoolPart, Plan}
+-- rows on the whole pool. So whoever holds the part makes the step.
+use Rattle.std.specs.Prelude.{◌+◌, ◌^◌, ◌<◌, ◌≤◌, List, length, Option, Some, None}
+use Rattle.pool_alloc.specs.Imports.{ShardState, CellState, HeapEntry, Queue, Queued, first_of_kind, others_of_kind, IsSpareOf, IsShardPart, IsCellPart, IsHere, IsOut, IsCleanOnceUsed, IsAwaited, CanMerge, cell_of, cell_of_part, heap_slot, PoolPart, Plan}
 use Rattle.pool_slots.specs.declared.part.PoolPart.TheVariants as part
-use Rattle.pool_alloc.specs.CanStep.{HasAllocators, CanTryShard, CanTakeRegion, CanFreeOne, CanGoOn, CanEndStripe}
+use Rattle.pool_alloc.specs.CanStep.{HasAllocators, CanTryShard, CanTakeRegion, CanFreeOne, CanGoOn, CanEndStripe, CanPutNext, CanFree}
 use Rattle.pool_alloc.specs.Purges.{purged_stripe, pick_affine_on, take_affine_on, put_affine_on, free_affine_on}
 use Rattle.pool_alloc.specs.Releases.{released_stripe, nth_taken, take_warm_on, take_resident_on, put_resident_on, free_taken_on}
-use Rattle.pool_alloc.specs.Rows.{pick_on, take_queue_on, take_region_on, take_heap_on, put_heap_on, put_back_on, free_one_on, free_heap_on, merge_on}
-use Rattle.pool_alloc.specs.Steps.{IsQueuePart, IsHeapsPart, shard_in, queue_in, heaps_in, part_holding, allocator_for}
+use Rattle.pool_alloc.specs.Rows.{FlushStep, put, free, flush_step, pick_on, take_queue_on, take_region_on, take_heap_on, put_heap_on, put_back_on, free_one_on, free_heap_on, merge_on, put_region_on, free_on}
+use Rattle.pool_alloc.specs.Steps.{IsQueuePart, IsHeapsPart, shard_in, queue_in, heaps_in, part_holding, allocator_for, cell_returned, first_shard}
 use Rattle.pool_alloc.specs.Turns.{Row, lifted, stays}
 use Rattle.pool_alloc.specs.declared.frame.Frame.{Frame}
 use Rattle.pool_alloc.specs.declared.frame.Phase.{Phase}
-use Rattle.pool_alloc.specs.declared.frame.Phase.TheVariants.{Pick, TakeQueue, TakeRegion, TakeHeap, PutNoHeap, PutBack, FreeOne, PutHeap, FreeHeap, Merge, Purge, Release}
+use Rattle.pool_alloc.specs.declared.frame.Phase.TheVariants.{Pick, TakeQueue, TakeRegion, TakeHeap, PutNoHeap, PutBack, FreeOne, PutHeap, FreeHeap, Merge, Flush, Purge, Release}
 use Rattle.pool_alloc.specs.declared.pool_core.Settings.{Settings}
 use Rattle.pool_alloc.specs.declared.purge.PurgeCursor.{PurgeCursor}
 use Rattle.pool_alloc.specs.declared.purge.PurgeStep.{PurgeStep}
@@ -37,6 +36,17 @@ module _ {P H : Type 0} where
   CanReleaseOn plan (releasing_step.Free r y) x = IsShardPart x × CanEndStripe plan r × (y.bytes ≤ 2 ^ 32) × CanFreeOne y.name plan (shard_in x)
   CanReleaseOn plan _ x = ⊥
 
+  -- A slot that goes back is that of the cell, which is empty.
+  abbrev pub CanPutOn : Option Queued → PoolPart P H → Type 0
+  CanPutOn None x = ⊥
+  CanPutOn (Some m) x = IsCellPart x × IsAwaited (cell_returned m) (cell_of_part x)
+
+  -- A step of a flush, on the part that it changes. To decommit and to zero change none.
+  abbrev pub CanFlushOn : Plan → FlushStep → PoolPart P H → Frame P H → Type 0
+  CanFlushOn plan (put kind) x f = CanPutOn (first_of_kind kind f.local.slots) x × CanPutNext f.local f.freed
+  CanFlushOn plan free x f = IsShardPart x × CanFree plan f.freed.items (shard_in x)
+  CanFlushOn plan _ x f = ⊥
+
   -- What the code of such a step needs of the part at its place, in each phase. In other phases no part changes.
   abbrev pub CanStepOn : Settings → Plan → Phase P H → PoolPart P H → Frame P H → Type 0
   CanStepOn s plan (Pick tried) x f = IsShardPart x × HasAllocators plan f.stripe × CanTryShard plan (allocator_for plan f) tried × (length f.objects.memories.items < 2 ^ 32)
@@ -49,6 +59,7 @@ module _ {P H : Type 0} where
   CanStepOn s plan (PutHeap lease memory) x f = IsHeapsPart x × IsOut lease.index (heaps_in x)
   CanStepOn s plan (FreeHeap name memory) x f = IsShardPart x × CanFreeOne name plan (shard_in x)
   CanStepOn s plan Merge x f = IsQueuePart x × CanMerge (queue_in x) f.local
+  CanStepOn s plan Flush x f = CanFlushOn plan (flush_step f.local f.freed.items) x f
   CanStepOn s plan (Purge p step) x f = CanPurgeOn s plan p step x
   CanStepOn s plan (Release step) x f = CanReleaseOn plan step x
   CanStepOn s plan _ x f = ⊥
@@ -86,6 +97,17 @@ module _ {P H : Type 0} where
   release_on plan (releasing_step.Free r y) x f = on_shard (free_taken_on plan r y (shard_in x) f)
   release_on plan _ x f = unmoved x f
 
+  -- The first slot of a kind goes back into its cell.
+  abbrev pub put_on : Option Queued → List Queued → PoolPart P H → Frame P H → Row (PoolPart P H) P H
+  put_on None rest x f = unmoved x f
+  put_on (Some m) rest x f = on_cell x (put_region_on m rest (cell_of_part x) f)
+
+  -- The rows of a flush on a part.
+  abbrev pub flush_on : Plan → FlushStep → PoolPart P H → Frame P H → Row (PoolPart P H) P H
+  flush_on plan (put kind) x f = put_on (first_of_kind kind f.local.slots) (others_of_kind kind f.local.slots) x f
+  flush_on plan free x f = on_shard (free_on plan (first_shard plan f.freed.items) (shard_in x) f)
+  flush_on plan _ x f = unmoved x f
+
   -- The step table on one part, by phases.
   abbrev pub row_on : Settings → Plan → Phase P H → PoolPart P H → Frame P H → Row (PoolPart P H) P H
   row_on s plan (Pick tried) x f = on_shard (pick_on plan tried (shard_in x) f)
@@ -98,6 +120,7 @@ module _ {P H : Type 0} where
   row_on s plan (PutHeap lease memory) x f = on_heaps (put_heap_on lease.index (Some lease.heap) (FreeHeap (heap_slot lease.index) memory) (heaps_in x) f)
   row_on s plan (FreeHeap name memory) x f = on_shard (free_heap_on plan name memory (shard_in x) f)
   row_on s plan Merge x f = on_queue (merge_on s (queue_in x) f)
+  row_on s plan Flush x f = flush_on plan (flush_step f.local f.freed.items) x f
   row_on s plan (Purge p step) x f = purge_on s plan p step x f
   row_on s plan (Release step) x f = release_on plan step x f
   row_on s plan _ x f = unmoved x f

@@ -1,6 +1,6 @@
 -- The step table: what each step of a call does to the pool, of which it changes one part, and to the party's frame, and
 -- with which turn it ends.
-use Rattle.std.specs.Prelude.{◌≡◌, ℕ, ◌+◌, ◌-◌, ◌%◌, ◌^◌, ◌==◌, ◌||◌, List, [], ◌∷◌, length, Bool, true, false, nat_lt, nat_le, if◌then◌else◌, Option, Some, None, Result, Ok, Err, is_some}
+use Rattle.std.specs.Prelude.{ℕ, ◌+◌, ◌-◌, ◌%◌, ◌^◌, ◌==◌, ◌||◌, List, [], ◌∷◌, length, Bool, true, false, nat_lt, nat_le, if◌then◌else◌, Option, Some, None, Result, Ok, Err, is_some}
 use Rattle.pool_alloc.specs.Imports.{ComponentInfo, Unsupported, Slot, forgotten, ShardState, pick_answer, after_pick, after_free, slot_number, SlotId, LimiterError, MemoryState, slot_of, state_of, Memory, MemoryError, Cell, unmapped, unknown, previously_used, taken, cell_of, home_of, Unmapped, Unknown, SlotName, heap_in, heap_taken, heap_returned, heap_slot, CellState, cell_numbers, cell_emptied, cell_filled, HeapEntry, HeapMakeFault, Queue, Queued, is_to_zero, first_of_kind, others_of_kind, first_zeroed, after_append, after_take, taken_into, drained, Plan, SlotKind, memory_kind, table_kind, stack_kind, heap_kind, Told, list_any, AllocError, CoreInstances}
 use Rattle.pool_slots.specs.declared.errors.ConcurrencyKind.TheVariants.{ComponentInstances}
 use Rattle.pool_alloc.specs.Objects.{no_objects}
@@ -430,10 +430,6 @@ module _ {P H : Type 0} where
   flush_row (zero kind) queue c f = zero_row kind c f
   flush_row (put kind) queue c f = put_region_row kind c f
   flush_row free queue c f = free_row c f
-
--- A step of a flush that decommits nothing leaves this.
-abbrev pub SettlesTo : {P H : Type 0} → FlushStep → PoolCore P H → Frame P H → After P H → Type 0
-SettlesTo step c f after = (queue : Queue) → after ≡ stepped (flush_row step queue c f)
 
 -- The table.
 module _ {P H : Type 0} where

@@ -154,6 +154,10 @@ module _ {P H : Type 0} where
   abbrev pub slot_search : Plan → Frame P H → Turn P H
   slot_search plan f = search (queues_next plan f) (no_slot_left plan f)
 
+  -- What a row leaves of the frame, and the call's answer if it ended.
+  abbrev pub left_by : {X : Type 0} → Row X P H → Left P H
+  left_by r = after r.frame r.turn
+
   -- what a step leaves of one part, by its row
   abbrev pub part_after : {X : Type 0} → Row X P H → PartAfter X P H
   part_after r = let l : Left P H = after r.frame r.turn in record { part = r.part; frame = l.frame; outcome = l.outcome }

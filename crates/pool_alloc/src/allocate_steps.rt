@@ -1,8 +1,6 @@
-ghost use Rattle.std.specs.Prelude.{◌≡◌, ◌+◌, ◌%◌, ◌<◌, ◌^◌, length, None};
-ghost use Rattle.pool_alloc.specs.Rows.{key_row, count_instance_row, count_object_row};
-ghost use Rattle.pool_alloc.specs.Steps.{counting_keys, counting_instances, counting_memories, counting_tables, under};
-ghost use Rattle.pool_alloc.specs.Turns.{After, stepped, resting};
-ghost use Rattle.pool_alloc.specs.declared.pool_core.PoolCore.{PoolCore};
+ghost use Rattle.std.specs.Prelude.{◌≡◌, ℕ, ◌<◌, ◌^◌, length, None};
+ghost use Rattle.pool_alloc.specs.OnCounters.{key_on, instance_on, object_on};
+ghost use Rattle.pool_alloc.specs.Turns.{Left, left_by};
 
 use crate::frame::{Frame, Object, Outcome};
 use crate::lease::MemoryLease;
@@ -23,9 +21,8 @@ pub(crate) fn draw_key<P: Pages, H: GcHeap>(
     requires some { 0 < length plan.now.memories }
     requires few { length plan.now.memories < 2 ^ 32 }
     requires unanswered { outcome.old ≡ None }
-    ensures { (c : PoolCore P H) → ◌≡◌ {A = After P H} (record { core = counting_keys ((found + 1) % 2 ^ 64) (under c.settings plan.now c); frame = frame.new; outcome = outcome.new }) (stepped (key_row (counting_keys found (under c.settings plan.now c)) (resting frame.old))) }
+    ensures { ◌≡◌ {A = Left P H} (record { frame = frame.new; outcome = outcome.new }) (left_by (key_on plan.now found frame.old)) }
 {
-    frame.rest();
     frame.stripe = (found % plan.memories.len() as u64) as u32;
     frame.end(Outcome::Key, outcome)
 }
@@ -40,9 +37,8 @@ pub(crate) fn count_instance<P: Pages, H: GcHeap>(
     outcome: &mut Option<Outcome<P, H>>,
 )
     requires unanswered { outcome.old ≡ None }
-    ensures { (c : PoolCore P H) → ◌≡◌ {A = After P H} (record { core = counting_instances (found + 1) (under settings.now c.plan c); frame = frame.new; outcome = outcome.new }) (stepped (count_instance_row (counting_instances found (under settings.now c.plan c)) (resting frame.old))) }
+    ensures { ◌≡◌ {A = Left P H} (record { frame = frame.new; outcome = outcome.new }) (left_by (instance_on settings.now found frame.old)) }
 {
-    frame.rest();
     let limit = settings.max_core_instances;
     if found < limit {
         return frame.next(alloc, outcome);
@@ -63,7 +59,7 @@ pub(crate) fn count_memory<P: Pages, H: GcHeap>(
 )
     requires room { length frame.old.objects.memories.items < frame.old.objects.memories.room }
     requires unanswered { outcome.old ≡ None }
-    ensures { (c : PoolCore P H) → ◌≡◌ {A = After P H} (record { core = counting_memories (c.counters.memories + 1) c; frame = frame.new; outcome = outcome.new }) (stepped (count_object_row (Object.Memory lease) c frame.old)) }
+    ensures { (found : ℕ) → ◌≡◌ {A = Left P H} (record { frame = frame.new; outcome = outcome.new }) (left_by (object_on (Object.Memory lease) found frame.old)) }
 {
     frame.objects.memories.push(lease);
     frame.queues = 0;
@@ -78,7 +74,7 @@ pub(crate) fn count_table<P: Pages, H: GcHeap>(
 )
     requires room { length frame.old.objects.tables.items < frame.old.objects.tables.room }
     requires unanswered { outcome.old ≡ None }
-    ensures { (c : PoolCore P H) → ◌≡◌ {A = After P H} (record { core = counting_tables (c.counters.tables + 1) c; frame = frame.new; outcome = outcome.new }) (stepped (count_object_row (Object.Table lease) c frame.old)) }
+    ensures { (found : ℕ) → ◌≡◌ {A = Left P H} (record { frame = frame.new; outcome = outcome.new }) (left_by (object_on (Object.Table lease) found frame.old)) }
 {
     frame.objects.tables.push(lease);
     frame.queues = 0;

@@ -8,15 +8,23 @@ ghost use Rattle.pool_alloc.specs.Calls.{lists_made};
 ghost use Rattle.pool_alloc.specs.CanStep.{CanStepAt, CanTryQueue};
 ghost use Rattle.pool_alloc.specs.Closing.{Closer, AreAtHome, ArePartsOf, all_free, IsGivenBack, IsClosingAt, IsClosing, IsClosed, queue_taken, frame_closing, nth_queue};
 ghost use Rattle.pool_alloc.specs.PartyTold.{PartyTold};
+ghost use Rattle.pool_alloc.specs.Rows.{flush_step};
 ghost use Rattle.pool_alloc.specs.Sound.{IsCore};
 ghost use Rattle.pool_alloc.specs.Steps.{IsQueuePart, queue_at, queue_in, queues_searched};
 ghost use Rattle.pool_alloc.specs.Stepping.{StepsTo, is_idle};
+ghost use Rattle.pool_alloc.specs.StepsAlone.{CanFlushAlone};
 ghost use Rattle.pool_alloc.specs.Whole.{IsUntouched};
+ghost use Rattle.pool_alloc.specs.declared.frame.Phase.TheVariants.{Flush};
+ghost use Rattle.pool_alloc.specs.declared.pool_core.PoolCore.{PoolCore};
 
+use crate::flush_steps::flush_alone;
 use crate::frame::{Asked, Ending, Frame, FrameLists, Outcome, Phase};
 use crate::making::frame_over;
+use crate::on_counters::step_counted;
+use crate::on_parts::step_part;
 use crate::parts::Parts;
 use crate::pool_core::PoolCore;
+use crate::targets::{Target, next_target};
 use pool_index::SlotKind;
 use pool_pages::Pages;
 use pool_slots::{DecommitQueue, GcHeap, PoolPart};
@@ -115,13 +123,17 @@ impl<P: Pages, H: GcHeap> PoolCore<P, H> {
         requires unanswered { outcome.old ≡ None }
         ensures { (told : PartyTold) → StepsTo told told self.old frame.old (record { core = self.new; frame = frame.new; outcome = outcome.new }) }
     {
-        match frame.phase {
-            Phase::Flush => {
-                frame.rest();
-                self.flush(alloc, frame, outcome)
+        match next_target(&self.settings, &self.plan, frame) {
+            Target::Part(place) => {
+                let part = self.parts.at(place);
+                step_part(part, &self.settings, &self.plan, alloc, frame, outcome)
             }
-            Phase::UncountInstance => self.uncount_instance(frame, outcome),
-            _ => unreachable!(),
+            Target::Down(name) => {
+                let found = self.counters.down(name);
+                step_counted(found, &self.settings, &self.plan, alloc, frame, outcome)
+            }
+            Target::Alone => flush_resting(alloc, frame, outcome),
+            Target::Up(_) => unreachable!(),
         }
     }
 
@@ -164,6 +176,21 @@ fn find_free<P: Pages, H: GcHeap>(parts: &Parts<P, H>)
     if !parts.is_empty() {
         unreachable!()
     }
+}
+
+// A step of a flush that changes no part. It asks nobody.
+fn flush_resting<P: Pages, H: GcHeap>(
+    alloc: Global,
+    frame: &mut Frame<P, H>,
+    outcome: &mut Option<Outcome<P, H>>,
+)
+    requires flush { frame.old.phase ≡ Flush }
+    requires can { CanFlushAlone (flush_step frame.old.local frame.old.freed.items) frame.old }
+    requires unanswered { outcome.old ≡ None }
+    ensures { (told : PartyTold) (c : PoolCore P H) → StepsTo told told c frame.old (record { core = c; frame = frame.new; outcome = outcome.new }) }
+{
+    frame.rest();
+    flush_alone(alloc, frame, outcome)
 }
 
 // The answer to a give-back, which tells nothing.

@@ -1,12 +1,12 @@
-ghost use Rattle.std.specs.Prelude.{◌≡◌, ◌+◌, ◌-◌, None};
+ghost use Rattle.std.specs.Prelude.{◌≡◌, None};
 ghost use Rattle.pool_types.specs.declared.unsupported.Unsupported.{Unsupported};
-ghost use Rattle.pool_alloc.specs.Rows.{validate_component_row, count_component_row, uncount_component_row};
-ghost use Rattle.pool_alloc.specs.Steps.{counting_components, under};
-ghost use Rattle.pool_alloc.specs.Turns.{After, stepped, resting};
+ghost use Rattle.pool_alloc.specs.OnCounters.{component_on};
+ghost use Rattle.pool_alloc.specs.Rows.{validate_component_row};
+ghost use Rattle.pool_alloc.specs.Steps.{under};
+ghost use Rattle.pool_alloc.specs.Turns.{After, Left, left_by, stepped};
 ghost use Rattle.pool_alloc.specs.declared.pool_core.PoolCore.{PoolCore};
 
 use crate::frame::{Frame, Grant, Outcome, Phase};
-use crate::frame_turns::answer_of;
 use crate::pool_core::Settings;
 use crate::size_rules::component_refused;
 use crate::validate_step::refuse_at_once;
@@ -24,9 +24,8 @@ pub(crate) fn test_component<P: Pages, H: GcHeap>(
     outcome: &mut Option<Outcome<P, H>>,
 )
     requires unanswered { outcome.old ≡ None }
-    ensures { (c : PoolCore P H) → ◌≡◌ {A = After P H} (record { core = under settings.now c.plan c; frame = frame.new; outcome = outcome.new }) (stepped (validate_component_row info.now (under settings.now c.plan c) (resting frame.old))) }
+    ensures { (c : PoolCore P H) → ◌≡◌ {A = After P H} (record { core = under settings.now c.plan c; frame = frame.new; outcome = outcome.new }) (stepped (validate_component_row info.now (under settings.now c.plan c) frame.old)) }
 {
-    frame.rest();
     match component_refused(settings, info) {
         Some(rule) => refuse_at_once(frame, AllocError::Unsupported(rule), outcome),
         None => frame.go(Phase::CountComponent),
@@ -42,9 +41,8 @@ pub(crate) fn count_component<P: Pages, H: GcHeap>(
     outcome: &mut Option<Outcome<P, H>>,
 )
     requires unanswered { outcome.old ≡ None }
-    ensures { (c : PoolCore P H) → ◌≡◌ {A = After P H} (record { core = counting_components (found + 1) (under settings.now c.plan c); frame = frame.new; outcome = outcome.new }) (stepped (count_component_row (counting_components found (under settings.now c.plan c)) (resting frame.old))) }
+    ensures { ◌≡◌ {A = Left P H} (record { frame = frame.new; outcome = outcome.new }) (left_by (component_on settings.now found frame.old)) }
 {
-    frame.rest();
     let limit = settings.max_component_instances;
     if found < limit {
         return frame.end(Outcome::Granted(Grant::Component), outcome);
@@ -54,17 +52,4 @@ pub(crate) fn count_component<P: Pages, H: GcHeap>(
         kind: ConcurrencyKind::ComponentInstances,
     }));
     frame.go(Phase::UncountComponent)
-}
-
-// The call of a component that is counted off ends.
-#[inline(never)]
-pub(crate) fn uncount_component<P: Pages, H: GcHeap>(
-    frame: &mut Frame<P, H>,
-    outcome: &mut Option<Outcome<P, H>>,
-)
-    requires unanswered { outcome.old ≡ None }
-    ensures { (c : PoolCore P H) → ◌≡◌ {A = After P H} (record { core = counting_components (c.counters.component_instances - 1) c; frame = frame.new; outcome = outcome.new }) (stepped (uncount_component_row c (resting frame.old))) }
-{
-    frame.rest();
-    frame.end(answer_of(frame.ending), outcome)
 }

@@ -1,168 +1,77 @@
-ghost use Rattle.std.specs.Prelude.{◌≡◌, ◌+◌, ◌<◌, ◌^◌, length, None};
-ghost use Rattle.pool_alloc.specs.CanStep.{CanStepAt};
-ghost use Rattle.pool_alloc.specs.Rows.{key_row, count_instance_row, uncount_instance_row, count_component_row, uncount_component_row, count_object_row, uncount_object_row, count_heap_row, uncount_heap_row};
-ghost use Rattle.pool_alloc.specs.Turns.{After, stepped, resting};
+//! The pool's counters, by name.
+ghost use Rattle.std.specs.Prelude.{◌≡◌, ◌+◌, ◌-◌, ◌<◌, ◌^◌};
+ghost use Rattle.pool_alloc.specs.Targets.{CanCountUp, counted_up, number_at, with_number};
 
-use crate::frame::{Frame, Object, Outcome, Phase};
-use crate::heap_lease::HeapLease;
-use crate::lease::MemoryLease;
-use crate::pool_core::PoolCore;
-use crate::{allocate_steps, component_steps, heap_steps, region_steps, stack_steps};
-use pool_pages::Pages;
-use pool_slots::GcHeap;
-use std::alloc::Global;
+use crate::pool_core::Counters;
 
-// The steps that count, on the core's counters. Each changes one counter. Where a limit is tested, or a stripe drawn,
-// the step goes on by the number that was found there.
-impl<P: Pages, H: GcHeap> PoolCore<P, H> {
-    // Draws a number from the key counter: it gives the party its stripe.
-    pub(crate) fn draw_key(&mut self, frame: &mut Frame<P, H>, outcome: &mut Option<Outcome<P, H>>)
-        requires some { 0 < length self.old.plan.memories }
-        requires few { length self.old.plan.memories < 2 ^ 32 }
-        requires unanswered { outcome.old ≡ None }
-        ensures { ◌≡◌ {A = After P H} (record { core = self.new; frame = frame.new; outcome = outcome.new }) (stepped (key_row self.old (resting frame.old))) }
+/// A counter of a pool: one for each field of `Counters`.
+#[derive(Clone, Copy, Debug, PartialEq, Eq)]
+pub enum CounterName {
+    Key,
+    CoreInstances,
+    ComponentInstances,
+    Memories,
+    Tables,
+    Stacks,
+    GcHeaps,
+}
+
+impl Counters {
+    // Counts one more, of keys modulo 2^64. Answers the number that was found.
+    pub(crate) fn up(&mut self, name: CounterName) -> u64
+        requires { CanCountUp name (number_at name self.old) }
+        ensures found { result ≡ number_at name self.old }
+        ensures counted { self.new ≡ with_number name (counted_up name (number_at name self.old)) self.old }
     {
-        let found = self.counters.key;
-        self.counters.key = found.wrapping_add(1);
-        allocate_steps::draw_key(&self.plan, found, frame, outcome)
-    }
-
-    // Counts the instance, also where there are too many.
-    pub(crate) fn count_instance(
-        &mut self,
-        alloc: Global,
-        frame: &mut Frame<P, H>,
-        outcome: &mut Option<Outcome<P, H>>,
-    )
-        requires can { self.old.counters.core_instances + 1 < 2 ^ 64 }
-        requires unanswered { outcome.old ≡ None }
-        ensures { ◌≡◌ {A = After P H} (record { core = self.new; frame = frame.new; outcome = outcome.new }) (stepped (count_instance_row self.old (resting frame.old))) }
-    {
-        let found = self.counters.core_instances;
-        self.counters.core_instances = found + 1;
-        allocate_steps::count_instance(&self.settings, found, alloc, frame, outcome)
-    }
-
-    pub(crate) fn uncount_instance(
-        &mut self,
-        frame: &mut Frame<P, H>,
-        outcome: &mut Option<Outcome<P, H>>,
-    )
-        requires can { 0 < self.old.counters.core_instances }
-        requires unanswered { outcome.old ≡ None }
-        ensures { ◌≡◌ {A = After P H} (record { core = self.new; frame = frame.new; outcome = outcome.new }) (stepped (uncount_instance_row self.old (resting frame.old))) }
-    {
-        self.counters.core_instances -= 1;
-        region_steps::uncount_instance(frame, outcome)
-    }
-
-    // Counts the component, also where there are too many.
-    pub(crate) fn count_component(
-        &mut self,
-        frame: &mut Frame<P, H>,
-        outcome: &mut Option<Outcome<P, H>>,
-    )
-        requires can { self.old.counters.component_instances + 1 < 2 ^ 64 }
-        requires unanswered { outcome.old ≡ None }
-        ensures { ◌≡◌ {A = After P H} (record { core = self.new; frame = frame.new; outcome = outcome.new }) (stepped (count_component_row self.old (resting frame.old))) }
-    {
-        let found = self.counters.component_instances;
-        self.counters.component_instances = found + 1;
-        component_steps::count_component(&self.settings, found, frame, outcome)
-    }
-
-    pub(crate) fn uncount_component(
-        &mut self,
-        frame: &mut Frame<P, H>,
-        outcome: &mut Option<Outcome<P, H>>,
-    )
-        requires can { 0 < self.old.counters.component_instances }
-        requires unanswered { outcome.old ≡ None }
-        ensures { ◌≡◌ {A = After P H} (record { core = self.new; frame = frame.new; outcome = outcome.new }) (stepped (uncount_component_row self.old (resting frame.old))) }
-    {
-        self.counters.component_instances -= 1;
-        component_steps::uncount_component(frame, outcome)
-    }
-
-    // Grants an object. The search for the next one's slot begins anew.
-    #[inline(never)]
-    pub(crate) fn count_object(
-        &mut self,
-        alloc: Global,
-        frame: &mut Frame<P, H>,
-        object: Object<P>,
-        outcome: &mut Option<Outcome<P, H>>,
-    )
-        requires can { CanStepAt (Phase.CountObject object) self.old frame.old }
-        requires unanswered { outcome.old ≡ None }
-        ensures { ◌≡◌ {A = After P H} (record { core = self.new; frame = frame.new; outcome = outcome.new }) (stepped (count_object_row object self.old frame.old)) }
-    {
-        match object {
-            Object::Memory(lease) => {
-                self.counters.memories += 1;
-                allocate_steps::count_memory(alloc, frame, lease, outcome)
+        match name {
+            CounterName::Key => {
+                let found = self.key;
+                self.key = found.wrapping_add(1);
+                found
             }
-            Object::Table(lease) => {
-                self.counters.tables += 1;
-                allocate_steps::count_table(alloc, frame, lease, outcome)
-            }
-            Object::Stack(lease) => {
-                self.counters.stacks += 1;
-                stack_steps::count_stack(frame, lease, outcome)
-            }
+            CounterName::CoreInstances => raise(&mut self.core_instances),
+            CounterName::ComponentInstances => raise(&mut self.component_instances),
+            CounterName::Memories => raise(&mut self.memories),
+            CounterName::Tables => raise(&mut self.tables),
+            CounterName::Stacks => raise(&mut self.stacks),
+            CounterName::GcHeaps => raise(&mut self.gc_heaps),
         }
     }
 
-    // An object that is given back is no grant any more.
-    #[inline(never)]
-    pub(crate) fn uncount_object(&mut self, frame: &mut Frame<P, H>, object: Object<P>)
-        requires { CanStepAt (Phase.UncountObject object) self.old frame.old }
-        ensures { ◌≡◌ {A = After P H} (record { core = self.new; frame = frame.new; outcome = None }) (stepped (uncount_object_row object self.old frame.old)) }
+    // Counts one less, likewise.
+    pub(crate) fn down(&mut self, name: CounterName) -> u64
+        requires { 0 < number_at name self.old }
+        ensures found { result ≡ number_at name self.old }
+        ensures counted { self.new ≡ with_number name (number_at name self.old - 1) self.old }
     {
-        match object {
-            Object::Memory(lease) => {
-                self.counters.memories -= 1;
-                region_steps::uncount_memory(frame, lease)
-            }
-            Object::Table(lease) => {
-                self.counters.tables -= 1;
-                region_steps::uncount_table(frame, lease)
-            }
-            Object::Stack(lease) => {
-                self.counters.stacks -= 1;
-                stack_steps::uncount_stack(frame, lease)
-            }
+        match name {
+            CounterName::Key => lower(&mut self.key),
+            CounterName::CoreInstances => lower(&mut self.core_instances),
+            CounterName::ComponentInstances => lower(&mut self.component_instances),
+            CounterName::Memories => lower(&mut self.memories),
+            CounterName::Tables => lower(&mut self.tables),
+            CounterName::Stacks => lower(&mut self.stacks),
+            CounterName::GcHeaps => lower(&mut self.gc_heaps),
         }
     }
+}
 
-    // Grants the heap, with its memory.
-    pub(crate) fn count_heap(
-        &mut self,
-        alloc: Global,
-        frame: &mut Frame<P, H>,
-        lease: HeapLease<H>,
-        outcome: &mut Option<Outcome<P, H>>,
-    )
-        requires count { self.old.counters.gc_heaps + 1 < 2 ^ 64 }
-        requires memory { 0 < length frame.old.objects.memories.items }
-        requires unanswered { outcome.old ≡ None }
-        ensures { ◌≡◌ {A = After P H} (record { core = self.new; frame = frame.new; outcome = outcome.new }) (stepped (count_heap_row lease self.old frame.old)) }
-    {
-        self.counters.gc_heaps += 1;
-        heap_steps::count_heap(alloc, frame, lease, outcome)
-    }
+fn raise(count: &mut u64) -> u64
+    requires { count.old + 1 < 2 ^ 64 }
+    ensures found { result ≡ count.old }
+    ensures counted { count.new ≡ count.old + 1 }
+{
+    let found = *count;
+    *count = found + 1;
+    found
+}
 
-    // The heap is no grant any more.
-    pub(crate) fn uncount_heap(
-        &mut self,
-        frame: &mut Frame<P, H>,
-        lease: HeapLease<H>,
-        memory: MemoryLease<P>,
-    )
-        requires { 0 < self.old.counters.gc_heaps }
-        ensures { ◌≡◌ {A = After P H} (record { core = self.new; frame = frame.new; outcome = None }) (stepped (uncount_heap_row lease memory self.old frame.old)) }
-    {
-        self.counters.gc_heaps -= 1;
-        heap_steps::uncount_heap(frame, lease, memory)
-    }
+fn lower(count: &mut u64) -> u64
+    requires { 0 < count.old }
+    ensures found { result ≡ count.old }
+    ensures counted { count.new ≡ count.old - 1 }
+{
+    let found = *count;
+    *count = found - 1;
+    found
 }

@@ -1,7 +1,8 @@
-ghost use Rattle.std.specs.Prelude.{◌≡◌, ◌<◌, length, [], None};
+ghost use Rattle.std.specs.Prelude.{◌≡◌, ◌<◌, length, [], false, None};
 ghost use Rattle.pool_alloc.specs.Steps.{allocator_for};
 ghost use Rattle.pool_alloc.specs.Turns.{Left, next, flush, search, slot_search, limit_of, after, goes_to, ends_with, failing, granted_next, returned_next, all_returned, answer_of, next_by, is_flushed, resting};
 ghost use Rattle.pool_alloc.specs.CanStep.{HasAllocators};
+ghost use Rattle.pool_alloc.specs.Holding.{holds_region};
 
 use crate::frame::{Asked, Ending, Frame, Grant, Object, Outcome, Phase};
 use crate::lease::InstanceLease;
@@ -41,6 +42,7 @@ impl<P: Pages, H: GcHeap> Frame<P, H> {
 
     // A step is made of a phase that holds nothing: it leaves the next one.
     pub(crate) fn rest(&mut self)
+        requires { holds_region self.old.phase ≡ false }
         ensures { self.new ≡ resting self.old }
     {
         mem::forget(mem::replace(&mut self.phase, Phase::Idle));

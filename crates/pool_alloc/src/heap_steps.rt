@@ -1,18 +1,19 @@
-ghost use Rattle.std.specs.Prelude.{◌≡◌, ◌+◌, ◌-◌, ◌<◌, false, length, Bool, IfSome, Result, None, Some};
+ghost use Rattle.std.specs.Prelude.{◌≡◌, ℕ, ◌<◌, false, length, Bool, IfSome, Result, None, Some};
 ghost use Rattle.pool_slots.specs.HeapUnits.{heap_slot};
 ghost use Rattle.pool_slots.specs.declared.heap_maker.HeapMakeFault.{HeapMakeFault as Fault};
 ghost use Rattle.pool_alloc.specs.Leases.{first_index};
+ghost use Rattle.pool_alloc.specs.OnCounters.{heap_on};
 ghost use Rattle.pool_alloc.specs.Own.{heap_refusal};
 ghost use Rattle.pool_alloc.specs.PartyTold.{MakesHeap};
 ghost use Rattle.pool_alloc.specs.Refusals.{heap_refused};
-ghost use Rattle.pool_alloc.specs.Rows.{test_heap_row, heaps_tested, heap_next, make_heap_row, count_heap_row, uncount_heap_row};
-ghost use Rattle.pool_alloc.specs.Steps.{IsHeapAsked, counting_heaps, under};
-ghost use Rattle.pool_alloc.specs.Turns.{After, goes, stepped, resting};
+ghost use Rattle.pool_alloc.specs.Rows.{test_heap_row, heaps_tested, heap_next, make_heap_row};
+ghost use Rattle.pool_alloc.specs.Steps.{IsHeapAsked, under};
+ghost use Rattle.pool_alloc.specs.Turns.{After, Left, goes, left_by, stepped};
 ghost use Rattle.pool_alloc.specs.declared.pool_core.PoolCore.{PoolCore};
 
 use crate::frame::{Asked, Frame, Grant, Outcome, Phase, TakenSlot};
 use crate::heap_lease::HeapLease;
-use crate::lease::{InstanceLease, MemoryLease};
+use crate::lease::InstanceLease;
 use crate::pool_core::Settings;
 use crate::validate_step::{refuse_at_once, reserve_grants};
 use crate::validations::type_refused;
@@ -35,9 +36,8 @@ pub(crate) fn test_heap<P: Pages, H: GcHeap>(
 )
     requires can { IsHeapAsked frame.old.asked }
     requires unanswered { outcome.old ≡ None }
-    ensures { (wants : Bool) × ((c : PoolCore P H) → ◌≡◌ {A = After P H} (record { core = under settings.now c.plan c; frame = frame.new; outcome = outcome.new }) (stepped (test_heap_row wants (under settings.now c.plan c) (resting frame.old)))) }
+    ensures { (wants : Bool) × ((c : PoolCore P H) → ◌≡◌ {A = After P H} (record { core = under settings.now c.plan c; frame = frame.new; outcome = outcome.new }) (stepped (test_heap_row wants (under settings.now c.plan c) frame.old))) }
 {
-    frame.rest();
     if !settings.tunables.tunables.collector {
         return refuse_at_once(frame, AllocError::HeapsDisabled, outcome);
     }
@@ -69,9 +69,8 @@ pub(crate) fn make_heap<P: Pages, H: GcHeap, K: HeapMaker<Heap = H>>(
     at: TakenSlot,
     heaps: &mut K,
 )
-    ensures { (answer : Result H Fault) × MakesHeap answer (K.told heaps.old) (K.told heaps.new) × ((c : PoolCore P H) → ◌≡◌ {A = After P H} (record { core = c; frame = frame.new; outcome = None }) (stepped (make_heap_row answer at c (resting frame.old)))) }
+    ensures { (answer : Result H Fault) × MakesHeap answer (K.told heaps.old) (K.told heaps.new) × ((c : PoolCore P H) → ◌≡◌ {A = After P H} (record { core = c; frame = frame.new; outcome = None }) (stepped (make_heap_row answer at c frame.old))) }
 {
-    frame.rest();
     let phase = match heaps.new_gc_heap(alloc) {
         Ok(heap) => heap_next(at, Some(heap)),
         Err(fault) => {
@@ -92,23 +91,11 @@ pub(crate) fn count_heap<P: Pages, H: GcHeap>(
 )
     requires memory { 0 < length frame.old.objects.memories.items }
     requires unanswered { outcome.old ≡ None }
-    ensures { (c : PoolCore P H) → ◌≡◌ {A = After P H} (record { core = counting_heaps (c.counters.gc_heaps + 1) c; frame = frame.new; outcome = outcome.new }) (stepped (count_heap_row lease c frame.old)) }
+    ensures { (found : ℕ) → ◌≡◌ {A = Left P H} (record { frame = frame.new; outcome = outcome.new }) (left_by (heap_on lease found frame.old)) }
 {
     let memory = frame.objects.memories.remove_first();
     frame.objects = InstanceLease::none(alloc);
     frame.end(Outcome::Granted(Grant::Heap(lease, memory)), outcome)
-}
-
-// A heap that is counted off comes back to its slot next.
-#[inline(never)]
-pub(crate) fn uncount_heap<P: Pages, H: GcHeap>(
-    frame: &mut Frame<P, H>,
-    lease: HeapLease<H>,
-    memory: MemoryLease<P>,
-)
-    ensures { (c : PoolCore P H) → ◌≡◌ {A = After P H} (record { core = counting_heaps (c.counters.gc_heaps - 1) c; frame = frame.new; outcome = None }) (stepped (uncount_heap_row lease memory c frame.old)) }
-{
-    frame.go(Phase::PutHeap(lease, memory))
 }
 
 // The index of the first memory that was granted, or that of none.

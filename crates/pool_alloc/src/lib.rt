@@ -6,8 +6,13 @@
 //! are read and written without the pool and given back with `Call::GiveBack`. `InstanceAllocator` is the trait of
 //! allocators with one call for each request; `pool_on_demand` implements it, and this pool doesn't.
 //!
-//! To add a step touch `Phase` in `frame.rt`, its code in a `*_steps.rt`, its counter in `counting.rt` where it counts,
-//! and its call in `step.rt`; then its row in `specs/Rows.antt`, and its share of `specs/Bounds.antt`,
+//! `PoolCore` has all parts and counters for itself. Whoever has them otherwise, as behind locks, makes the same steps by
+//! the same functions: `next_target` says what the frame's next step changes, and the step is then `step_part` on a part,
+//! `step_counted` by the number found at a counter, or `step_alone`.
+//!
+//! To add a step touch `Phase` in `frame.rt`, its code in a `*_steps.rt`, what it changes in `targets.rt`, and its call in
+//! `on_parts.rt`, `on_counters.rt` or `steps_alone.rt`; then its row in `specs/Rows.antt`, what it needs in
+//! `specs/OnParts.antt`, `specs/OnCounters.antt` or `specs/StepsAlone.antt`, and its share of `specs/Bounds.antt`,
 //! `specs/Places.antt` and `specs/Sound.antt`.
 //!
 //! From Wasmtime: `vm/instance/allocator.rs`, and under it `pooling.rs` and the calls of `pooling/`. It stands on
@@ -33,16 +38,16 @@ mod frame_calls;
 mod frame_turns;
 mod reserved;
 
-// The step, and the part that it is on
-mod next_place;
+// The step, and what it changes: a part, a counter, or neither
+mod counting;
+mod on_counters;
+mod on_parts;
 mod part_at;
 mod part_steps;
 mod part_sweeps;
 mod step;
-mod step_part;
-
-// Steps that count, on the core's counters
-mod counting;
+mod steps_alone;
+mod targets;
 
 // Steps of a request
 mod allocate_steps;
@@ -90,6 +95,7 @@ mod request;
 mod holders;
 mod refused;
 
+pub use counting::CounterName;
 pub use frame::{
     Asked, Call, Frame, FrameLists, Grant, ModuleCall, Object, Outcome, Phase, TakenSlot,
 };
@@ -97,6 +103,8 @@ pub use heap_lease::HeapLease;
 pub use instance_allocator::InstanceAllocator;
 pub use lease::{InstanceLease, MemoryLease};
 pub use metrics::Metrics;
+pub use on_counters::step_counted;
+pub use on_parts::step_part;
 pub use parts::Parts;
 pub use pool_core::{Counters, PoolCore, Settings};
 pub use purge::{PurgeCursor, PurgeStep};
@@ -105,8 +113,10 @@ pub use request::InstanceAllocationRequest;
 pub use reserved::ReservedList;
 pub use size_rules::instance_size;
 pub use stack_lease::StackLease;
+pub use steps_alone::step_alone;
 pub use table_element::{Element, element_at, set_elements};
 pub use table_lease::TableLease;
 pub use table_rules::table_limits_refused;
+pub use targets::{Target, next_target};
 pub use validate_step::{limits_refused, offsets_refused};
 pub use validations::refused_by;

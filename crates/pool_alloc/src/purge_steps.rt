@@ -6,11 +6,13 @@ ghost use Rattle.pool_slots.specs.CellOf.{cell_of};
 ghost use Rattle.pool_alloc.specs.Answers.{Empties, Forgets, FollowsForget, RemovesImage, PurgeTold, PurgePlanned};
 ghost use Rattle.pool_alloc.specs.Leases.{memory_slot};
 ghost use Rattle.pool_alloc.specs.CanStep.{CanForget, CanGoOn};
-ghost use Rattle.pool_alloc.specs.NextPlaces.{purge_place, CanPurgeAlone};
 ghost use Rattle.pool_alloc.specs.Purges.{has_turns, purged_stripe, found_one, behind_memory, after_forgetting, known_after, purge_to, purge_row};
 ghost use Rattle.pool_alloc.specs.Steps.{StepGiven};
+ghost use Rattle.pool_alloc.specs.StepsAlone.{CanPurgeAlone};
 ghost use Rattle.pool_alloc.specs.Turns.{After, Left, after, goes, stepped};
 ghost use Rattle.pool_alloc.specs.declared.pool_core.PoolCore.{PoolCore};
+ghost use Rattle.pool_alloc.specs.declared.pool_core.Settings.{Settings};
+ghost use Rattle.pool_slots.specs.declared.plan.Plan.{Plan};
 
 use crate::frame::{Frame, Outcome, Phase, TakenSlot};
 use crate::freeing::memory_slot;
@@ -28,9 +30,9 @@ pub(crate) fn purge_alone<P: Pages, H: GcHeap>(
     step: PurgeStep<P>,
     outcome: &mut Option<Outcome<P, H>>,
 )
-    requires can { CanPurgeAlone step }
+    requires can { (s : Settings) × (plan : Plan) × CanPurgeAlone s plan step }
     requires unanswered { outcome.old ≡ None }
-    ensures { (g : StepGiven H) × PurgeTold g step × PurgePlanned g step × ((c : PoolCore P H) → purge_place c.settings c.plan cursor step ≡ None → ◌≡◌ {A = After P H} (record { core = c; frame = frame.new; outcome = outcome.new }) (stepped (purge_row g cursor step c frame.old))) }
+    ensures { (g : StepGiven H) × PurgeTold g step × PurgePlanned g step × ((c : PoolCore P H) → CanPurgeAlone c.settings c.plan step → ◌≡◌ {A = After P H} (record { core = c; frame = frame.new; outcome = outcome.new }) (stepped (purge_row g cursor step c frame.old))) }
 {
     match step {
         PurgeStep::Pick(_tried) => frame.end(Outcome::Purged(cursor.purged), outcome),

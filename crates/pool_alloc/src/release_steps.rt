@@ -6,9 +6,9 @@ ghost use Rattle.pool_slots.specs.Cells.{is_taken};
 ghost use Rattle.pool_slots.specs.CellOf.{cell_of};
 ghost use Rattle.pool_alloc.specs.Answers.{DecommitsWhole, Drains, FollowsDrain, ReleaseTold, ReleasePlanned};
 ghost use Rattle.pool_alloc.specs.CanStep.{CanDecommit, CanDrain, CanEndStripe};
-ghost use Rattle.pool_alloc.specs.NextPlaces.{CanReleaseAlone};
 ghost use Rattle.pool_alloc.specs.Releases.{slots_in, after_decommit, behind_stripe, free_first, drain_from, reserve_row, release_row};
 ghost use Rattle.pool_alloc.specs.Steps.{StepGiven, under};
+ghost use Rattle.pool_alloc.specs.StepsAlone.{CanReleaseAlone};
 ghost use Rattle.pool_alloc.specs.Turns.{After, Left, after, goes, stepped};
 ghost use Rattle.pool_alloc.specs.declared.pool_core.PoolCore.{PoolCore};
 

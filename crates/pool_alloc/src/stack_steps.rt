@@ -1,14 +1,15 @@
-ghost use Rattle.std.specs.Prelude.{◌≡◌, ◌≤◌, ◌^◌, ◌+◌, ◌-◌, false, None};
+ghost use Rattle.std.specs.Prelude.{◌≡◌, ℕ, ◌≤◌, ◌^◌, false, None};
 ghost use Rattle.pool_types.specs.Count.{count};
 ghost use Rattle.pool_slots.specs.PlainSlots.{IsPlain};
 ghost use Rattle.pool_slots.specs.SlotQueues.{plain_slot};
 ghost use Rattle.pool_slots.specs.declared.errors.AllocError.TheVariants as refusal;
+ghost use Rattle.pool_alloc.specs.OnCounters.{object_on};
 ghost use Rattle.pool_alloc.specs.PoolStacks.{stack_made, stack_reset};
-ghost use Rattle.pool_alloc.specs.Rows.{count_object_row, test_stack_row, uncount_object_row};
+ghost use Rattle.pool_alloc.specs.Rows.{test_stack_row};
 ghost use Rattle.pool_alloc.specs.StackLeases.{stack_slot};
-ghost use Rattle.pool_alloc.specs.Steps.{counting_stacks, under};
+ghost use Rattle.pool_alloc.specs.Steps.{under};
 ghost use Rattle.pool_alloc.specs.TableSteps.{CanQueue};
-ghost use Rattle.pool_alloc.specs.Turns.{After, stepped, resting};
+ghost use Rattle.pool_alloc.specs.Turns.{After, Left, left_by, stepped};
 ghost use Rattle.pool_alloc.specs.declared.pool_core.PoolCore.{PoolCore};
 
 use crate::frame::{Frame, Grant, Object, Outcome, Phase, TakenSlot};
@@ -31,9 +32,8 @@ pub(crate) fn test_stack<P: Pages, H: GcHeap>(
     outcome: &mut Option<Outcome<P, H>>,
 )
     requires unanswered { outcome.old ≡ None }
-    ensures { (c : PoolCore P H) → ◌≡◌ {A = After P H} (record { core = under settings.now c.plan c; frame = frame.new; outcome = outcome.new }) (stepped (test_stack_row (under settings.now c.plan c) (resting frame.old))) }
+    ensures { (c : PoolCore P H) → ◌≡◌ {A = After P H} (record { core = under settings.now c.plan c; frame = frame.new; outcome = outcome.new }) (stepped (test_stack_row (under settings.now c.plan c) frame.old)) }
 {
-    frame.rest();
     if settings.stack_size == 0 {
         return refuse_at_once(frame, AllocError::StacksDisabled, outcome);
     }
@@ -48,15 +48,9 @@ pub(crate) fn count_stack<P: Pages, H: GcHeap>(
     outcome: &mut Option<Outcome<P, H>>,
 )
     requires unanswered { outcome.old ≡ None }
-    ensures { (c : PoolCore P H) → ◌≡◌ {A = After P H} (record { core = counting_stacks (c.counters.stacks + 1) c; frame = frame.new; outcome = outcome.new }) (stepped (count_object_row (Object.Stack lease) c frame.old)) }
+    ensures { (found : ℕ) → ◌≡◌ {A = Left P H} (record { frame = frame.new; outcome = outcome.new }) (left_by (object_on (Object.Stack lease) found frame.old)) }
 {
     frame.end(Outcome::Granted(Grant::Stack(lease)), outcome)
-}
-
-pub(crate) fn uncount_stack<P: Pages, H: GcHeap>(frame: &mut Frame<P, H>, lease: StackLease<P>)
-    ensures { (c : PoolCore P H) → ◌≡◌ {A = After P H} (record { core = counting_stacks (c.counters.stacks - 1) c; frame = frame.new; outcome = None }) (stepped (uncount_object_row (Object.Stack lease) c frame.old)) }
-{
-    frame.go(Phase::Reset(Object::Stack(lease)))
 }
 
 // The stack in the region of a slot, whose first page is the guard.

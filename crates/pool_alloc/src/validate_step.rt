@@ -5,7 +5,7 @@ ghost use Rattle.pool_alloc.specs.CanStep.{CanValidate};
 ghost use Rattle.pool_alloc.specs.Refusals.{first_refused, offset_refused, number_refused, memory_refused, tables_refused, long_table, objects_refused, module_refused};
 ghost use Rattle.pool_alloc.specs.Rows.{validated, validate_row};
 ghost use Rattle.pool_alloc.specs.Steps.{info_wanted, memories_wanted, under};
-ghost use Rattle.pool_alloc.specs.Turns.{After, Left, after, ends, failing, stepped, resting};
+ghost use Rattle.pool_alloc.specs.Turns.{After, Left, after, ends, failing, stepped};
 ghost use Rattle.pool_alloc.specs.declared.pool_core.PoolCore.{PoolCore};
 ghost use Rattle.std.specs.Option.{option_or};
 
@@ -32,9 +32,8 @@ pub(crate) fn validate<P: Pages, H: GcHeap>(
 )
     requires can { CanValidate (memories_wanted frame.old.asked) }
     requires unanswered { outcome.old ≡ None }
-    ensures { (wants : Bool) × ((c : PoolCore P H) → ◌≡◌ {A = After P H} (record { core = under settings.now plan.now c; frame = frame.new; outcome = outcome.new }) (stepped (validate_row wants (under settings.now plan.now c) (resting frame.old)))) }
+    ensures { (wants : Bool) × ((c : PoolCore P H) → ◌≡◌ {A = After P H} (record { core = under settings.now plan.now c; frame = frame.new; outcome = outcome.new }) (stepped (validate_row wants (under settings.now plan.now c) frame.old))) }
 {
-    frame.rest();
     match asked_refused(settings, plan, frame) {
         Some(rule) => refuse_at_once(frame, AllocError::Unsupported(rule), outcome),
         None => reserve_grants(alloc, frame, Phase::CountInstance, outcome),

@@ -1,7 +1,7 @@
 -- The slots of a queue in a list for each kind: what is done in one of the lists is done in all slots.
-use Rattle.std.proofs.Common.{◌≡◌, ℕ, suc, ◌<◌, ◌==◌, ◌&&◌, ◌||◌, ◌↔◌, Bool, true, false, not, List, [], ◌∷◌, ◌++◌, length, refl, sym, ap, ◌∙◌, subst, inl, inr, arith, Option, Some, None, IsSome, is_some}
+use Rattle.std.proofs.Common.{◌≡◌, ℕ, suc, ◌<◌, ◌==◌, ◌&&◌, ◌||◌, ◌↔◌, Bool, true, false, not, List, [], ◌∷◌, ◌++◌, length, refl, sym, ap, ◌∙◌, subst, inl, inr, arith, Option, Some, None, IsSome, is_some, option_map, slice_get, slice_index_or}
 use Rattle.std.specs.Option.{option_to_list}
-use Rattle.pool_slots.proofs.Imports.{AllByRecursion, list_any, cases_Bool, eqb-true, append-nil, list_any-append, SlotKind}
+use Rattle.pool_slots.proofs.Imports.{AllByRecursion, list_any, cases_Bool, eqb-true, true≢false, append-nil, list_any-append, SlotKind}
 use Rattle.pool_hall.specs.declared.unit_name.SlotKind.TheVariants as of_slot
 use Rattle.pool_slots.specs.declared.slot_name.SlotName.{SlotName}
 use Rattle.pool_slots.specs.SlotQueues.{Queued, QueuedList, same_kind, same_slot, holds, is_kind, of_kind, by_kind, first_of_kind, others_of_kind, is_to_zero, is_unzeroed, first_zeroed}
@@ -183,6 +183,39 @@ table_held a b c is =
 pub stack_held : (a b c : List Queued) → AreKinds a b c → is_some (first_of_kind of_slot.Stack (a ++ (b ++ c))) ≡ not (length c == 0)
 stack_held a b c is =
     some_if _ _ _ ((first_past of_slot.Stack a (b ++ c) (not_of of_slot.Stack of_slot.Memory a refl is.memories)).0 ∙ (first_past of_slot.Stack b c (not_of of_slot.Stack of_slot.Table b refl is.tables)).0) (some_first of_slot.Stack c is.stacks)
+
+-- the first of one kind stands first in their list
+first_here : (kind : SlotKind) (ms : List Queued) → AreOfKind kind ms → first_of_kind kind ms ≡ slice_get ms 0
+first_here kind [] of = refl
+first_here kind (m ∷ ms) of =
+    let here : is_kind kind m ≡ true = ap (λ (k : SlotKind). same_kind kind k) of.0 ∙ kind_self kind in
+    rw here refl
+
+pub memory_first : (a b c : List Queued) → AreKinds a b c → first_of_kind of_slot.Memory (a ++ (b ++ c)) ≡ slice_get a 0
+memory_first a b c is =
+    let N : Queued → Type 0 = λ m. is_kind of_slot.Memory m ≡ false in
+    (first_ahead of_slot.Memory a (b ++ c) (each_append N b c (not_of of_slot.Memory of_slot.Table b refl is.tables) (not_of of_slot.Memory of_slot.Stack c refl is.stacks))).0 ∙ first_here of_slot.Memory a is.memories
+
+pub table_first : (a b c : List Queued) → AreKinds a b c → first_of_kind of_slot.Table (a ++ (b ++ c)) ≡ slice_get b 0
+table_first a b c is =
+    (first_past of_slot.Table a (b ++ c) (not_of of_slot.Table of_slot.Memory a refl is.memories)).0
+    ∙ (first_ahead of_slot.Table b c (not_of of_slot.Table of_slot.Stack c refl is.stacks)).0
+    ∙ first_here of_slot.Table b is.tables
+
+pub stack_first : (a b c : List Queued) → AreKinds a b c → first_of_kind of_slot.Stack (a ++ (b ++ c)) ≡ slice_get c 0
+stack_first a b c is =
+    (first_past of_slot.Stack a (b ++ c) (not_of of_slot.Stack of_slot.Memory a refl is.memories)).0
+    ∙ (first_past of_slot.Stack b c (not_of of_slot.Stack of_slot.Table b refl is.tables)).0
+    ∙ first_here of_slot.Stack c is.stacks
+
+-- its name, where there is one
+pub none_named : (ms : List Queued) → (length ms == 0) ≡ true → ◌≡◌ {A = Option SlotName} None (option_map (λ m. m.name) (slice_get ms 0))
+none_named [] none = refl
+none_named (m ∷ ms) none = absurd (true≢false (sym none ∙ not_none (length ms)))
+
+pub first_named : (ms : List Queued) (m : Queued) → (length ms == 0) ≡ false → m ≡ slice_index_or ms 0 m → Some m.name ≡ option_map (λ x. x.name) (slice_get ms 0)
+first_named [] m some is = absurd (true≢false some)
+first_named (x ∷ ms) m some is = ap (λ (y : Queued). Some y.name) is
 
 -- The first of a kind that is to be zeroed, likewise.
 no_zero : (kind : SlotKind) (m : Queued) → is_kind kind m ≡ false → is_to_zero kind m ≡ false

@@ -84,6 +84,10 @@ zeroed_first kind (m ∷ ms) room i new inside before here now =
     let R : List Queued → QueuedList = λ l. record { items = l; room = room } in
     (first.0, now m ∙ ap R (sym first.1))
 
+pub one_to_zero : (kind : SlotKind) (ms : List Queued) (i : ℕ) → i < length ms → ((k : ℕ) → k < i → HoldsAt (λ m. is_to_zero kind m ≡ false) ms k) → HoldsAt (λ m. is_to_zero kind m ≡ true) ms i → list_any (is_to_zero kind) ms ≡ true
+one_to_zero kind [] i inside before here = absurd (omega arith)
+one_to_zero kind (m ∷ ms) i inside before here = (zeroed_at kind (m ∷ ms) i m inside before (here m)).0
+
 pub none_to_zero : (kind : SlotKind) (ms : List Queued) → ((k : ℕ) → k < length ms → HoldsAt (λ m. is_to_zero kind m ≡ false) ms k) → (list_any (is_to_zero kind) ms ≡ false) × (first_zeroed kind ms ≡ ms)
 none_to_zero kind [] none = (refl, refl)
 none_to_zero kind (m ∷ ms) none =

@@ -1,4 +1,4 @@
-ghost use Rattle.std.specs.Prelude.{◌≡◌, ◌+◌, ◌<◌, ◌≤◌, ◌==◌, ◌^◌, [], ◌∷◌, ◌++◌, length, ℕ, List, false, true, is_ok, is_some, IfOk, IfSome, OnOk, OnErr, slice_index_or};
+ghost use Rattle.std.specs.Prelude.{◌≡◌, ◌+◌, ◌<◌, ◌≤◌, ◌==◌, ◌^◌, [], ◌∷◌, ◌++◌, length, ℕ, List, false, true, is_ok, is_some, IfOk, IfSome, OnOk, OnErr, option_map, slice_index_or};
 ghost use Rattle.std.specs.List.{HoldsAt, list_any};
 ghost use Rattle.pool_images.specs.declared.ranges.ByteRange.{ByteRange};
 ghost use Rattle.pool_slots.specs.SlotNames.{slot_kind};
@@ -321,6 +321,21 @@ impl<P: Pages> DecommitQueue<P> {
         ensures { result ≡ is_some (first_of_kind kind self.now.slots) }
     {
         self.slots.holds_kind(kind)
+    }
+
+    /// The name of the first slot of a kind, which `pop` takes out.
+    pub fn first_name(&self, kind: SlotKind) -> Option<SlotName>
+        ensures { result ≡ option_map (λ m. m.name) (first_of_kind kind self.now.slots) }
+    {
+        self.slots.first_name(kind)
+    }
+
+    /// Whether a slot of a kind is to be zeroed by hand, so that `zero_next` zeroes one. Unless a decommit failed this takes no
+    /// look at the slots.
+    pub fn has_to_zero(&self, kind: SlotKind) -> bool
+        ensures { result ≡ list_any (is_to_zero kind) self.now.slots }
+    {
+        self.slots.has_to_zero(kind)
     }
 
     /// Zeroes by hand the first slot of a kind of which nothing is known since a decommit failed, where its kind is zeroed so.

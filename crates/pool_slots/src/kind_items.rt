@@ -1,4 +1,4 @@
-ghost use Rattle.std.specs.Prelude.{◌≡◌, ◌+◌, ◌<◌, ◌≤◌, ◌==◌, ◌^◌, [], ◌∷◌, ◌++◌, ◌↔◌, length, map, slice_index_or, slice_set, false, true, ℕ, ◌||◌, is_ok, IsSome, IfOk, IfSome, OnOk, OnErr, MatchOption};
+ghost use Rattle.std.specs.Prelude.{◌≡◌, ◌+◌, ◌<◌, ◌≤◌, ◌==◌, ◌^◌, [], ◌∷◌, ◌++◌, ◌↔◌, length, map, slice_index_or, slice_set, false, true, ℕ, ◌||◌, is_ok, IsSome, IfOk, IfSome, OnOk, OnErr, MatchOption, option_map, slice_get};
 ghost use Rattle.std.specs.List.{AllByRecursion, HoldsAt, list_any};
 ghost use Rattle.std.specs.Option.{option_to_list};
 ghost use Rattle.pool_images.specs.Orders.{Follows};
@@ -71,6 +71,16 @@ impl<P: Pages> KindItems<P> {
         ensures { result.now ≡ slice_index_or self.now.items at result.now }
     {
         &self.list[at]
+    }
+
+    /// The name of the first slot.
+    pub(crate) fn first_name(&self) -> Option<SlotName>
+        ensures { result ≡ option_map (λ m. m.name) (slice_get self.now.items 0) }
+    {
+        if self.is_empty() {
+            return None;
+        }
+        Some(self.get(0).name())
     }
 
     pub(crate) fn push(&mut self, item: QueuedSlot<P>)
@@ -199,6 +209,27 @@ impl<P: Pages> KindItems<P> {
                 self.zero_at(at);
                 true
             }
+            None => false,
+        }
+    }
+
+    /// Whether a slot of a kind is still to be zeroed by hand.
+    pub(crate) fn has_to_zero(&self, kind: SlotKind) -> bool
+        ensures { result ≡ list_any (is_to_zero kind) self.now.items }
+    {
+        if self.may_be_unzeroed() {
+            self.finds_to_zero(kind)
+        } else {
+            false
+        }
+    }
+
+    // Looks whether a slot of a kind is still to be zeroed by hand.
+    fn finds_to_zero(&self, kind: SlotKind) -> bool
+        ensures { result ≡ list_any (is_to_zero kind) self.now.items }
+    {
+        match self.place_to_zero(kind, self.len()) {
+            Some(_) => true,
             None => false,
         }
     }

@@ -1,4 +1,4 @@
-ghost use Rattle.std.specs.Prelude.{◌≡◌, ◌+◌, ◌<◌, ◌≤◌, ◌==◌, [], ◌∷◌, ◌++◌, length, map, slice_index_or, slice_set, true, is_ok, is_some, IfOk, IfSome, OnOk, OnErr};
+ghost use Rattle.std.specs.Prelude.{◌≡◌, ◌+◌, ◌<◌, ◌≤◌, ◌==◌, [], ◌∷◌, ◌++◌, length, map, slice_index_or, slice_set, true, is_ok, is_some, IfOk, IfSome, OnOk, OnErr, option_map};
 ghost use Rattle.std.specs.List.{AllByRecursion, HoldsAt, list_any};
 ghost use Rattle.pool_images.specs.Orders.{Follows};
 ghost use Rattle.pool_images.specs.Slots.{IsPart, IsSlot, size_of};
@@ -115,6 +115,18 @@ impl<P: Pages> SlotItems<P> {
         }
     }
 
+    /// The name of the first slot of a kind.
+    pub(crate) fn first_name(&self, kind: SlotKind) -> Option<SlotName>
+        ensures { result ≡ option_map (λ m. m.name) (first_of_kind kind self.now.items) }
+    {
+        match kind {
+            SlotKind::Memory => self.memories.first_name(),
+            SlotKind::Table => self.tables.first_name(),
+            SlotKind::Stack => self.stacks.first_name(),
+            SlotKind::Heap => None,
+        }
+    }
+
     /// Moves all of the other list in, kind by kind, those of a kind behind these.
     pub fn append(&mut self, other: &mut SlotItems<P>)
         requires { length self.old.items + length other.old.items ≤ self.old.room }
@@ -168,6 +180,18 @@ impl<P: Pages> SlotItems<P> {
         self.memories.forget();
         self.tables.forget();
         self.stacks.forget();
+    }
+
+    /// Whether a slot of a kind is still to be zeroed by hand.
+    pub(crate) fn has_to_zero(&self, kind: SlotKind) -> bool
+        ensures { result ≡ list_any (is_to_zero kind) self.now.items }
+    {
+        match kind {
+            SlotKind::Memory => self.memories.has_to_zero(kind),
+            SlotKind::Table => self.tables.has_to_zero(kind),
+            SlotKind::Stack => self.stacks.has_to_zero(kind),
+            SlotKind::Heap => false,
+        }
     }
 
     /// Zeroes by hand the first slot of a kind that is still to be zeroed. Answers whether there was one.
