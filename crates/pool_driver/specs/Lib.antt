@@ -1,8 +1,14 @@
+pub mod Calling
 pub mod Carrying
 pub mod Counts
+pub mod Driving
 pub mod Ending
 pub mod Faults
+pub mod FaultsTold
+pub mod Growing
 pub mod Laws
 pub mod Origins
 pub mod Placed
 pub mod Pools
+pub mod Spending
+pub mod Telling

@@ -21,6 +21,7 @@ use Rattle.pool_driver.specs.Counts.{counter_limits}
 use Rattle.pool_driver.specs.Origins.{about_of, inner_of}
 use Rattle.pool_driver.specs.Placed.{About, about_by, about_made}
 use Rattle.pool_driver.specs.declared.open_pool.OpenPool.{OpenPool}
+use Rattle.pool_driver.specs.declared.shared_pool.SharedPool.{SharedPool}
 
 -- With what a pool was made: its configuration, and about how many shards were asked for.
 pub record Making : Type 0 where
@@ -55,16 +56,20 @@ pub record IsHallOf {T : Type 0} (about : T → About) (a : About) (h : Hall T) 
   pub pool : IsPool a (length (made_with h))
   pub limits : limits_of h ≡ counter_limits a.settings
 
+-- The pool that callers share is this one.
+pub record IsSharedOf {P H M R : Type 0} (told : M → MakerTold) (a : About) (p : SharedPool P H M R) : Type 0 where
+  pub hall : IsHallOf (about_of told) a p.hall
+  pub settings : p.settings ≡ a.settings
+  pub plan : p.plan ≡ a.plan
+
 -- A pool whose parts lie in a hall, with a seat that holds none of them. What lies in no hall is as the pool was made with, and there is room
 -- for all parts to come back.
 pub record IsOpen {P H M R : Type 0} (told : M → MakerTold) (a : About) (o : OpenPool P H M R) : Type 0 where
-  pub hall : IsHallOf (about_of told) a o.hall
-  pub settings : o.settings ≡ a.settings
-  pub plan : o.plan ≡ a.plan
+  pub pool : IsSharedOf told a o.pool
   pub lists : o.lists ≡ lists_made a.settings
   pub empty : o.room.items ≡ []
-  pub room : length (made_with o.hall) ≤ vec_capacity o.room
-  pub own : IsSeatOf o.hall o.seat
+  pub room : length (made_with o.pool.hall) ≤ vec_capacity o.room
+  pub own : IsSeatOf o.pool.hall o.seat
   pub free : IsFree o.seat
 
 -- A pool that was made with this configuration, and opened: its hall has the parts that were made, and its seat knows nothing else.
@@ -72,8 +77,8 @@ pub record IsMadeOpen {P H M R : Type 0} (told : M → MakerTold) (maker : Maker
   pub core : PoolCore P H
   pub made : IsMadeCore maker config tunables offered shards core
   pub is_open : IsOpen told (about_core maker core) o
-  pub parts : map inner_of (made_with o.hall) ≡ core.parts
-  pub view : view o.seat ≡ first_view (made_with o.hall) (limits_of o.hall)
+  pub parts : map inner_of (made_with o.pool.hall) ≡ core.parts
+  pub view : view o.seat ≡ first_view (made_with o.pool.hall) (limits_of o.pool.hall)
 
 -- The parts of a hall as it is closed: what they have away they keep, and the view tells what they counted.
 pub record ClosesWith {T : Type 0} (m : Meaning T) (h : Hall T) (v : View T) : Type 0 where

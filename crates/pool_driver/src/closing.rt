@@ -11,6 +11,7 @@ ghost use Rattle.pool_driver.specs.Pools.{IsOpen, ClosesWith};
 
 use crate::open_pool::OpenPool;
 use crate::part::HallPart;
+use crate::shared_pool::SharedPool;
 use pool_alloc::{Counters, Parts, PoolCore};
 use pool_hall::{Hall, HallSeat, Part};
 use pool_pages::{PageMaker, Pages};
@@ -29,17 +30,20 @@ impl<P: Pages, H: GcHeap, M: PageMaker> OpenPool<P, H, M> {
         requires even { IsEven (view self.seat) }
         ensures home { AreAtHome result }
         ensures parts { ArePartsOf about.maker about.settings about.plan result }
-        ensures told { ClosesWith (pool_meaning (about_of M.told) inner_of) self.hall (view self.seat) }
-        ensures noted { HasNoted about (length (made_with self.hall)) (view self.seat) }
+        ensures told { ClosesWith (pool_meaning (about_of M.told) inner_of) self.pool.hall (view self.seat) }
+        ensures noted { HasNoted about (length (made_with self.pool.hall)) (view self.seat) }
     {
         let OpenPool {
-            hall,
+            pool,
             seat,
-            settings,
-            plan,
             lists,
             room,
         } = self;
+        let SharedPool {
+            hall,
+            settings,
+            plan,
+        } = pool;
         let mut seat = seat;
         let counters = counts_in(&hall, &mut seat);
         let list = without_origin(hall.close(seat), room);

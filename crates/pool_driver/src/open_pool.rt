@@ -11,6 +11,7 @@ ghost use Rattle.pool_driver.specs.Placed.{about_by};
 ghost use Rattle.pool_driver.specs.Pools.{IsAsMade, IsOpen, about_core};
 
 use crate::part::{HallPart, Origin};
+use crate::shared_pool::SharedPool;
 use pool_alloc::{FrameLists, PoolCore, Settings};
 use pool_hall::{Hall, HallSeat};
 use pool_pages::{PageMaker, Pages};
@@ -18,14 +19,12 @@ use pool_slots::{GcHeap, Plan, PoolPart};
 use std::alloc::{AllocError, Global};
 use std::snapshot::Snapshot;
 
-/// A pool whose parts lie in a hall, with what lies in none.
+/// A pool whose parts lie in a hall, with its first seat, and what it is closed with.
 #[derive(Drop)]
 pub struct OpenPool<P: Pages, H: GcHeap, M: PageMaker> {
-    pub hall: Hall<HallPart<P, H, M>>,
+    pub pool: SharedPool<P, H, M>,
     /// The first seat, or the one that all others were joined to.
     pub seat: HallSeat<HallPart<P, H, M>>,
-    pub settings: Settings,
-    pub plan: Plan,
     /// The lists of a frame that no party has. The pool is closed with them.
     pub lists: FrameLists<P>,
     /// An empty list with room for all parts, so that closing takes no memory.
@@ -40,8 +39,8 @@ impl<P: Pages, H: GcHeap, M: PageMaker> OpenPool<P, H, M> {
         requires untouched { IsUntouched core }
         requires few { length core.parts + counter_total < 2 ^ 32 }
         ensures open { IfOk result (IsOpen M.told (about_core (M.told maker.now) core)) }
-        ensures parts { IfOk result (λ o. map inner_of (made_with o.hall) ≡ core.parts) }
-        ensures view { IfOk result (λ o. view o.seat ≡ first_view (made_with o.hall) (limits_of o.hall)) }
+        ensures parts { IfOk result (λ o. map inner_of (made_with o.pool.hall) ≡ core.parts) }
+        ensures view { IfOk result (λ o. view o.seat ≡ first_view (made_with o.pool.hall) (limits_of o.pool.hall)) }
     {
         let PoolCore {
             parts,
@@ -57,11 +56,14 @@ impl<P: Pages, H: GcHeap, M: PageMaker> OpenPool<P, H, M> {
         let wrapped = with_origin(list, empty, maker, &settings, &plan);
         let limits = counter_limits(alloc, &settings)?;
         let (hall, seat) = Hall::new(alloc, wrapped, limits, packed(&plan))?;
-        Ok(OpenPool {
+        let pool = SharedPool {
             hall,
-            seat,
             settings,
             plan,
+        };
+        Ok(OpenPool {
+            pool,
+            seat,
             lists,
             room,
         })

@@ -28,13 +28,15 @@ returns-clause-open g c =
     let parts : map inner_of xs ≡ core.parts = c.with_origin-wrapped.ensures.parts ∙ c.into_list-list.ensures in
     let made : made_with c.in_ok-hall.hall ≡ xs = c.in_ok-hall.ensures.parts in
     record {
-      hall = record {
-        made = ap (about_made (about_of g.M.PageMaker.told)) made ∙ of_core (about_of g.M.PageMaker.told) inner_of maker c.requires.made.0 core c.requires.made.1 c.requires.core c.requires.untouched xs c.in_ok-limits.limits.items parts c.with_origin-wrapped.ensures.about;
-        pool = subst (IsPool a) (ap length (sym made)) (is_pool (about_of g.M.PageMaker.told) inner_of maker c.requires.made.0 core c.requires.made.1 c.requires.core c.requires.untouched xs c.in_ok-limits.limits.items parts c.with_origin-wrapped.ensures.about);
-        limits = c.in_ok-hall.ensures.limits ∙ c.in_ok-limits.ensures;
+      pool = record {
+        hall = record {
+          made = ap (about_made (about_of g.M.PageMaker.told)) made ∙ of_core (about_of g.M.PageMaker.told) inner_of maker c.requires.made.0 core c.requires.made.1 c.requires.core c.requires.untouched xs c.in_ok-limits.limits.items parts c.with_origin-wrapped.ensures.about;
+          pool = subst (IsPool a) (ap length (sym made)) (is_pool (about_of g.M.PageMaker.told) inner_of maker c.requires.made.0 core c.requires.made.1 c.requires.core c.requires.untouched xs c.in_ok-limits.limits.items parts c.with_origin-wrapped.ensures.about);
+          limits = c.in_ok-hall.ensures.limits ∙ c.in_ok-limits.ensures;
+        };
+        settings = refl;
+        plan = refl;
       };
-      settings = refl;
-      plan = refl;
       lists = same_Some _ _ (sym c.in-Some.is ∙ c.requires.made.1.spare);
       empty = c.in_ok-room.ensures.items;
       room = omega (arith, ap length made, map_length (about_of g.M.PageMaker.told) inner_of xs, ap length parts, ap length c.into_list-list.ensures, c.into_list-list.result.ok.0, c.len.ensures, c.in_ok-room.ensures.capacity);

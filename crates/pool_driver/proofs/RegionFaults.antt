@@ -1,0 +1,162 @@
+-- Calls on a region raise its count of faults, or leave it.
+use Rattle.std.proofs.Common.{◌≡◌, ℕ, Bool, true, false, List, [], ◌∷◌, map, sym, refl, ap, subst, arith, Option, inl, inr}
+use Rattle.std.proofs.lemmas.Bool.{cases_lt}
+use Rattle.std.specs.List.{AllByRecursion, AllZip}
+use Rattle.pool_types.specs.Rising.{Rose}
+use Rattle.pool_pages.specs.Told.{erasing}
+use Rattle.pool_types.specs.declared.decommit_behavior.DecommitBehavior.{DecommitBehavior}
+use Rattle.pool_types.specs.declared.decommit_behavior.DecommitBehavior.TheVariants.{Zero, RestoreOriginalMapping}
+use Rattle.pool_images.specs.Images.{Image}
+use Rattle.pool_images.specs.Slots.{Slot, IsLeft, decommitted_all, reset_slot, size_of, wiped, without_image}
+use Rattle.pool_images.specs.declared.ranges.ByteRange.{ByteRange}
+use Rattle.pool_images.proofs.Colours.{like_renewed}
+use Rattle.pool_images.proofs.Sizes.{like_without}
+use Rattle.pool_hall.specs.declared.unit_name.SlotKind.{SlotKind}
+use Rattle.pool_hall.specs.declared.unit_name.SlotKind.TheVariants.{Memory as memory_kind, Table as table_kind, Stack as stack_kind, Heap as heap_kind}
+use Rattle.pool_slots.specs.CellOf.{cell_of}
+use Rattle.pool_slots.specs.PlainSlots.{StackState, stack_zeroed}
+use Rattle.pool_slots.specs.RegionCells.{faults_in}
+use Rattle.pool_slots.specs.SlotQueues.{Queued, Queue, IsLeftBy, IsSlotLeft, forgotten_slot, change_at, same_slot, first_slot, is_of, front}
+use Rattle.pool_slots.specs.declared.cells.ImageSlot.{ImageSlot}
+use Rattle.pool_slots.specs.declared.cells.ImageSlot.TheVariants.{Unmapped, Unknown, PreviouslyUsed, Taken}
+use Rattle.pool_slots.specs.declared.slot_name.SlotName.{SlotName}
+use Rattle.pool_alloc.specs.Answers.{Decommits, DecommitsWhole, Drains, Empties, Forgets, InstantiatesAs, RemovesImage, Resets}
+use Rattle.pool_alloc.specs.Own.{slot_ended}
+use Rattle.pool_alloc.specs.Purges.{after_forgetting, known_after}
+use Rattle.pool_alloc.specs.Releases.{after_decommit}
+use Rattle.pool_alloc.specs.declared.frame.TakenSlot.{TakenSlot}
+use Rattle.pool_alloc.specs.declared.pool_core.Settings.{Settings}
+use Rattle.pool_driver.specs.FaultsTold.{HasFaulted}
+use Rattle.pool_driver.specs.Faults.{KeepsFaults, QueuedKeeps, QueueKeeps}
+
+rose_keeps : (told old new : ℕ) → KeepsFaults told old → Rose old new → KeepsFaults told new
+rose_keeps told old new k rose = record { least = let a = k.least in let b = k.small in omega arith; small = k.small }
+
+same_keeps : (told : ℕ) (old new : Slot) → KeepsFaults told old.region.faults → new.region.faults ≡ old.region.faults → KeepsFaults told new.region.faults
+same_keeps told old new k same = subst (KeepsFaults told) (sym same) k
+
+left_keeps : (told : ℕ) (old new : Slot) → KeepsFaults told old.region.faults → IsLeft old new → KeepsFaults told new.region.faults
+left_keeps told old new k left = rose_keeps told old.region.faults new.region.faults k left.rose
+
+left_faulted : (told : ℕ) (old new : Slot) → KeepsFaults told old.region.faults → IsLeft old new → HasFaulted told new.region.faults
+left_faulted told old new k left = elim (cases_lt told new.region.faults) [
+  | inl more ↦ inl more
+  | inr most ↦ inr (let a = k.least in let b = left.rose in omega arith)
+]
+
+-- What succeeds leaves the count.
+same_of : (made old new : Slot) → new ≡ made → made.region.faults ≡ old.region.faults → new.region.faults ≡ old.region.faults
+same_of made old new is same = subst (λ (s : Slot). s.region.faults ≡ old.region.faults) (sym is) same
+
+wiped_same : (s : Slot) → (wiped s).region.faults ≡ s.region.faults
+wiped_same s = (like_renewed (erasing s.base.bytes (size_of s)) s).faults
+
+without_same : (s : Slot) → (without_image s).region.faults ≡ s.region.faults
+without_same s = (like_without s.image s).faults
+
+reset_same : (behaviour : DecommitBehavior) (keep : ℕ) (s : Slot) → (reset_slot behaviour keep s).region.faults ≡ s.region.faults
+reset_same RestoreOriginalMapping keep s = refl
+reset_same Zero keep s = wiped_same s
+
+decommitted_same : (rs : List ByteRange) (s : Slot) → (decommitted_all rs s).region.faults ≡ s.region.faults
+decommitted_same [] s = refl
+decommitted_same (r ∷ rs) s = decommitted_same rs _
+
+stack_same : (zeroing : Bool) (keep : ℕ) (s : StackState) → (stack_zeroed zeroing keep s).slot.region.faults ≡ s.slot.region.faults
+stack_same true keep s = refl
+stack_same false keep s = refl
+
+forgotten_same : (kind : SlotKind) (s : Slot) → (forgotten_slot kind s).region.faults ≡ s.region.faults
+forgotten_same memory_kind s = refl
+forgotten_same table_kind s = refl
+forgotten_same stack_kind s = refl
+forgotten_same heap_kind s = refl
+
+-- A slot is emptied, instantiated or reset.
+pub empties_keep : (told : ℕ) (fault : Bool) (old new : Slot) → Empties fault old new → KeepsFaults told old.region.faults → KeepsFaults told new.region.faults
+empties_keep told true old new is k = left_keeps told old new k is
+empties_keep told false old new is k = same_keeps told old new k (same_of (wiped old) old new is.0 (wiped_same old))
+
+pub empties_faulted : (told : ℕ) (old new : Slot) → Empties true old new → KeepsFaults told old.region.faults → HasFaulted told new.region.faults
+empties_faulted told old new is k = left_faulted told old new k is
+
+pub instantiates_keep : (told : ℕ) (fault : Bool) (initial : ℕ) (hide : Bool) (image : Option Image) (old new : Slot) → InstantiatesAs fault initial hide image old new → KeepsFaults told old.region.faults → KeepsFaults told new.region.faults
+instantiates_keep told true initial hide image old new is k = left_keeps told old new k is
+instantiates_keep told false initial hide image old new is k = same_keeps told old new k is.sizes.faults
+
+pub instantiates_faulted : (told initial : ℕ) (hide : Bool) (image : Option Image) (old new : Slot) → InstantiatesAs true initial hide image old new → KeepsFaults told old.region.faults → HasFaulted told new.region.faults
+instantiates_faulted told initial hide image old new is k = left_faulted told old new k is
+
+pub reset_keeps : (told keep : ℕ) (at : TakenSlot) (old : Slot) → KeepsFaults told old.region.faults → KeepsFaults told (slot_ended keep at old).slot.region.faults
+reset_keeps told keep at old k = subst (KeepsFaults told) (sym (reset_same old.region.behaviour keep old)) k
+
+pub resets_keep : (told keep : ℕ) (at : TakenSlot) (old new : Slot) → Resets true keep at old new → KeepsFaults told old.region.faults → KeepsFaults told new.region.faults
+resets_keep told keep at old new is k = left_keeps told old new k is.1
+
+pub resets_faulted : (told keep : ℕ) (at : TakenSlot) (old new : Slot) → Resets true keep at old new → KeepsFaults told old.region.faults → HasFaulted told new.region.faults
+resets_faulted told keep at old new is k = left_faulted told old new k is.1
+
+pub stack_keeps : (told : ℕ) (zeroing : Bool) (keep : ℕ) (s : StackState) → KeepsFaults told s.slot.region.faults → KeepsFaults told (stack_zeroed zeroing keep s).slot.region.faults
+stack_keeps told zeroing keep s k = subst (KeepsFaults told) (sym (stack_same zeroing keep s)) k
+
+-- What a purge forgets, and what a release decommits.
+removes_keep : (told : ℕ) (fault : Bool) (old new : Slot) → RemovesImage fault old new → KeepsFaults told old.region.faults → KeepsFaults told new.region.faults
+removes_keep told true old new is k = left_keeps told old new k is
+removes_keep told false old new is k = same_keeps told old new k (same_of (without_image old) old new is.0 (without_same old))
+
+whole_keeps : (told : ℕ) (s : Settings) (fault : Bool) (old new : Slot) → DecommitsWhole s fault old new → KeepsFaults told old.region.faults → KeepsFaults told new.region.faults
+whole_keeps told s true old new is k = rose_keeps told old.region.faults new.region.faults k is.region.rose
+whole_keeps told s false old new is k = subst (λ (x : Slot). KeepsFaults told x.region.faults) (sym is) k
+
+known_keeps : (P : Type 0) (told : ℕ) (fault : Bool) (slot : Slot) → KeepsFaults told slot.region.faults → KeepsFaults told (faults_in (cell_of {P = P} (known_after fault slot)))
+known_keeps P told true slot k = k
+known_keeps P told false slot k = k
+
+module _ {P : Type 0} where
+  pub forgets_keep : (told : ℕ) (fault : Bool) (held : ImageSlot P) (new : Slot) → Forgets fault held new → KeepsFaults told (faults_in (cell_of held)) → KeepsFaults told (faults_in (cell_of (after_forgetting fault held new)))
+  forgets_keep told fault (Unmapped region) new is k = k
+  forgets_keep told fault (Unknown old) new is k = known_keeps P told fault new (empties_keep told fault old new is k)
+  forgets_keep told fault (PreviouslyUsed old) new is k = known_keeps P told fault new (removes_keep told fault old new is k)
+  forgets_keep told fault Taken new is k = k
+
+  pub drains_keep : (told : ℕ) (s : Settings) (fault : Bool) (held : ImageSlot P) (new : Slot) → Drains s fault held new → KeepsFaults told (faults_in (cell_of held)) → KeepsFaults told (faults_in (cell_of (after_decommit held new)))
+  drains_keep told s fault (Unmapped region) new is k = k
+  drains_keep told s fault (Unknown old) new is k = whole_keeps told s fault old new is k
+  drains_keep told s fault (PreviouslyUsed old) new is k = whole_keeps told s fault old new is.0 k
+  drains_keep told s fault Taken new is k = k
+
+-- A run of decommits that succeeds,
+changed_keeps : (name : SlotName) (rs : List ByteRange) (m : Queued) → QueuedKeeps m → QueuedKeeps (change_at name (decommitted_all rs) m)
+changed_keeps name rs m k = go (same_slot name m.name) refl
+  where
+    go : (b : Bool) → same_slot name m.name ≡ b → QueuedKeeps (change_at name (decommitted_all rs) m)
+    go true e = rw e (subst (KeepsFaults m.numbers.faults) (sym (decommitted_same rs m.slot)) k)
+    go false e = rw e k
+
+run_keeps : (name : SlotName) (rs : List ByteRange) (slots : List Queued) → AllByRecursion QueuedKeeps slots → AllByRecursion QueuedKeeps (map (change_at name (decommitted_all rs)) slots)
+run_keeps name rs [] k = tt
+run_keeps name rs (m ∷ ms) k = (changed_keeps name rs m k.0, run_keeps name rs ms k.1)
+
+-- and one that fails.
+left_by_keeps : (faulted : SlotName) (m n : Queued) → QueuedKeeps m → IsLeftBy faulted m n → QueuedKeeps n
+left_by_keeps faulted m n k left = subst (λ (t : ℕ). KeepsFaults t n.slot.region.faults) (sym numbers) (by (same_slot faulted m.name) left.slot)
+  where
+    numbers : n.numbers.faults ≡ m.numbers.faults
+    numbers = ap (λ (z : Queued). z.numbers.faults) left.same
+
+    old : KeepsFaults m.numbers.faults (forgotten_slot m.name.kind m.slot).region.faults
+    old = subst (KeepsFaults m.numbers.faults) (sym (forgotten_same m.name.kind m.slot)) k
+
+    by : (b : Bool) → IsSlotLeft b (forgotten_slot m.name.kind m.slot) n.slot → KeepsFaults m.numbers.faults n.slot.region.faults
+    by true is = left_keeps m.numbers.faults (forgotten_slot m.name.kind m.slot) n.slot old is
+    by false is = subst (KeepsFaults m.numbers.faults) (sym (ap (λ (z : Slot). z.region.faults) is)) old
+
+zip_keeps : (faulted : SlotName) (old new : List Queued) → AllZip (IsLeftBy faulted) old new → AllByRecursion QueuedKeeps old → AllByRecursion QueuedKeeps new
+zip_keeps faulted [] [] z k = tt
+zip_keeps faulted (m ∷ ms) (n ∷ ns) z k = (left_by_keeps faulted m n k.0 z.0, zip_keeps faulted ms ns z.1 k.1)
+zip_keeps faulted [] (n ∷ ns) z k = absurd z
+zip_keeps faulted (m ∷ ms) [] z k = absurd z
+
+pub decommits_keep : (fault : Bool) (old new : Queue) → Decommits fault old new → QueueKeeps old → QueueKeeps new
+decommits_keep true old new d k = zip_keeps (first_slot old.ranges) old.slots new.slots d.slots k
+decommits_keep false old new d k = subst QueueKeeps (sym d) (run_keeps (first_slot old.ranges) (map (λ r. r.range) (front (is_of (first_slot old.ranges)) old.ranges)) old.slots k)

@@ -1,0 +1,17 @@
+use Rattle.std.proofs.Common.{◌≡◌, length, None}
+use Rattle.pool_hall.specs.Seat.{made_with, view, IsSeatOf, IsFree}
+use Rattle.pool_driver.specs.Calling.{GoesOnSince}
+use Rattle.pool_driver.specs.Driving.{IsDriven}
+use Rattle.pool_driver.proofs.shared_pool.SharedPool.run.Given as goal
+
+abbrev pub invariant-loop : goal.invariant-loop
+invariant-loop g l = record {
+  own : IsSeatOf l.self.hall l.seat;
+  free : IsFree l.seat;
+  unanswered : l.outcome ≡ None;
+  driven : IsDriven (length (made_with l.self.hall)) g.given (view l.seat) l.frame None;
+  goes : GoesOnSince g.given.about (view l.initial.seat) (view l.seat) l.initial.frame l.frame;
+}
+
+abbrev pub ghost-step : goal.ghost-step
+ghost-step g a = g.given
