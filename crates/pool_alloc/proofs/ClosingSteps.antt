@@ -3,12 +3,12 @@ use Rattle.std.proofs.Common.{◌≡◌, false, refl}
 use Rattle.pool_alloc.specs.Closing.{IsClosingAt}
 use Rattle.pool_alloc.specs.Stepping.{is_idle}
 use Rattle.pool_alloc.specs.Targets.{next_target}
-use Rattle.pool_alloc.specs.declared.counting.CounterName.{CounterName}
+use Rattle.pool_alloc.specs.declared.counters.CounterName.{CounterName}
 use Rattle.pool_alloc.specs.declared.frame.Frame.{Frame}
 use Rattle.pool_alloc.specs.declared.frame.Phase.{Phase}
 use Rattle.pool_alloc.specs.declared.frame.Phase.TheVariants.{Idle, Flush, UncountInstance}
 use Rattle.pool_alloc.specs.declared.pool_core.PoolCore.{PoolCore}
-use Rattle.pool_alloc.specs.declared.targets.Target.TheVariants.{Up, Alone}
+use Rattle.pool_alloc.specs.declared.step.targets.Target.TheVariants.{Up, Alone}
 use Rattle.pool_alloc.proofs.NextTargets.{flush_not_up, no_alone, no_up}
 
 module _ {P H : Type 0} where

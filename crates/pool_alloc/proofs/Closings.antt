@@ -7,14 +7,14 @@ use Rattle.pool_alloc.specs.Closing.{nth_queue, AreEmptied, IsClosingAt, IsBare,
 use Rattle.pool_alloc.specs.Leases.{Lease}
 use Rattle.pool_alloc.specs.PartyTold.{PartyTold}
 use Rattle.pool_alloc.specs.Places.{Thing, queued_count, phase_count, phase_instances, instances_for, kept_count, away_count, Counter, Weight, counted_instance, counted_object, only, of_units, of_counts, phase_counted, frame_counted}
-use Rattle.pool_alloc.specs.Rows.{FlushStep, run, zero as zeroes, put, free, flush_step, flush_row, put_first, row_of}
-use Rattle.pool_alloc.specs.Sound.{IsCore, IsFrame, IsShared, IsQueuedOf, IsPartFor}
-use Rattle.pool_alloc.specs.Bounds.{steps_left}
+use Rattle.pool_alloc.specs.StepTable.{FlushStep, run, zero as zeroes, put, free, flush_step, flush_row, put_first, row_of}
+use Rattle.pool_alloc.specs.BetweenSteps.{IsCore, IsFrame, IsShared, IsQueuedOf, IsPartFor}
+use Rattle.pool_alloc.specs.StepBounds.{steps_left}
 use Rattle.pool_alloc.specs.Stepping.{CanStep, CanCount, StepsTo, count_granted, is_idle, grant_weight}
-use Rattle.pool_alloc.specs.Steps.{StepGiven, first_shard, queue_at, with_queue, stacks_wanted, heaps_wanted, IsQueuePart, queue_in, shard_in, shard_at, queues_searched}
+use Rattle.pool_alloc.specs.StepReads.{StepGiven, first_shard, queue_at, with_queue, stacks_wanted, heaps_wanted, IsQueuePart, queue_in, shard_in, shard_at, queues_searched}
 use Rattle.pool_alloc.specs.TableLeases.{LeasedTable}
 use Rattle.pool_alloc.specs.Turns.{Left, Row, After, flush, all_returned, returned_next, next_by, is_flushed, after, stepped, gone_to, is_granting}
-use Rattle.pool_alloc.specs.Whole.{Holding, HasSlots, held_by, IsUntouched}
+use Rattle.pool_alloc.specs.PoolAndHolders.{Holding, HasSlots, held_by, IsUntouched}
 use Rattle.pool_alloc.specs.declared.pool_core.PoolCore.{PoolCore}
 use Rattle.pool_alloc.specs.declared.pool_core.Settings.{Settings}
 use Rattle.pool_alloc.specs.declared.frame.Asked.{Asked}
@@ -26,23 +26,23 @@ use Rattle.pool_alloc.specs.declared.frame.FreedSlot.{FreedSlot}
 use Rattle.pool_alloc.specs.declared.frame.Grant.{Grant}
 use Rattle.pool_alloc.specs.declared.frame.Phase.{Phase}
 use Rattle.pool_alloc.specs.declared.frame.Phase.TheVariants.{Idle, Flush, UncountInstance}
-use Rattle.pool_alloc.proofs.Below.{queued_cells}
-use Rattle.pool_alloc.proofs.BegunCalls.{at_rest, made_frame, idle_nothing, idle_weight, made_weight}
+use Rattle.pool_alloc.proofs.SumsBelow.{queued_cells}
+use Rattle.pool_alloc.proofs.BegunFrames.{at_rest, made_frame, idle_nothing, idle_weight, made_weight}
 use Rattle.pool_alloc.proofs.CoreChanges.{core_with_queue, core_with_counters}
 use Rattle.pool_alloc.proofs.FlushFinds.{Finds, finds, none_waits}
-use Rattle.pool_alloc.proofs.Hands.{in_phase, Held, held_of, frame_of, flushed, none_counted, only_one}
+use Rattle.pool_alloc.proofs.BeforeTheTurn.{in_phase, Held, held_of, frame_of, flushed, none_counted, only_one}
 use Rattle.pool_alloc.proofs.KeptCounts.{kept_queue, away_queue, shard_away}
 use Rattle.pool_alloc.proofs.LocalQueues.{taken_shared, taken_local, local_of_shared}
 use Rattle.pool_alloc.proofs.PlanPlaces.{IsQueuePlace, apart_places, queue_no_cell, tried_is_queue, queue_of_role, queue_tried_at, queues_all}
 use Rattle.pool_alloc.proofs.PoolParts.{sound_queue, queue_part}
 use Rattle.pool_alloc.proofs.ReturnRows.{first_freed, first_of_all}
-use Rattle.pool_alloc.proofs.Searching.{still_empty, taken_empty}
-use Rattle.pool_alloc.proofs.Stages.{first_can_be_put, first_can_be_freed, local_is_spare}
-use Rattle.pool_alloc.proofs.Steps.{step_ok, can_still, step_fewer, can_try_queue}
-use Rattle.pool_alloc.proofs.Wholes.{whole_fits, call_has_slots}
+use Rattle.pool_alloc.proofs.Searches.{still_empty, taken_empty}
+use Rattle.pool_alloc.proofs.PhaseFacts.{first_can_be_put, first_can_be_freed, local_is_spare}
+use Rattle.pool_alloc.proofs.StepNeeds.{step_ok, can_still, step_fewer, can_try_queue}
+use Rattle.pool_alloc.proofs.PoolAndHolders.{whole_fits, call_has_slots}
 use Rattle.pool_alloc.specs.CanStep.{CanTryQueue}
 use Rattle.pool_alloc.proofs.MadePools.{none_of_all}
-use Rattle.pool_alloc.proofs.Ways.{aims_back}
+use Rattle.pool_alloc.proofs.SharedByRows.{aims_back}
 use Rattle.pool_alloc.proofs.Weights.{no_total, frame_counts}
 
 -- a test that each of a list passes

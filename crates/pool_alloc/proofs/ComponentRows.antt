@@ -4,8 +4,8 @@ use Rattle.pool_alloc.proofs.Imports.{ltb-true, ltb-false, MakerTold, ComponentI
 use Rattle.pool_alloc.specs.PartyTold.{PartyTold}
 use Rattle.pool_slots.specs.declared.errors.AllocError.TheVariants as refusal
 use Rattle.pool_alloc.specs.Refusals.{component_refused}
-use Rattle.pool_alloc.specs.Rows.{component_tested, validate_component_row, component_counted, count_component_row, uncount_component_row}
-use Rattle.pool_alloc.specs.Stages.{IsBroken, no_call, stage_back, Goes}
+use Rattle.pool_alloc.specs.StepTable.{component_tested, validate_component_row, component_counted, count_component_row, uncount_component_row}
+use Rattle.pool_alloc.specs.CallStages.{IsBroken, no_call, stage_back, Goes}
 use Rattle.pool_alloc.specs.Places.{counted_component, only}
 use Rattle.pool_alloc.specs.Stepping.{grant_weight}
 use Rattle.pool_alloc.specs.Turns.{Row, answer_of, failing}
@@ -15,9 +15,9 @@ use Rattle.pool_alloc.specs.declared.frame.Ending.TheVariants.{Granted as grante
 use Rattle.pool_alloc.specs.declared.frame.Frame.{Frame}
 use Rattle.pool_alloc.specs.declared.frame.Phase.{Phase}
 use Rattle.pool_alloc.specs.declared.frame.Phase.TheVariants.{Idle, ValidateComponent, CountComponent, UncountComponent}
+use Rattle.pool_alloc.proofs.BeforeTheTurn.{in_phase, held_of, none_granted, none_counted, IsReadyRow, one_less, only_one}
 use Rattle.pool_alloc.proofs.CoreChanges.{core_with_counters}
-use Rattle.pool_alloc.proofs.Hands.{in_phase, held_of, none_granted, none_counted, IsReadyRow, one_less, only_one}
-use Rattle.pool_alloc.proofs.Ways.{Can, kept_part}
+use Rattle.pool_alloc.proofs.SharedByRows.{Can, kept_part}
 use Rattle.pool_alloc.proofs.Weights.{counted_fits}
 
 module _ {P H : Type 0} (maker : MakerTold) (old new : PartyTold) where

@@ -1,8 +1,8 @@
 -- The pool's parts stay sound where one of them changes.
 use Rattle.std.proofs.Common.{◌≡◌, ℕ, ◌<◌, List, length, sym, ◌∙◌, subst, inl, inr, get_or, set}
 use Rattle.pool_alloc.proofs.Imports.{cases_eq, length-set, get_or-set_same, get_or-set_other, MakerTold, ShardState, IsShard, IsSameShard, CellState, Queue, IsShardOf, Role, cell_place, Allocator, HeapEntry, PoolPart, SlotName, part_at}
-use Rattle.pool_alloc.specs.Steps.{shard_at, heaps_at, with_shard, with_cell, with_queue, with_heaps, with_part, part_holding}
-use Rattle.pool_alloc.specs.Sound.{IsCore, IsPoolPlan, IsShared, IsPartAt, IsPartFor, IsSlotName, IsCellOf}
+use Rattle.pool_alloc.specs.StepReads.{shard_at, heaps_at, with_shard, with_cell, with_queue, with_heaps, with_part, part_holding}
+use Rattle.pool_alloc.specs.BetweenSteps.{IsCore, IsPoolPlan, IsShared, IsPartAt, IsPartFor, IsSlotName, IsCellOf}
 use Rattle.pool_alloc.specs.declared.pool_core.PoolCore.{PoolCore}
 use Rattle.pool_alloc.specs.declared.pool_core.Counters.{Counters}
 use Rattle.pool_alloc.proofs.PlanPlaces.{IsShardPlace, IsQueuePlace, cell_role_at, heaps_place}

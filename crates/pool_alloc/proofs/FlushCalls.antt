@@ -1,18 +1,18 @@
 -- A part of a flush that the code makes, as the row of a flush.
 use Rattle.std.proofs.Common.{◌≡◌, ℕ, ◌<◌, ◌≤◌, Bool, true, false, List, [], length, refl, sym, ap, ◌∙◌, subst, arith, Option, Some, None, ◌==◌, is_some, if◌then◌else◌}
 use Rattle.pool_alloc.proofs.Imports.{list_any, eq-eqb, ne_eqb, PoolPart, Plan, SlotKind, Queue, Queued, is_to_zero, first_of_kind, others_of_kind}
-use Rattle.pool_alloc.specs.Answers.{FlushTold, FlushPlanned}
+use Rattle.pool_alloc.specs.PageCallAnswers.{FlushTold, FlushPlanned}
 use Rattle.pool_alloc.specs.CanStep.{CanPutNext}
 use Rattle.pool_alloc.specs.OnParts.{CanFlushOn, CanPutOn, flush_on, put_on}
-use Rattle.pool_alloc.specs.Rows.{FlushStep, run, zero, put, free, some_queued, kind_settled, put_step, settled_step, flush_step, flush_row}
-use Rattle.pool_alloc.specs.Steps.{StepGiven}
+use Rattle.pool_alloc.specs.StepTable.{FlushStep, run, zero, put, free, some_queued, kind_settled, put_step, settled_step, flush_step, flush_row}
+use Rattle.pool_alloc.specs.StepReads.{StepGiven}
 use Rattle.pool_alloc.specs.StepsAlone.{CanFlushAlone}
 use Rattle.pool_alloc.specs.Turns.{After, stepped}
 use Rattle.pool_alloc.specs.declared.pool_core.PoolCore.{PoolCore}
 use Rattle.pool_alloc.specs.declared.frame.Frame.{Frame}
 use Rattle.pool_alloc.specs.declared.frame.FreedSlot.{FreedSlot}
 use Rattle.pool_alloc.specs.declared.frame.Outcome.{Outcome}
-use Rattle.pool_alloc.proofs.Hands.{empty_length}
+use Rattle.pool_alloc.proofs.BeforeTheTurn.{empty_length}
 use Rattle.pool_alloc.proofs.KindCounts.{none_others}
 
 some_ranges : (n : ℕ) → 0 < n → (n == 0) ≡ false

@@ -2,25 +2,25 @@
 use Rattle.std.proofs.Common.{◌≡◌, ◌≢◌, ℕ, zero, suc, ◌+◌, ◌*◌, ◌<◌, ◌≤◌, Bool, true, false, List, [], ◌∷◌, ◌++◌, length, refl, sym, ap, ◌∙◌, subst, inl, inr, arith, ◌⊎◌, Option, None, Some, map, true≢false, All, ◌==◌, nat_lt, filter, min, sum_by, if◌then◌else◌, is_some, ◌&&◌, ◌||◌, not}
 use Rattle.pool_alloc.proofs.Imports.{zeroed_long, all_by_kind, one_at_most, memory_kind, table_kind, stack_kind, SlotKind, SlotName, shard_below, AllByRecursion, AllZip, list_any, Home, Allocator, allocators_of, have_number, has_number, home_among, home_in, home_of, eq-eqb, ne_eqb, eqb-true, lt-ltb, cases_eq, cases_lt, cases_Bool, and_parts, length_all_zip, All-weaker, All-head, All-tail, All-append, sum_by-cons, sum_by_push, MakerTold, one_if, Queue, Queued, after_append, after_run, first_slot, IsLeftBy, first_of_kind, first_zeroed, is_to_zero, others_of_kind, same_kind, zeroed_by, change_at, is_of, front, same_slot, zeroed, QueuedRange, Plan, decommitted_all}
 use Rattle.pool_alloc.proofs.PoolParts.{sound_queue}
-use Rattle.pool_alloc.proofs.Held.{right_is_out}
+use Rattle.pool_alloc.proofs.SlotsOfFrames.{right_is_out}
 use Rattle.pool_alloc.proofs.FreedSlots.{first_of}
 use Rattle.pool_alloc.proofs.PlanPlaces.{has_home, IsQueuePlace}
-use Rattle.pool_alloc.specs.Sound.{IsStripe, IsPoolPlan, HasCells, IsSlotName, IsCore, IsFreedOf, IsQueuedOf}
-use Rattle.pool_alloc.specs.Answers.{Decommits}
+use Rattle.pool_alloc.specs.BetweenSteps.{IsStripe, IsPoolPlan, HasCells, IsSlotName, IsCore, IsFreedOf, IsQueuedOf}
+use Rattle.pool_alloc.specs.PageCallAnswers.{Decommits}
 use Rattle.pool_alloc.specs.declared.pool_core.Settings.{Settings}
-use Rattle.pool_alloc.specs.Bounds.{PoolSizes, sizes_of, all_shards, is_home, waiting_for, shards_waiting, all_waiting, flush_left, flushed_allocators, may_zero, zeroings}
+use Rattle.pool_alloc.specs.StepBounds.{PoolSizes, sizes_of, all_shards, is_home, waiting_for, shards_waiting, all_waiting, flush_left, flushed_allocators, may_zero, zeroings}
 use Rattle.pool_alloc.specs.Places.{right_to, away_count, queued_count, of_units}
 use Rattle.pool_alloc.specs.RangeRuns.{runs, IsGrouped}
 use Rattle.pool_alloc.specs.Reserved.{Reserved, with_item}
-use Rattle.pool_alloc.specs.Steps.{queue_at, freed_of, freed_elsewhere, first_shard}
+use Rattle.pool_alloc.specs.StepReads.{queue_at, freed_of, freed_elsewhere, first_shard}
 use Rattle.pool_alloc.specs.Stepping.{CanStep}
 use Rattle.pool_alloc.specs.declared.pool_core.PoolCore.{PoolCore}
 use Rattle.pool_alloc.specs.declared.frame.Frame.{Frame}
 use Rattle.pool_alloc.specs.declared.frame.FreedSlot.{FreedSlot}
-use Rattle.pool_alloc.proofs.Below.{few_queued, queued_cells}
+use Rattle.pool_alloc.proofs.SumsBelow.{few_queued, queued_cells}
 use Rattle.pool_alloc.proofs.KeptCounts.{queue_kept, out_once}
 use Rattle.pool_alloc.proofs.QueueCounts.{queued_joined, run_names, faulted_names}
-use Rattle.pool_alloc.proofs.Runs.{runs_fewer}
+use Rattle.pool_alloc.proofs.RangeRuns.{runs_fewer}
 use Rattle.pool_alloc.proofs.SlotIdentity.{length_after_run}
 use Rattle.pool_alloc.proofs.KindCounts.{others_long, sum_first, zeroed_names}
 

@@ -2,7 +2,7 @@
 use Rattle.std.proofs.Common.{◌≡◌, ℕ, ◌+◌, ◌<◌, Bool, true, false, List, [], ◌∷◌, ◌++◌, length, take, drop, get_or, refl, sym, ap, subst, ◌∙◌, arith, ◌==◌, All, IsSome, if◌then◌else◌, not, min}
 use Rattle.pool_alloc.proofs.Imports.{take_more, drop_more, append-nil, append_assoc, filter-append, All-get_or, eq-eqb, ShardState, use_of, after_free, home_of, Plan}
 use Rattle.pool_alloc.specs.Freeing.{AreUsedInTurn, CanFreeNext, shard_after_next, freed_after_next, CanBeFreed}
-use Rattle.pool_alloc.specs.Steps.{freed_of, freed_elsewhere, first_shard, after_frees}
+use Rattle.pool_alloc.specs.StepReads.{freed_of, freed_elsewhere, first_shard, after_frees}
 use Rattle.pool_alloc.specs.declared.frame.FreedSlot.{FreedSlot}
 use Rattle.pool_alloc.specs.Leases.{memory_slot}
 

@@ -1,17 +1,17 @@
 -- The slots that a frame frees: each has its place in its shard, and is used there when its turn comes.
 use Rattle.std.proofs.Common.{◌≡◌, ℕ, ◌+◌, ◌<◌, ◌≤◌, Bool, true, false, List, [], ◌∷◌, length, refl, subst, arith, inl, inr, ap, ◌∙◌, All, if◌then◌else◌, ◌==◌, min}
 use Rattle.pool_alloc.proofs.Imports.{shard_units, total, AllByRecursion, eqb-true, cases_lt, cases_Bool, MakerTold, Plan, SlotName, home_of, All-head, All-tail, All-weaker}
+use Rattle.pool_alloc.specs.BetweenSteps.{IsCore, FitsCore, IsFreedOf}
 use Rattle.pool_alloc.specs.Freeing.{AreUsedInTurn}
 use Rattle.pool_alloc.specs.Places.{Thing, right_to, slot_count, freed_count, frame_count}
-use Rattle.pool_alloc.specs.Sound.{IsCore, FitsCore, IsFreedOf}
-use Rattle.pool_alloc.specs.Steps.{shard_at, after_frees, freed_of, first_shard}
+use Rattle.pool_alloc.specs.StepReads.{shard_at, after_frees, freed_of, first_shard}
 use Rattle.pool_alloc.specs.declared.frame.Frame.{Frame}
 use Rattle.pool_alloc.specs.declared.frame.FreedSlot.{FreedSlot}
 use Rattle.pool_alloc.specs.declared.pool_core.PoolCore.{PoolCore}
 use Rattle.pool_alloc.proofs.PlanPlaces.{IsShardPlace, home_place}
 use Rattle.pool_alloc.proofs.PoolParts.{HasPlace, place_of, sound_shard}
-use Rattle.pool_alloc.proofs.Frees.{AreOut, frees_less, used_in_turn}
-use Rattle.pool_alloc.proofs.Held.{held_is_out, held_once}
+use Rattle.pool_alloc.proofs.ShardsAfterFrees.{AreOut, frees_less, used_in_turn}
+use Rattle.pool_alloc.proofs.SlotsOfFrames.{held_is_out, held_once}
 use Rattle.pool_alloc.proofs.QueueCounts.{freed_first, freed_parted}
 use Rattle.pool_alloc.proofs.SlotCounts.{right_named}
 use Rattle.pool_alloc.proofs.UsedSlots.{used_away}

@@ -2,13 +2,13 @@
 use Rattle.std.proofs.Common.{◌≡◌, ℕ, ◌+◌, ◌-◌, ◌*◌, ◌/◌, ◌%◌, ◌<◌, ◌≤◌, Bool, true, false, [], length, Option, Some, None, is_some, refl, ap, ◌∙◌, subst, inl, inr, arith, sym, All, ◌⊎◌, ◌∷◌, List, ◌==◌, nat_lt, if◌then◌else◌, option_map, IsSome}
 use Rattle.pool_alloc.proofs.Imports.{none_mapped, Queued, SlotKind, heap_kind, memory_kind, table_kind, stack_kind, All-head, All-tail, inside, total_zero, read_at, kept_parts, part_kept, total, numbered, Plan, Allocator, Role, queue_role, role_at, has_number, home_of, queues_for, option_or, option_map_or, cases_lt, ltb-false, lt-ltb, count_by-le-length, mod-mul-add, div-add-mod', mod-lt, MakerTold, ShardState, warm_at, next_cold, IsShard, choice, affine_choice, warm_choice, cold_choice, slot_and_bytes, pick_answer, one_if, is_used, Choice, use_of, after_choice, after_full, after_pick, MemoryInModule, WarmSlot, of_kind, SlotName, part_at, PoolPart}
 use Rattle.pool_alloc.proofs.SlotCounts.{slot_other, region_rights}
-use Rattle.pool_alloc.proofs.Below.{queued_cells}
+use Rattle.pool_alloc.proofs.SumsBelow.{queued_cells}
 use Rattle.pool_alloc.proofs.UsedSlots.{used_is_out}
 use Rattle.pool_alloc.proofs.PoolParts.{sound_shard, place_of}
 use Rattle.pool_alloc.proofs.PlanPlaces.{slot_at, allocator_holds, queue_of_role, queue_tried_at, queues_all, allocator_role, IsQueuePlace, IsSlotAt, home_place}
-use Rattle.pool_alloc.specs.Sound.{IsCore, IsPoolPlan, IsPartFor, HasCells, IsQueuedOf}
+use Rattle.pool_alloc.specs.BetweenSteps.{IsCore, IsPoolPlan, IsPartFor, HasCells, IsQueuedOf}
 use Rattle.pool_alloc.specs.Places.{Thing, right_to, queued_count, kept_count, away_count}
-use Rattle.pool_alloc.specs.Steps.{shard_at, queue_at, queue_in, queues_searched, allocator_for, kind_next, slot_next, queues_next}
+use Rattle.pool_alloc.specs.StepReads.{shard_at, queue_at, queue_in, queues_searched, allocator_for, kind_next, slot_next, queues_next}
 use Rattle.pool_alloc.specs.declared.pool_core.PoolCore.{PoolCore}
 use Rattle.pool_alloc.specs.declared.frame.Frame.{Frame}
 use Rattle.pool_alloc.specs.Searches.{HasNoSlot, AreFull, AreEmpty}

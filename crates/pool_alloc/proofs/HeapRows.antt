@@ -4,19 +4,19 @@ use Rattle.pool_alloc.proofs.Imports.{RegionNumbers, length-set, nil_from_length
 use Rattle.pool_alloc.specs.declared.frame.Ending.TheVariants.{Granted as granted}
 use Rattle.pool_slots.specs.declared.errors.AllocError.TheVariants as refusal
 use Rattle.pool_slots.specs.declared.heap_list.HeapEntry.TheVariants as entry
-use Rattle.pool_alloc.specs.Bounds.{PoolSizes, sizes_of, flush_bound, objects_left}
+use Rattle.pool_alloc.specs.StepBounds.{PoolSizes, sizes_of, flush_bound, objects_left}
 use Rattle.pool_alloc.specs.HeapLeases.{LeasedHeap, heap_numbers}
 use Rattle.pool_alloc.specs.Leases.{Lease, first_index}
 use Rattle.pool_alloc.specs.Objects.{objects_in, objects_wanted}
-use Rattle.pool_alloc.specs.Own.{heap_refusal}
+use Rattle.pool_alloc.specs.MemorySteps.{heap_refusal}
 use Rattle.pool_alloc.specs.PartyTold.{PartyTold, MakesHeap}
 use Rattle.pool_alloc.specs.Places.{Thing, region_count, leased_count, tables_count, both_count, away_count, kept_count, counted_instance, counted_object, only}
 use Rattle.pool_alloc.specs.PoolTables.{IsTableLease}
 use Rattle.pool_alloc.specs.Refusals.{heap_refused}
-use Rattle.pool_alloc.specs.Rows.{heaps_tested, test_heap_row, validated, reserved, take_heap_on, heap_next, put_heap_on, make_heap_row, heap_granted, count_heap_row, uncount_heap_row, free_heap_on, in_heaps, in_shard, refused_at_once}
-use Rattle.pool_alloc.specs.Sound.{IsCore, IsHeapName, IsLeaseOf, IsEnabled, IsToGrant, IsNew}
-use Rattle.pool_alloc.specs.Stages.{Stage, asks, tests_heap, seeks_heap, progress_by, stage_by, IsUntested, IsHeapUntested, Goes, Progress, counts_heap, refusing}
-use Rattle.pool_alloc.specs.Steps.{memories_wanted, images_wanted, tables_wanted, heaps_wanted, kind_next, shard_at, with_shard, heaps_at, with_heaps, stacks_wanted}
+use Rattle.pool_alloc.specs.StepTable.{heaps_tested, test_heap_row, validated, reserved, take_heap_on, heap_next, put_heap_on, make_heap_row, heap_granted, count_heap_row, uncount_heap_row, free_heap_on, in_heaps, in_shard, refused_at_once}
+use Rattle.pool_alloc.specs.BetweenSteps.{IsCore, IsHeapName, IsLeaseOf, IsEnabled, IsToGrant, IsNew}
+use Rattle.pool_alloc.specs.CallStages.{Stage, asks, tests_heap, seeks_heap, progress_by, stage_by, IsUntested, IsHeapUntested, Goes, Progress, counts_heap, refusing}
+use Rattle.pool_alloc.specs.StepReads.{memories_wanted, images_wanted, tables_wanted, heaps_wanted, kind_next, shard_at, with_shard, heaps_at, with_heaps, stacks_wanted}
 use Rattle.pool_alloc.specs.Turns.{Row}
 use Rattle.pool_alloc.specs.declared.frame.Asked.{Asked}
 use Rattle.pool_alloc.specs.declared.frame.Asked.TheVariants.{Heap as heap_asked}
@@ -25,23 +25,23 @@ use Rattle.pool_alloc.specs.declared.frame.Frame.{Frame}
 use Rattle.pool_alloc.specs.declared.frame.Phase.{Phase}
 use Rattle.pool_alloc.specs.declared.frame.Phase.TheVariants.{Idle, TestHeap, Pick, TakeHeap, MakeHeap, CountHeap, PutNoHeap, FreeOne, UncountHeap, PutHeap, FreeHeap}
 use Rattle.pool_alloc.specs.declared.frame.TakenSlot.{TakenSlot}
-use Rattle.pool_alloc.specs.declared.lease.InstanceLease.{InstanceLease}
+use Rattle.pool_alloc.specs.declared.leases.instance.InstanceLease.{InstanceLease}
 use Rattle.pool_alloc.specs.declared.pool_core.PoolCore.{PoolCore}
-use Rattle.pool_alloc.proofs.AskingRows.{refused_ready}
+use Rattle.pool_alloc.proofs.BeforeTheTurn.{in_phase, held_of, returns_less, Kept, Ready, IsReadyRow, CountsNone, one_less, only_one, none_weighs}
 use Rattle.pool_alloc.proofs.CoreChanges.{core_with_heaps, core_with_shard, core_with_counters}
-use Rattle.pool_alloc.proofs.Frees.{freed_one}
-use Rattle.pool_alloc.proofs.Hands.{in_phase, held_of, returns_less, Kept, Ready, IsReadyRow, CountsNone, one_less, only_one, none_weighs}
 use Rattle.pool_alloc.proofs.HeapSlots.{heap_name, heap_inside, has_memory, IsHeapFor, heap_for, taken_is_home, no_heap_is_away, heap_back_is_away}
-use Rattle.pool_alloc.proofs.Held.{held_is_out}
 use Rattle.pool_alloc.proofs.KeptCounts.{away_shard, kept_shard, heap_leaves, heap_comes_back}
 use Rattle.pool_alloc.proofs.PlanPlaces.{IsShardPlace, home_place, allocator_is}
 use Rattle.pool_alloc.proofs.PoolParts.{place_of, shard_part, sound_shard}
 use Rattle.pool_alloc.proofs.QueueCounts.{leased_first}
-use Rattle.pool_alloc.proofs.RegionRows.{some_used}
+use Rattle.pool_alloc.proofs.RowsUntilASlot.{refused_ready}
+use Rattle.pool_alloc.proofs.RowsWithASlot.{some_used}
 use Rattle.pool_alloc.proofs.ShardFrees.{freed_shard, IsShardOf}
+use Rattle.pool_alloc.proofs.ShardsAfterFrees.{freed_one}
+use Rattle.pool_alloc.proofs.SharedByRows.{Can, kept_part, same_way, same_times}
 use Rattle.pool_alloc.proofs.SlotCounts.{slot_once}
-use Rattle.pool_alloc.proofs.Supporting.{heap_supported}
-use Rattle.pool_alloc.proofs.Ways.{Can, kept_part, same_way, same_times}
+use Rattle.pool_alloc.proofs.SlotsOfFrames.{held_is_out}
+use Rattle.pool_alloc.proofs.SupportedModules.{heap_supported}
 use Rattle.pool_alloc.proofs.Weights.{counted_fits}
 
 -- a call for a heap is one of those that count no instance, at its stage

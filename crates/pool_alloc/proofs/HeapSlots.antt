@@ -5,8 +5,8 @@ use Rattle.pool_alloc.specs.HeapLeases.{LeasedHeap}
 use Rattle.pool_alloc.specs.Leases.{Lease}
 use Rattle.pool_alloc.specs.Objects.{objects_in}
 use Rattle.pool_alloc.specs.Places.{right_to, region_of, frame_count}
-use Rattle.pool_alloc.specs.Sound.{HasCells, IsCore, FitsCore, IsHeapName, IsAllocating}
-use Rattle.pool_alloc.specs.Steps.{memories_wanted, heaps_wanted, heaps_at, kind_by, kind_next, IsHeapAsked}
+use Rattle.pool_alloc.specs.BetweenSteps.{HasCells, IsCore, FitsCore, IsHeapName, IsAllocating}
+use Rattle.pool_alloc.specs.StepReads.{memories_wanted, heaps_wanted, heaps_at, kind_by, kind_next, IsHeapAsked}
 use Rattle.pool_alloc.specs.declared.frame.Asked.{Asked}
 use Rattle.pool_alloc.specs.declared.frame.Asked.TheVariants.{Stack as stack_asked, Heap as heap_asked}
 use Rattle.pool_alloc.specs.declared.frame.Frame.{Frame}
@@ -15,9 +15,9 @@ use Rattle.pool_alloc.specs.declared.frame.Phase.TheVariants.{Idle, TakeHeap, Pu
 use Rattle.pool_alloc.specs.declared.frame.TakenSlot.{TakenSlot}
 use Rattle.pool_alloc.specs.declared.pool_core.PoolCore.{PoolCore}
 use Rattle.pool_alloc.specs.declared.pool_core.Settings.{Settings}
-use Rattle.pool_alloc.proofs.Hands.{CountsNone, in_phase}
-use Rattle.pool_alloc.proofs.Held.{IsHeapOut, unit_weight, unit_once, frame_regions, held_once, heap_is_home, heap_is_away}
+use Rattle.pool_alloc.proofs.BeforeTheTurn.{CountsNone, in_phase}
 use Rattle.pool_alloc.proofs.SlotCounts.{slot_once, slot_regions}
+use Rattle.pool_alloc.proofs.SlotsOfFrames.{IsHeapOut, unit_weight, unit_once, frame_regions, held_once, heap_is_home, heap_is_away}
 
 -- the name of a heap's slot
 pub heap_name : (plan : Plan) (name : SlotName) → IsHeapName plan name → name ≡ heap_slot name.slot

@@ -2,10 +2,10 @@
 use Rattle.std.proofs.Common.{Option, ◌≡◌, ℕ, ◌+◌, ◌<◌, ◌≤◌, true, false, List, length, refl, sym, ap, ◌∙◌, arith}
 use Rattle.pool_alloc.proofs.Imports.{total, element, total_at, MakerTold, shard_units, ShardState, Cell, is_taken, taken, CellState, cell_numbers, cell_emptied, cell_filled, cell_away, IsHere, IsOut, memory_of, heap_taken, heap_returned, heaps_away, heap_slot, HeapEntry, part_away, part_kept, StandsAs, IsAt, IsShardPart, part_at, cell_of_part, IsCellPart, Role, shard_role, cell_role, queue_role, heaps_role, role_at, cell_place, Queue, SlotName, PoolPart, away_once, read_at, away_parts, kept_parts, away_follows, kept_follows, heap_takes_count, heap_returns_count, takes_count, puts_count}
 use Rattle.pool_slots.specs.declared.part.PoolPart.TheVariants as part
+use Rattle.pool_alloc.specs.BetweenSteps.{IsPartFor, IsCore, IsSlotName}
 use Rattle.pool_alloc.specs.HeapLeases.{heap_numbers}
 use Rattle.pool_alloc.specs.Places.{Thing, right_to, region_of, region_count, queued_count, away_count, kept_count}
-use Rattle.pool_alloc.specs.Sound.{IsPartFor, IsCore, IsSlotName}
-use Rattle.pool_alloc.specs.Steps.{IsQueuePart, IsHeapsPart, shard_in, queue_in, heaps_in, shard_at, queue_at, heaps_at, with_shard, with_cell, with_queue, with_heaps, part_holding, cell_named}
+use Rattle.pool_alloc.specs.StepReads.{IsQueuePart, IsHeapsPart, shard_in, queue_in, heaps_in, shard_at, queue_at, heaps_at, with_shard, with_cell, with_queue, with_heaps, part_holding, cell_named}
 use Rattle.pool_alloc.specs.declared.pool_core.PoolCore.{PoolCore}
 use Rattle.pool_alloc.specs.declared.pool_core.Settings.{Settings}
 use Rattle.pool_alloc.proofs.PlanPlaces.{IsShardPlace, IsQueuePlace}

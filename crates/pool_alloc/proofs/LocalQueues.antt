@@ -3,10 +3,10 @@ use Rattle.std.proofs.Common.{◌≡◌, ℕ, ◌+◌, ◌^◌, ◌*◌, ◌<◌
 use Rattle.pool_alloc.proofs.Imports.{IsGivenBack, AllByRecursion, by_kind, all_by_kind, long_by_kind, one_by_kind, length-append, length-map, or_left, cases_Bool, All-nil, All-cons, All-append, All-same, length_all_zip, All-head, All-tail, MakerTold, DecommitBehavior, Zero, RestoreOriginalMapping, ByteRange, Slot, IsSlot, IsClean, IsPart, size_of, kept_bytes, left_ranges, reset_slot, decommitted_all, identity, kept_at_most, SlotName, QueuedRange, Queue, Queued, behind, is_of, empty_queue, AreDistinct, AreApart, LeavesClean, IsReset, IsLeftBy, holds, owner, with_slot, after_take, taken_into, drained, after_append, first_slot, after_run, CanBeZeroed, first_zeroed, is_to_zero, others_of_kind, same_kind, zeroed, zeroed_by, zeroed_slot, leaves_clean, queue_joined, owned_joined, slot_self, faulted_owned, SlotKind, stack_kind, QueueKind, slot_kind, can_zero, queue_popped, queue_zeroed, told_same}
 use Rattle.pool_alloc.specs.Leases.{memory_slot}
 use Rattle.pool_slots.specs.declared.queued_range.QueueKind.TheVariants.{Memory}
-use Rattle.pool_alloc.specs.Answers.{Decommits, Resets}
-use Rattle.pool_alloc.specs.Sound.{queue_room, IsSettings, IsShared, IsLocal, IsQueuedOf, MayBeRanged, MustBeByHand}
+use Rattle.pool_alloc.specs.PageCallAnswers.{Decommits, Resets}
+use Rattle.pool_alloc.specs.BetweenSteps.{queue_room, IsSettings, IsShared, IsLocal, IsQueuedOf, MayBeRanged, MustBeByHand}
 use Rattle.pool_alloc.specs.RangeRuns.{runs}
-use Rattle.pool_alloc.proofs.Runs.{one_run, no_runs, grouped_joined, grouped_decommitted}
+use Rattle.pool_alloc.proofs.RangeRuns.{one_run, no_runs, grouped_joined, grouped_decommitted}
 use Rattle.pool_alloc.specs.declared.frame.TakenSlot.{TakenSlot}
 use Rattle.pool_alloc.specs.declared.pool_core.Settings.{Settings}
 use Rattle.pool_alloc.proofs.SlotIdentity.{IsOneSlot, first_ranged, queued_of_one, queued_after_run, length_after_run, queued_faulted}

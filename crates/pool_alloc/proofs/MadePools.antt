@@ -3,9 +3,9 @@ use Rattle.std.proofs.Common.{◌≡◌, ℕ, zero, suc, ◌+◌, ◌*◌, ◌^�
 use Rattle.pool_alloc.proofs.Imports.{IsGivenBack, length-replicate, none_at_first, div_ceil, AllByRecursion, range_with_len, div_ceil_times, All-nil, SlotKind, memory_kind, table_kind, stack_kind, heap_kind, UnitName, count, rounded_up, IsPageSize, IsWithinLimits, MakerTold, slab_stripes, IsWithinRules, PoolingAllocationConfig, Tunables, Offered, rounded_within, rounded_leaves, rounded_is_whole, rounded_same, used_units, ShardState, MemoryInModule, all_away, all_kept, coloured_region, part_away, part_kept, part_at, AreMadeTo, IsCellMade, IsMadeAs, queue_made, shard_made, Role, shard_role, cell_role, queue_role, heaps_role, no_role, role_at, IsPlacedAllocator, places_planned, empty_queue, divided, stripe_allocator, IsStripedPlanOf, PoolPart, PartSettings, Allocator, Plan, OfKinds, StripedPlanSettings, each_both, made_shard_of, allocators_placed, planned}
 use Rattle.pool_slots.specs.declared.heap_list.HeapEntry.TheVariants as entry
 use Rattle.pool_slots.specs.declared.part.PoolPart.TheVariants as part
+use Rattle.pool_alloc.specs.BetweenSteps.{queue_room, IsSettings, IsShared, IsQueuedOf, MayBeRanged, IsCore, IsPartFor, IsStripe, IsPoolPlan}
 use Rattle.pool_alloc.specs.Made.{settings_of, plan_settings, part_settings, IsMadeCore}
-use Rattle.pool_alloc.specs.Sound.{queue_room, IsSettings, IsShared, IsQueuedOf, MayBeRanged, IsCore, IsPartFor, IsStripe, IsPoolPlan}
-use Rattle.pool_alloc.specs.Whole.{IsUntouched}
+use Rattle.pool_alloc.specs.PoolAndHolders.{IsUntouched}
 use Rattle.pool_alloc.specs.declared.pool_core.PoolCore.{PoolCore}
 use Rattle.pool_alloc.specs.declared.pool_core.Settings.{Settings}
 use Rattle.pool_alloc.proofs.Striping.{few_stripes, some_stripes, some_times, within_slots}

@@ -5,11 +5,11 @@ use Rattle.pool_alloc.specs.CanStep.{CanFlush, CanPurge, CanRelease, CanStepAt, 
 use Rattle.pool_alloc.specs.OnCounters.{CanStepCounted}
 use Rattle.pool_alloc.specs.OnParts.{CanFlushOn, CanPurgeOn, CanPutOn, CanReleaseOn, CanStepOn}
 use Rattle.pool_alloc.specs.Purges.{has_turns, purged_stripe}
-use Rattle.pool_alloc.specs.Rows.{FlushStep, run, zero, put, free, flush_step}
+use Rattle.pool_alloc.specs.StepTable.{FlushStep, run, zero, put, free, flush_step}
 use Rattle.pool_alloc.specs.StepsAlone.{CanFlushAlone, CanPurgeAlone, CanReleaseAlone, CanStepAlone}
 use Rattle.pool_alloc.specs.Targets.{CanCountUp, CanFindFlush, CanFindPurge, CanFindRelease, CanFindTarget, flush_target, next_target, number_at, purge_target, put_target, release_target}
-use Rattle.pool_alloc.specs.declared.counting.CounterName.{CounterName}
-use Rattle.pool_alloc.specs.declared.counting.CounterName.TheVariants as counter
+use Rattle.pool_alloc.specs.declared.counters.CounterName.{CounterName}
+use Rattle.pool_alloc.specs.declared.counters.CounterName.TheVariants as counter
 use Rattle.pool_alloc.specs.declared.frame.Frame.{Frame}
 use Rattle.pool_alloc.specs.declared.frame.FreedSlot.{FreedSlot}
 use Rattle.pool_alloc.specs.declared.frame.Object.TheVariants.{Memory, Table, Stack}
@@ -22,8 +22,8 @@ use Rattle.pool_alloc.specs.declared.purge.PurgeStep.{PurgeStep}
 use Rattle.pool_alloc.specs.declared.purge.PurgeStep.TheVariants as purging_step
 use Rattle.pool_alloc.specs.declared.release.ReleaseStep.{ReleaseStep}
 use Rattle.pool_alloc.specs.declared.release.ReleaseStep.TheVariants as releasing_step
-use Rattle.pool_alloc.specs.declared.targets.Target.{Target}
-use Rattle.pool_alloc.specs.declared.targets.Target.TheVariants.{Part, Up, Down, Alone}
+use Rattle.pool_alloc.specs.declared.step.targets.Target.{Target}
+use Rattle.pool_alloc.specs.declared.step.targets.Target.TheVariants.{Part, Up, Down, Alone}
 use Rattle.pool_alloc.proofs.FlushFinds.{Finds, finds}
 
 -- Targets of one kind are the same only with the same place or counter, and of different kinds never.

@@ -5,21 +5,21 @@ use Rattle.pool_alloc.specs.HeapLeases.{LeasedHeap}
 use Rattle.pool_alloc.specs.Leases.{Lease}
 use Rattle.pool_alloc.specs.OnCounters.{CanStepCounted, component_found, counted_on, heap_found, instance_found}
 use Rattle.pool_alloc.specs.PartyTold.{PartyTold}
-use Rattle.pool_alloc.specs.Rows.{component_counted, counted, heap_granted, row_of}
+use Rattle.pool_alloc.specs.StepTable.{component_counted, counted, heap_granted, row_of}
 use Rattle.pool_alloc.specs.Stepping.{StepsAsking}
 use Rattle.pool_alloc.specs.Targets.{counted_up, counting, next_target, number_at}
 use Rattle.pool_alloc.specs.Turns.{After, Left, finished, left_by, resting, stepped}
-use Rattle.pool_alloc.specs.declared.counting.CounterName.{CounterName}
-use Rattle.pool_alloc.specs.declared.counting.CounterName.TheVariants as counter
+use Rattle.pool_alloc.specs.declared.counters.CounterName.{CounterName}
+use Rattle.pool_alloc.specs.declared.counters.CounterName.TheVariants as counter
 use Rattle.pool_alloc.specs.declared.frame.Frame.{Frame}
 use Rattle.pool_alloc.specs.declared.frame.Object.TheVariants.{Memory, Table, Stack}
 use Rattle.pool_alloc.specs.declared.frame.Outcome.{Outcome}
 use Rattle.pool_alloc.specs.declared.frame.Phase.{Phase}
 use Rattle.pool_alloc.specs.declared.frame.Phase.TheVariants.{Idle, Key, CountInstance, CountObject, CountHeap, UncountObject, UncountHeap, Flush, UncountInstance, CountComponent, UncountComponent, Purge, Release}
 use Rattle.pool_alloc.specs.declared.pool_core.PoolCore.{PoolCore}
-use Rattle.pool_alloc.specs.declared.targets.Target.TheVariants.{Up, Down}
-use Rattle.pool_alloc.proofs.Advancing.{quiet, nothing_told}
+use Rattle.pool_alloc.specs.declared.step.targets.Target.TheVariants.{Up, Down}
 use Rattle.pool_alloc.proofs.NextTargets.{no_down, no_up, same_down, same_up}
+use Rattle.pool_alloc.proofs.StepsAsRows.{quiet, nothing_told}
 
 module _ {P H : Type 0} where
   -- The row on the pool is that on the number, with what is left at the counter.

@@ -1,13 +1,13 @@
 -- A step on the part that it changes is the step table's row on the pool that has the part at its place.
 use Rattle.std.proofs.Common.{◌≡◌, ◌∙◌, ℕ, ◌+◌, Bool, List, refl, sym, ap, subst, Option, Some, None}
 use Rattle.pool_alloc.proofs.Imports.{Exchange, Exchanged, PoolPart, Plan, Queue, Queued, first_of_kind, others_of_kind, part_at}
-use Rattle.pool_alloc.specs.Answers.{FlushTold, FlushPlanned, PurgeTold, PurgePlanned, ReleaseTold, ReleasePlanned}
+use Rattle.pool_alloc.specs.PageCallAnswers.{FlushTold, FlushPlanned, PurgeTold, PurgePlanned, ReleaseTold, ReleasePlanned}
 use Rattle.pool_alloc.specs.Targets.{next_target, flush_target, put_target, purge_target, release_target}
 use Rattle.pool_alloc.specs.OnParts.{flush_on, put_on, row_on}
 use Rattle.pool_alloc.specs.PartyTold.{PartyTold}
 use Rattle.pool_alloc.specs.Purges.{has_turns, purged_stripe, pick_affine_row}
-use Rattle.pool_alloc.specs.Rows.{FlushStep, run, zero, put, free, flush_step, put_first, flush_row, row_of}
-use Rattle.pool_alloc.specs.Steps.{StepGiven, with_part}
+use Rattle.pool_alloc.specs.StepTable.{FlushStep, run, zero, put, free, flush_step, put_first, flush_row, row_of}
+use Rattle.pool_alloc.specs.StepReads.{StepGiven, with_part}
 use Rattle.pool_alloc.specs.Stepping.{StepsAsking}
 use Rattle.pool_alloc.specs.Turns.{Row, PartAfter, After, part_after, lifted, stepped, resting}
 use Rattle.pool_alloc.specs.declared.frame.Frame.{Frame}
@@ -22,9 +22,9 @@ use Rattle.pool_alloc.specs.declared.purge.PurgeStep.{PurgeStep}
 use Rattle.pool_alloc.specs.declared.purge.PurgeStep.TheVariants as purging_step
 use Rattle.pool_alloc.specs.declared.release.ReleaseStep.{ReleaseStep}
 use Rattle.pool_alloc.specs.declared.release.ReleaseStep.TheVariants as releasing_step
-use Rattle.pool_alloc.specs.declared.targets.Target.TheVariants.{Part, Alone}
-use Rattle.pool_alloc.proofs.Advancing.{quiet, nothing_told}
+use Rattle.pool_alloc.specs.declared.step.targets.Target.TheVariants.{Part, Alone}
 use Rattle.pool_alloc.proofs.NextTargets.{no_part, picked, same_place}
+use Rattle.pool_alloc.proofs.StepsAsRows.{quiet, nothing_told}
 
 -- Such a step is told nothing, and asks nobody.
 purge_told : {P : Type 0} (H : Type 0) (s : Settings) (plan : Plan) (p : ℕ) (cursor : PurgeCursor) (step : PurgeStep P) → purge_target s plan cursor step ≡ Part p → PurgeTold (nothing_told {H = H}) step × PurgePlanned (nothing_told {H = H}) step

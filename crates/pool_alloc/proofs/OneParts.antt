@@ -6,8 +6,8 @@ use Rattle.pool_alloc.specs.Refusals.{heap_refused}
 use Rattle.pool_alloc.specs.PartyTold.{PartyTold}
 use Rattle.pool_alloc.specs.Leases.{Lease}
 use Rattle.pool_alloc.specs.TableLeases.{LeasedTable}
-use Rattle.pool_alloc.specs.Rows.{stacks_tested, FlushStep, run, zero, put, free, flush_step, merged, in_queue, reserved, validated, counted, paged, was_made, was_made_table, was_reset, put_first, flush_row, row_of, component_tested, component_counted, heaps_tested, make_heap_row, heap_granted}
-use Rattle.pool_alloc.specs.Steps.{StepGiven, queue_at, queue_tried, with_shard, with_cell, with_queue, with_heaps, counting_keys, counting_instances, counting_components, counting_memories, counting_tables, counting_stacks, counting_heaps}
+use Rattle.pool_alloc.specs.StepTable.{stacks_tested, FlushStep, run, zero, put, free, flush_step, merged, in_queue, reserved, validated, counted, paged, was_made, was_made_table, was_reset, put_first, flush_row, row_of, component_tested, component_counted, heaps_tested, make_heap_row, heap_granted}
+use Rattle.pool_alloc.specs.StepReads.{StepGiven, queue_at, queue_tried, with_shard, with_cell, with_queue, with_heaps, counting_keys, counting_instances, counting_components, counting_memories, counting_tables, counting_stacks, counting_heaps}
 use Rattle.pool_alloc.specs.Stepping.{StepsTo, ChangesOnePart}
 use Rattle.pool_alloc.specs.Turns.{After}
 use Rattle.pool_alloc.specs.declared.pool_core.PoolCore.{PoolCore}

@@ -2,12 +2,12 @@
 use Rattle.std.proofs.Common.{◌≡◌, ℕ, Bool, true, false, Option, None, Some, refl, sym, ap, ◌∙◌, subst, cond}
 use Rattle.pool_alloc.proofs.Imports.{IsAwaited, IsRegionOf, MakerTold, Slot, SlotIdentity, SlotKind, SlotName, memory_kind, table_kind, stack_kind, heap_kind, Cell, is_taken, unmapped, unknown, previously_used, taken, Queued, RegionNumbers, Told, coloured, count, rounded_up, made_region, stripe_colour}
 use Rattle.pool_pages.specs.declared.pages.RegionName.TheVariants as of_region
-use Rattle.pool_alloc.specs.Sound.{HasCells, HasRegion, IsCore, IsPoolSlot, IsQueuedOf, MayHold, MayQueue, memory_region}
-use Rattle.pool_alloc.specs.Steps.{cell_named, cell_returned, returned_as}
+use Rattle.pool_alloc.specs.BetweenSteps.{HasCells, HasRegion, IsCore, IsPoolSlot, IsQueuedOf, MayHold, MayQueue, memory_region}
+use Rattle.pool_alloc.specs.StepReads.{cell_named, cell_returned, returned_as}
 use Rattle.pool_alloc.specs.declared.pool_core.PoolCore.{PoolCore}
 use Rattle.pool_alloc.specs.declared.pool_core.Settings.{Settings}
-use Rattle.pool_alloc.proofs.Held.{HasGone}
 use Rattle.pool_alloc.proofs.PoolParts.{sound_cell}
+use Rattle.pool_alloc.proofs.SlotsOfFrames.{HasGone}
 
 coloured_name : (colour : Option ℕ) (start len : ℕ) (t : Told) → (coloured colour start len t).name ≡ t.name
 coloured_name None start len t = refl

@@ -2,14 +2,14 @@
 use Rattle.std.proofs.Common.{◌≡◌, ℕ, ◌+◌, ◌≤◌, true, false, arith}
 use Rattle.pool_alloc.proofs.Imports.{MakerTold, is_used, is_taken, home_of, RegionNumbers, SlotName}
 use Rattle.pool_alloc.specs.Places.{right_to, region_of, phase_count, frame_count}
-use Rattle.pool_alloc.specs.Sound.{HasCells, IsCore, FitsCore}
-use Rattle.pool_alloc.specs.Steps.{shard_at, cell_named}
+use Rattle.pool_alloc.specs.BetweenSteps.{HasCells, IsCore, FitsCore}
+use Rattle.pool_alloc.specs.StepReads.{shard_at, cell_named}
 use Rattle.pool_alloc.specs.declared.pool_core.PoolCore.{PoolCore}
 use Rattle.pool_alloc.specs.declared.frame.Frame.{Frame}
 use Rattle.pool_alloc.specs.declared.frame.Phase.{Phase}
 use Rattle.pool_alloc.specs.declared.frame.Phase.TheVariants.{Idle}
-use Rattle.pool_alloc.proofs.Hands.{in_phase}
-use Rattle.pool_alloc.proofs.Held.{HasGone, IsOut, unit_weight, frame_regions, held_once, held_is_out, region_is_home, region_is_away}
+use Rattle.pool_alloc.proofs.BeforeTheTurn.{in_phase}
+use Rattle.pool_alloc.proofs.SlotsOfFrames.{HasGone, IsOut, unit_weight, frame_regions, held_once, held_is_out, region_is_home, region_is_away}
 
 module _ {P H : Type 0} (maker : MakerTold) (p : Phase P H) (name : SlotName) (c : PoolCore P H) (f : Frame P H) (core : IsCore maker c) (fits : FitsCore c (in_phase p f)) where
   -- A slot is one of the pool, and used in its shard.

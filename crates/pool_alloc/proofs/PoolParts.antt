@@ -2,8 +2,8 @@
 use Rattle.std.proofs.Common.{◌≡◌, ℕ, ◌+◌, ◌*◌, ◌<◌, length, ap, subst, ◌∙◌, arith}
 use Rattle.pool_alloc.proofs.Imports.{get_or-set_same, get_or-set_other, MakerTold, ShardState, IsShard, slot_number, IsShardOf, IsAt, IsShardPart, part_at, cell_of_part, IsCellPart, Role, shard_role, cell_role, queue_role, heaps_role, role_at, number_at, home_of, cell_place, of_kind, PoolPart, Allocator, Plan, SlotName, CellState}
 use Rattle.pool_slots.specs.declared.part.PoolPart.TheVariants as part
-use Rattle.pool_alloc.specs.Sound.{IsShared, IsPartFor, IsCore, IsSlotName, IsCellOf}
-use Rattle.pool_alloc.specs.Steps.{IsQueuePart, IsHeapsPart, shard_in, queue_in, heaps_in, shard_at, queue_at, heaps_at, with_part, part_holding, cell_named}
+use Rattle.pool_alloc.specs.BetweenSteps.{IsShared, IsPartFor, IsCore, IsSlotName, IsCellOf}
+use Rattle.pool_alloc.specs.StepReads.{IsQueuePart, IsHeapsPart, shard_in, queue_in, heaps_in, shard_at, queue_at, heaps_at, with_part, part_holding, cell_named}
 use Rattle.pool_alloc.specs.declared.pool_core.PoolCore.{PoolCore}
 use Rattle.pool_alloc.specs.declared.pool_core.Settings.{Settings}
 use Rattle.pool_alloc.proofs.PlanPlaces.{IsShardPlace, IsQueuePlace, IsSlotAt, shard_inside, queue_inside, cell_inside, cell_role_at, heaps_place, heaps_inside, at_home, slot_at}

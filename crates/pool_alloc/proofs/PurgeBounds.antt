@@ -1,15 +1,15 @@
 -- Where a purge goes on, it may pick there, and fewer steps are left.
 use Rattle.std.proofs.Common.{◌≡◌, ℕ, zero, suc, ◌+◌, ◌*◌, ◌-◌, ◌<◌, ◌≤◌, Bool, true, false, List, [], ◌∷◌, length, refl, sym, ap, ◌∙◌, arith, Option, Some, None, get_or, ◌⊎◌, inl, inr, IfSome, drop, if◌then◌else◌, nat_lt, sum_by}
 use Rattle.pool_alloc.proofs.Imports.{ltb-true, ltb-false, and_parts, sum_by-cons, each_at, Allocator, Plan}
-use Rattle.pool_alloc.specs.Bounds.{PoolSizes, sizes_of, turns_bound, purge_bound, memories_left, turns_left}
+use Rattle.pool_alloc.specs.BetweenSteps.{IsPoolPlan, IsPurging, IsFirstPick, IsPicking}
 use Rattle.pool_alloc.specs.Purges.{has_turns, behind_stripe, behind_memory, behind_turn, purged_stripe}
-use Rattle.pool_alloc.specs.Sound.{IsPoolPlan, IsPurging, IsFirstPick, IsPicking}
-use Rattle.pool_alloc.specs.Steps.{no_allocator, stripe_allocator}
+use Rattle.pool_alloc.specs.StepBounds.{PoolSizes, sizes_of, turns_bound, purge_bound, memories_left, turns_left}
+use Rattle.pool_alloc.specs.StepReads.{no_allocator, stripe_allocator}
 use Rattle.pool_alloc.specs.declared.pool_core.Settings.{Settings}
 use Rattle.pool_alloc.specs.declared.purge.PurgeCursor.{PurgeCursor}
-use Rattle.pool_alloc.proofs.Hands.{one_more}
+use Rattle.pool_alloc.proofs.BeforeTheTurn.{one_more}
 use Rattle.pool_alloc.proofs.PlanPlaces.{stripe_is}
-use Rattle.pool_alloc.proofs.Ways.{same_times}
+use Rattle.pool_alloc.proofs.SharedByRows.{same_times}
 
 -- a sum over the elements from a place on
 pub drop_sum : {X : Type 0} (g : X → ℕ) (xs : List X) (k : ℕ) (d : X) → k < length xs → sum_by g (drop k xs) ≡ g (get_or xs k d) + sum_by g (drop (k + 1) xs)

@@ -2,13 +2,13 @@
 use Rattle.std.proofs.Common.{◌≡◌, ℕ, ◌+◌, ◌*◌, ◌-◌, ◌<◌, ◌≤◌, Bool, true, false, length, refl, sym, ap, subst, ◌∙◌, arith, Option, Some, None, inr, IfSome, nat_lt}
 use Rattle.pool_alloc.proofs.Imports.{told_weaker, of_kind, ltb-true, lt-ltb, and_parts, true≢false, MakerTold, PageCall, remapping, Slot, IsClean, forgotten, called, without_mapped, ImageName, same_called, pick_unit, SlotKind, memory_kind, ShardState, affine_answer, after_affine_pick, after_free, slot_number, SlotId, Cell, is_taken, unmapped, unknown, previously_used, taken, cell_of, home_of, CellState, cell_emptied, cell_filled, ImageSlot, Unmapped, Unknown, PreviouslyUsed, Taken, Allocator, Plan, SlotName}
 use Rattle.pool_alloc.specs.PartyTold.{PartyTold}
-use Rattle.pool_alloc.specs.Answers.{Forgets, PurgeTold, RemovesImage}
-use Rattle.pool_alloc.specs.Bounds.{PoolSizes, sizes_of, memories_left, turns_left, purge_left}
+use Rattle.pool_alloc.specs.PageCallAnswers.{Forgets, PurgeTold, RemovesImage}
+use Rattle.pool_alloc.specs.StepBounds.{PoolSizes, sizes_of, memories_left, turns_left, purge_left}
 use Rattle.pool_alloc.specs.Leases.{memory_slot}
 use Rattle.pool_alloc.specs.Places.{Thing, slot_count, region_count}
 use Rattle.pool_alloc.specs.Purges.{has_turns, purged_memory, purged_stripe, behind_memory, behind_turn, image_in, after_forgetting, known_after, purge_to, affine_picked, pick_affine_row, take_affine_on, put_affine_on, free_affine_on, purge_row}
-use Rattle.pool_alloc.specs.Sound.{IsAtRest, IsSlotName, IsPurging, IsPicking, MayHold, HasRegion, IsPoolSlot}
-use Rattle.pool_alloc.specs.Steps.{StepGiven, shard_at, cell_named, with_shard, with_cell}
+use Rattle.pool_alloc.specs.BetweenSteps.{IsAtRest, IsSlotName, IsPurging, IsPicking, MayHold, HasRegion, IsPoolSlot}
+use Rattle.pool_alloc.specs.StepReads.{StepGiven, shard_at, cell_named, with_shard, with_cell}
 use Rattle.pool_alloc.specs.Turns.{goes, Row, lifted}
 use Rattle.pool_alloc.specs.declared.frame.Frame.{Frame}
 use Rattle.pool_alloc.specs.declared.frame.Outcome.TheVariants as answer
@@ -21,20 +21,20 @@ use Rattle.pool_alloc.specs.declared.purge.PurgeCursor.{PurgeCursor}
 use Rattle.pool_alloc.specs.declared.purge.PurgeStep.{PurgeStep}
 use Rattle.pool_alloc.specs.declared.purge.PurgeStep.TheVariants.{Pick, TakeRegion, Forget, PutRegion, Free}
 use Rattle.pool_alloc.proofs.AffinePicks.{affine_count, affine_sound, affine_same, affine_inside, affine_counts}
+use Rattle.pool_alloc.proofs.BeforeTheTurn.{Hand, in_phase, held_of, one_more, Even, Kept, Ready, IsReadyRow, either_ready}
 use Rattle.pool_alloc.proofs.CoreChanges.{core_with_shard, core_with_cell}
-use Rattle.pool_alloc.proofs.Frees.{freed_one}
-use Rattle.pool_alloc.proofs.Hands.{Hand, in_phase, held_of, one_more, Even, Kept, Ready, IsReadyRow, either_ready}
-use Rattle.pool_alloc.proofs.Held.{unit_once}
 use Rattle.pool_alloc.proofs.KeptCounts.{kept_shard, away_shard, region_leaves, region_returns}
 use Rattle.pool_alloc.proofs.PhaseSlots.{phase_out, phase_home, phase_gone}
 use Rattle.pool_alloc.proofs.PlanPlaces.{IsShardPlace, home_place, stripe_role, stripe_holds, allocator_most}
 use Rattle.pool_alloc.proofs.PoolParts.{planned_shard, sound_shard, sound_cell, shard_part, place_of, slot_of_shard}
 use Rattle.pool_alloc.proofs.PurgeBounds.{picks_of, picking_of, memory_goes, turn_goes}
-use Rattle.pool_alloc.proofs.RegionRows.{emptied_holds, one_emptied, clean_emptied, some_used}
+use Rattle.pool_alloc.proofs.RowsWithASlot.{emptied_holds, one_emptied, clean_emptied, some_used}
 use Rattle.pool_alloc.proofs.ShardFrees.{IsShardOf, freed_shard}
+use Rattle.pool_alloc.proofs.ShardsAfterFrees.{freed_one}
+use Rattle.pool_alloc.proofs.SharedByRows.{Can, kept_part}
 use Rattle.pool_alloc.proofs.SlotCounts.{slot_once, slot_regions}
 use Rattle.pool_alloc.proofs.SlotIdentity.{IsOneSlot, one_coloured, slot_of_one}
-use Rattle.pool_alloc.proofs.Ways.{Can, kept_part}
+use Rattle.pool_alloc.proofs.SlotsOfFrames.{unit_once}
 
 -- nothing in hand
 abbrev pub nothing_held : Hand

@@ -1,9 +1,9 @@
 -- Which slots of a release are decommitted next, and how many steps that leaves.
 use Rattle.std.proofs.Common.{◌≡◌, ℕ, zero, suc, ◌+◌, ◌*◌, ◌-◌, ◌<◌, ◌≤◌, Bool, true, false, List, [], ◌∷◌, length, refl, sym, ap, ◌∙◌, arith, get_or, ◌==◌, not, drop, if◌then◌else◌, nat_lt, sum_by, min}
 use Rattle.pool_alloc.proofs.Imports.{sum_by-cons, one_if, Allocator, slots_at}
-use Rattle.pool_alloc.specs.Bounds.{residents}
+use Rattle.pool_alloc.specs.BetweenSteps.{slots_left}
 use Rattle.pool_alloc.specs.Releases.{not_resident}
-use Rattle.pool_alloc.specs.Sound.{slots_left}
+use Rattle.pool_alloc.specs.StepBounds.{residents}
 use Rattle.pool_alloc.specs.declared.frame.FreedSlot.{FreedSlot}
 use Rattle.pool_alloc.proofs.PurgeBounds.{drop_sum}
 

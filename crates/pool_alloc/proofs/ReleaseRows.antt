@@ -2,14 +2,14 @@
 use Rattle.std.proofs.Common.{◌≡◌, ℕ, ◌+◌, ◌*◌, ◌-◌, ◌<◌, ◌≤◌, Bool, true, false, List, [], ◌∷◌, ◌++◌, length, refl, sym, ap, subst, ◌∙◌, arith, All, get_or, Some, None, nat_lt, if◌then◌else◌, drop, remove}
 use Rattle.pool_alloc.proofs.Imports.{ltb-true, true≢false, length-append, sum_by-append, sum_by-remove, All-nil, All-append, All-head, All-tail, All-get_or, MakerTold, decommitting, Slot, same_called, same_faulted, SlotKind, memory_kind, ShardState, after_take_warm, after_free, taken_slots, Cell, unknown, previously_used, cell_of, home_of, CellState, cell_emptied, cell_filled, ImageSlot, Unmapped, Unknown, PreviouslyUsed, Taken, Allocator, Plan, SlotName}
 use Rattle.pool_alloc.specs.PartyTold.{PartyTold}
-use Rattle.pool_alloc.specs.Answers.{DecommitsWhole, Drains, ReleaseTold}
-use Rattle.pool_alloc.specs.Bounds.{PoolSizes, sizes_of, stripe_bound, stripes_left, drains_left, release_left}
+use Rattle.pool_alloc.specs.PageCallAnswers.{DecommitsWhole, Drains, ReleaseTold}
+use Rattle.pool_alloc.specs.StepBounds.{PoolSizes, sizes_of, stripe_bound, stripes_left, drains_left, release_left}
 use Rattle.pool_alloc.specs.Leases.{memory_slot}
 use Rattle.pool_alloc.specs.Places.{Thing, right_to, slot_count, region_count, freed_count}
 use Rattle.pool_alloc.specs.Releases.{slots_in, release_begun, released_stripe, slots_outside, taking, nth_taken, not_resident, bytes_kept, releasing, behind_stripe, free_first, drain_from, reserve_row, take_warm_on, take_resident_on, after_decommit, put_resident_on, free_taken_on, release_row}
-use Rattle.pool_alloc.specs.Sound.{IsAtRest, IsPoolPlan, IsReleaseAt, IsSlotName, IsFreedOf, IsReleasing, MayHold, HasRegion, IsPoolSlot, slots_left}
-use Rattle.pool_alloc.specs.Stages.{Stage, no_call, stage_of_release, releasing as releasing_stage, Goes}
-use Rattle.pool_alloc.specs.Steps.{StepGiven, no_allocator, shard_at, cell_named, with_shard, with_cell}
+use Rattle.pool_alloc.specs.BetweenSteps.{IsAtRest, IsPoolPlan, IsReleaseAt, IsSlotName, IsFreedOf, IsReleasing, MayHold, HasRegion, IsPoolSlot, slots_left}
+use Rattle.pool_alloc.specs.CallStages.{Stage, no_call, stage_of_release, releasing as releasing_stage, Goes}
+use Rattle.pool_alloc.specs.StepReads.{StepGiven, no_allocator, shard_at, cell_named, with_shard, with_cell}
 use Rattle.pool_alloc.specs.Turns.{goes, ends, Row, lifted}
 use Rattle.pool_alloc.specs.declared.frame.Frame.{Frame}
 use Rattle.pool_alloc.specs.declared.frame.FreedSlot.{FreedSlot}
@@ -22,10 +22,8 @@ use Rattle.pool_alloc.specs.declared.pool_core.Settings.{Settings}
 use Rattle.pool_alloc.specs.declared.release.ReleaseCursor.{ReleaseCursor}
 use Rattle.pool_alloc.specs.declared.release.ReleaseStep.{ReleaseStep}
 use Rattle.pool_alloc.specs.declared.release.ReleaseStep.TheVariants.{Reserve, TakeWarm, TakeRegion, Decommit, PutRegion, Free}
+use Rattle.pool_alloc.proofs.BeforeTheTurn.{Hand, in_phase, held_of, Even, Kept, Ready, IsReadyRow, either_ready}
 use Rattle.pool_alloc.proofs.CoreChanges.{core_with_shard, core_with_cell}
-use Rattle.pool_alloc.proofs.Frees.{freed_one}
-use Rattle.pool_alloc.proofs.Hands.{Hand, in_phase, held_of, Even, Kept, Ready, IsReadyRow, either_ready}
-use Rattle.pool_alloc.proofs.Held.{unit_once}
 use Rattle.pool_alloc.proofs.KeptCounts.{kept_shard, away_shard, region_leaves, region_returns}
 use Rattle.pool_alloc.proofs.PhaseSlots.{phase_out, phase_home, phase_gone}
 use Rattle.pool_alloc.proofs.PlanPlaces.{IsShardPlace, home_place, stripe_is, stripe_role, stripe_holds, allocator_most}
@@ -33,13 +31,15 @@ use Rattle.pool_alloc.proofs.PoolParts.{planned_shard, sound_shard, sound_cell, 
 use Rattle.pool_alloc.proofs.PurgeBounds.{drop_sum}
 use Rattle.pool_alloc.proofs.PurgeRows.{held_in}
 use Rattle.pool_alloc.proofs.QueueCounts.{freed_first, freed_regions}
-use Rattle.pool_alloc.proofs.RegionRows.{emptied_holds, some_used}
 use Rattle.pool_alloc.proofs.ReleaseBounds.{residents_few, one_drained, slots_next, slots_first}
+use Rattle.pool_alloc.proofs.RowsWithASlot.{emptied_holds, some_used}
 use Rattle.pool_alloc.proofs.ShardFrees.{IsShardOf, freed_shard}
+use Rattle.pool_alloc.proofs.ShardsAfterFrees.{freed_one}
+use Rattle.pool_alloc.proofs.SharedByRows.{Can, kept_part}
 use Rattle.pool_alloc.proofs.SlotCounts.{slot_once}
 use Rattle.pool_alloc.proofs.SlotIdentity.{IsOneSlot, slot_of_one}
+use Rattle.pool_alloc.proofs.SlotsOfFrames.{unit_once}
 use Rattle.pool_alloc.proofs.WarmTakes.{warm_sound, warm_same, warm_few, outside_long, warm_counts, outside_kinds, warm_of_pool}
-use Rattle.pool_alloc.proofs.Ways.{Can, kept_part}
 
 -- these slots in hand
 abbrev holding : List FreedSlot → Hand

@@ -1,7 +1,7 @@
 -- The rows of a give-back, and of a flush.
 use Rattle.std.proofs.Common.{map, ◌≡◌, ℕ, ◌+◌, ◌-◌, ◌%◌, ◌^◌, ◌<◌, ◌≤◌, Bool, true, false, List, [], ◌∷◌, ◌++◌, length, refl, sym, ap, subst, ◌∙◌, arith, All, inl, Option, None, Some, ◌==◌, ◌||◌, ◌&&◌, not, nat_le, nat_lt, filter, if◌then◌else◌, IfSome, ◌*◌}
 use Rattle.pool_alloc.proofs.Imports.{of_kind, long_by_kind, Plan, leb-false, or_parts, length_push, length-append, All-head, All-nil, All-push, All-filter, All-weaker, All-tail, length-filter_both, MakerTold, DecommitBehavior, Zero, RestoreOriginalMapping, Slot, forgotten, left_ranges, reset_slot, ByteRange, ShardState, image_slot_of, CellState, cell_filled, Queue, Queued, LeavesClean, empty_queue, taken_into, drained, after_append, IsSettled, first_of_kind, first_zeroed, is_to_zero, others_of_kind, plain_slot, SlotKind, memory_kind, home_of, cell_place, AllByRecursion, list_any, SlotName, Told, StackState, above_bottom, stack_kept, stack_ranges, stack_zeroed, stack_item, leaves_clean, first_settled, zeroed_long, table_kind, stack_kind}
-use Rattle.pool_alloc.proofs.Below.{queued_cells}
+use Rattle.pool_alloc.proofs.SumsBelow.{queued_cells}
 use Rattle.pool_alloc.proofs.PlanPlaces.{IsShardPlace, IsQueuePlace, apart_places, queue_no_cell, tried_is_queue}
 use Rattle.pool_alloc.specs.PartyTold.{PartyTold}
 use Rattle.pool_alloc.specs.declared.pool_core.PoolCore.{PoolCore}
@@ -9,36 +9,36 @@ use Rattle.pool_alloc.specs.declared.frame.Frame.{Frame}
 use Rattle.pool_alloc.specs.declared.frame.FreedSlot.{FreedSlot}
 use Rattle.pool_alloc.specs.declared.frame.Phase.{Phase}
 use Rattle.pool_alloc.specs.declared.frame.Phase.TheVariants.{Idle, UncountObject, Reset, Merge, Flush, UncountInstance}
-use Rattle.pool_alloc.specs.Answers.{Decommits, Resets, FlushTold, ResetTold}
-use Rattle.pool_alloc.specs.Bounds.{all_slots, sizes_of}
+use Rattle.pool_alloc.specs.PageCallAnswers.{Decommits, Resets, FlushTold, ResetTold}
+use Rattle.pool_alloc.specs.StepBounds.{all_slots, sizes_of}
 use Rattle.pool_alloc.specs.Freeing.{AreUsedInTurn}
 use Rattle.pool_alloc.specs.Leases.{Lease, memory_slot, slot_taken}
-use Rattle.pool_alloc.specs.Own.{slot_ended, reset_into}
+use Rattle.pool_alloc.specs.MemorySteps.{slot_ended, reset_into}
 use Rattle.pool_alloc.specs.Places.{Thing, both_count, queued_count, region_count, right_to, taken_count, counted_instance, counted_object, only, instances_for, of_units}
 use Rattle.pool_alloc.specs.Reserved.{with_item}
-use Rattle.pool_alloc.specs.Rows.{stack_reset_row, FlushStep, run, zero, put, free, flush_step, merged, merge_on, in_queue, uncount_object_row, was_reset, reset_turn, reset_row, uncount_instance_row, decommit_row, zero_row, put_first, free_row, flush_row}
+use Rattle.pool_alloc.specs.StepTable.{stack_reset_row, FlushStep, run, zero, put, free, flush_step, merged, merge_on, in_queue, uncount_object_row, was_reset, reset_turn, reset_row, uncount_instance_row, decommit_row, zero_row, put_first, free_row, flush_row}
 use Rattle.pool_slots.specs.declared.queued_range.QueueKind.TheVariants as queued
 use Rattle.pool_alloc.specs.declared.frame.Object.{Object}
 use Rattle.pool_alloc.specs.declared.frame.Object.TheVariants.{Memory, Table, Stack}
 use Rattle.pool_alloc.specs.Objects.{objects_in, slot_of_object}
-use Rattle.pool_alloc.specs.Sound.{IsPoolSlot, IsCore, IsShared, IsLocal, IsByHand, IsQueuedOf, MayBeRanged, IsFreedOf, HasCells}
-use Rattle.pool_alloc.specs.Steps.{StepGiven, shard_at, cell_named, queue_at, freed_of, freed_elsewhere, first_shard, after_frees, cell_returned, queue_tried, with_shard, with_cell, with_queue}
+use Rattle.pool_alloc.specs.BetweenSteps.{IsPoolSlot, IsCore, IsShared, IsLocal, IsByHand, IsQueuedOf, MayBeRanged, IsFreedOf, HasCells}
+use Rattle.pool_alloc.specs.StepReads.{StepGiven, shard_at, cell_named, queue_at, freed_of, freed_elsewhere, first_shard, after_frees, cell_returned, queue_tried, with_shard, with_cell, with_queue}
 use Rattle.pool_alloc.specs.Turns.{goes, next, flush, Row, is_flushed}
+use Rattle.pool_alloc.proofs.BeforeTheTurn.{some_length, counts_one, none_granted, none_counted, in_phase, hand, held_of, Even, Kept, IsReadyRow, either_ready, one_less}
 use Rattle.pool_alloc.proofs.CoreChanges.{core_with_shard, core_with_cell, core_with_queue, core_with_counters}
 use Rattle.pool_alloc.proofs.FlushSteps.{few_in_both, flush_few, decommit_fewer, put_fewer, free_fewer, zero_fewer}
 use Rattle.pool_alloc.proofs.FreedSlots.{freed_counts}
-use Rattle.pool_alloc.proofs.Hands.{some_length, counts_one, none_granted, none_counted, in_phase, hand, held_of, Even, Kept, IsReadyRow, either_ready, one_less}
 use Rattle.pool_alloc.proofs.KeptCounts.{kept_shard, kept_queue, away_shard, away_queue, region_returns}
 use Rattle.pool_alloc.proofs.LocalQueues.{IsStillLocal, listed_may, reset_local, drained_shared, taken_local, drained_local, joined_local, joined_shared, decommitted_local, rest_local, IsResetLocal, zeroed_local}
+use Rattle.pool_alloc.proofs.PhaseFacts.{local_is_apart, first_can_be_put, first_can_be_freed}
 use Rattle.pool_alloc.proofs.QueueCounts.{queued_last, queued_joined, freed_last, freed_parted, run_counts, faulted_counts}
-use Rattle.pool_alloc.proofs.RegionRows.{goes_back}
+use Rattle.pool_alloc.proofs.RowsWithASlot.{goes_back}
 use Rattle.pool_alloc.proofs.ShardFrees.{IsShardOf, frees_shard}
 use Rattle.pool_alloc.proofs.SlotIdentity.{one_reset, slot_of_one}
-use Rattle.pool_alloc.proofs.Stages.{local_is_apart, first_can_be_put, first_can_be_freed}
 use Rattle.pool_alloc.specs.Stepping.{grant_weight}
-use Rattle.pool_alloc.proofs.Ways.{Can, searched_back, aims_back, next_returns, kept_part, same_way, ends_way, searched_still}
+use Rattle.pool_alloc.proofs.SharedByRows.{Can, searched_back, aims_back, next_returns, kept_part, same_way, ends_way, searched_still}
 use Rattle.pool_alloc.proofs.PoolParts.{sound_shard, sound_cell, sound_queue, shard_part, queue_part}
-use Rattle.pool_alloc.proofs.Searching.{still_empty}
+use Rattle.pool_alloc.proofs.Searches.{still_empty}
 use Rattle.pool_alloc.specs.Searches.{AreEmpty}
 use Rattle.pool_slots.specs.declared.part.PoolPart.TheVariants as part
 use Rattle.pool_alloc.proofs.FlushFinds.{finds, Finds, FindsFreed, FindsPut, FreesFirst, IsBack, frees_first, is_back, names_of, none_waits, order_freed, order_put, puts_some}
@@ -51,7 +51,7 @@ use Rattle.pool_alloc.specs.PoolStacks.{IsStackLease, stack_reset}
 use Rattle.pool_alloc.specs.declared.pool_core.Settings.{Settings}
 use Rattle.pool_alloc.proofs.StackRegions.{few_ranges, stack_by_hand, stack_given_back, stack_leaves, stack_name, stack_page, stack_queued_of, stack_small}
 use Rattle.pool_alloc.proofs.TableReturns.{few_above, returned_has, returned_may, table_leaves, table_still}
-use Rattle.pool_alloc.proofs.Held.{right_is_out}
+use Rattle.pool_alloc.proofs.SlotsOfFrames.{right_is_out}
 use Rattle.pool_alloc.proofs.Weights.{counted_fits}
 
 -- a reset leaves one range at most

@@ -2,7 +2,7 @@
 use Rattle.std.proofs.Common.{◌≡◌, ℕ, ◌+◌, ◌^◌, ◌<◌, ◌≤◌, true, false, List, [], ◌∷◌, ◌++◌, length, set, get_or, refl, sym, ap, ◌∙◌, inl, inr, arith, Option, None, All, ◌==◌, is_some, IsSome, unwrap_or, count_by, nat_lt}
 use Rattle.pool_alloc.proofs.Imports.{cases_eq, cases_lt, true≢false, eq-eqb, ne_eqb, length-set, length-append, get_or-set_same, get_or-set_other, get_or_past, All-push, All-head, All-tail, sum_by-set, sum_by-append, MemoryInModule, SlotId, WarmSlot, ShardState, IsShard, IsSameShard, one_if, use_of, used_count, warm_count, after_free, home_of, Plan}
 use Rattle.pool_alloc.specs.Freeing.{AreUsedInTurn}
-use Rattle.pool_alloc.specs.Steps.{after_frees}
+use Rattle.pool_alloc.specs.StepReads.{after_frees}
 use Rattle.pool_alloc.specs.declared.frame.FreedSlot.{FreedSlot}
 
 -- a shard with the slots of another one

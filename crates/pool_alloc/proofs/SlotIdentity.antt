@@ -4,8 +4,8 @@ use Rattle.pool_alloc.proofs.Imports.{AllZip, zero-div, length-map, length-repli
 use Rattle.pool_pages.specs.declared.pages.RegionName.TheVariants as of_region
 use Rattle.pool_hall.specs.declared.unit_name.SlotKind.TheVariants.{Memory, Table, Stack, Heap}
 use Rattle.pool_alloc.specs.CanStep.{CanBeImage}
-use Rattle.pool_alloc.specs.Own.{image_made}
-use Rattle.pool_alloc.specs.Sound.{IsPoolSlot, IsSettings, MayQueue, MayBeRanged, IsQueuedOf, memory_region}
+use Rattle.pool_alloc.specs.MemorySteps.{image_made}
+use Rattle.pool_alloc.specs.BetweenSteps.{IsPoolSlot, IsSettings, MayQueue, MayBeRanged, IsQueuedOf, memory_region}
 use Rattle.pool_alloc.specs.PoolTables.{IsPoolTable}
 use Rattle.pool_alloc.specs.declared.pool_core.Settings.{Settings}
 

@@ -7,7 +7,7 @@ use Rattle.pool_alloc.specs.Turns.{After}
 use Rattle.pool_alloc.specs.declared.frame.Frame.{Frame}
 use Rattle.pool_alloc.specs.declared.pool_core.PoolCore.{PoolCore}
 use Rattle.pool_alloc.proofs.OneParts.{step_changes, step_spares}
-use Rattle.pool_alloc.proofs.Steps.{step_ok, same_size, can_still, step_grants, step_fewer}
+use Rattle.pool_alloc.proofs.StepNeeds.{step_ok, same_size, can_still, step_grants, step_fewer}
 
 pub sound_step : {P H : Type 0} (maker : MakerTold) (old new : PartyTold) (c : PoolCore P H) (f : Frame P H) (a : After P H) → CanStep maker c f → StepsTo old new c f a → IsSoundStep maker old new c f a
 sound_step maker old new c f a can steps =

@@ -1,10 +1,10 @@
 -- A step that changes no part and counts nothing is the step table's row on every pool.
 use Rattle.std.proofs.Common.{◌≡◌, ◌∙◌, List, refl, ap, subst, sym, Option}
 use Rattle.pool_alloc.proofs.Imports.{Exchange, Plan}
-use Rattle.pool_alloc.specs.Answers.{MayBeTold, IsPlanned, AsksOf, MakesOf, LimiterHears}
+use Rattle.pool_alloc.specs.PageCallAnswers.{MayBeTold, IsPlanned, AsksOf, MakesOf, LimiterHears}
 use Rattle.pool_alloc.specs.PartyTold.{PartyTold}
-use Rattle.pool_alloc.specs.Rows.{row_of}
-use Rattle.pool_alloc.specs.Steps.{StepGiven, under}
+use Rattle.pool_alloc.specs.StepTable.{row_of}
+use Rattle.pool_alloc.specs.StepReads.{StepGiven, under}
 use Rattle.pool_alloc.specs.Stepping.{StepsAsking}
 use Rattle.pool_alloc.specs.StepsAlone.{StepsAlone}
 use Rattle.pool_alloc.specs.Turns.{After, resting, stepped}
@@ -14,7 +14,7 @@ use Rattle.pool_alloc.specs.declared.frame.Phase.{Phase}
 use Rattle.pool_alloc.specs.declared.frame.Phase.TheVariants.{Idle}
 use Rattle.pool_alloc.specs.declared.pool_core.PoolCore.{PoolCore}
 use Rattle.pool_alloc.specs.declared.pool_core.Settings.{Settings}
-use Rattle.pool_alloc.proofs.Advancing.{by_row}
+use Rattle.pool_alloc.proofs.StepsAsRows.{by_row}
 
 module _ {P H : Type 0} where
   -- What holds of each pool under settings and a plan holds of each pool that has them.

@@ -5,11 +5,11 @@ use Rattle.pool_slots.proofs.Layouts.{rounded_within}
 use Rattle.pool_slots.specs.declared.errors.AllocError.TheVariants as alloc
 use Rattle.pool_alloc.specs.declared.frame.TakenSlot.{TakenSlot}
 use Rattle.pool_alloc.specs.PoolTables.{table_region, IsPoolTable, IsTableRegion, IsTableLease, IsBegunTable}
-use Rattle.pool_alloc.specs.Sound.{IsSettings, IsTableSupported}
+use Rattle.pool_alloc.specs.BetweenSteps.{IsSettings, IsTableSupported}
 use Rattle.pool_alloc.specs.TableLeases.{LeasedTable, LiesInRegion}
 use Rattle.pool_alloc.specs.TableSteps.{IsNewLease, bytes_used, table_bytes, table_in, table_refused, made_unless, made_table, table_made}
 use Rattle.pool_alloc.specs.declared.pool_core.Settings.{Settings}
-use Rattle.pool_alloc.proofs.Telling.{replicated}
+use Rattle.pool_alloc.proofs.ToldElements.{replicated}
 
 -- what a region tells as it is made
 made_room : (page len : ℕ) (tells : Bool) → 0 < page → len % page ≡ 0 → IfSome (if tells then Some (fresh page len len) else None) (λ c. IsRoom page len 0 len c × HasColour 0 (rounded_up page (len - 0)) None c)

@@ -2,9 +2,9 @@
 use Rattle.std.proofs.Common.{◌≡◌, ℕ, ◌*◌, ◌-◌, ◌%◌, ◌≤◌, Bool, true, false, List, [], ◌∷◌, length, refl, ap, arith, replicate, min, Option, Some, None, nat_lt, if◌then◌else◌, IsSome, IfSome}
 use Rattle.pool_alloc.proofs.Imports.{rounded_is_whole, SlotKind, memory_kind, table_kind, stack_kind, heap_kind, MakerTold, Told, ByteRange, Slot, IsClean, identity, told_same, previously_used, unknown, is_taken, above_bottom, bottom_reset, plain_written, Queued, CanBeZeroed, LeavesClean, empty_queue, plain_slot, with_ranges, bottom_plain, bottom_unused, bottom_reset_done, leaves_clean, width}
 use Rattle.pool_slots.specs.declared.queued_range.QueueKind.TheVariants as queued
+use Rattle.pool_alloc.specs.BetweenSteps.{IsSettings, MayHold, MayQueue, MustBeByHand}
 use Rattle.pool_alloc.specs.PoolTables.{IsPoolTable}
-use Rattle.pool_alloc.specs.Sound.{IsSettings, MayHold, MayQueue, MustBeByHand}
-use Rattle.pool_alloc.specs.Steps.{returned_as}
+use Rattle.pool_alloc.specs.StepReads.{returned_as}
 use Rattle.pool_alloc.specs.TableLeases.{LeasedTable}
 use Rattle.pool_alloc.specs.TableSteps.{IsInRegion, bytes_used, table_queued}
 use Rattle.pool_alloc.specs.declared.pool_core.Settings.{Settings}

@@ -2,10 +2,10 @@
 use Rattle.std.proofs.Common.{◌≡◌, ◌+◌, ◌≤◌, ℕ, List, [], ◌∷◌, refl, arith, Option, Some, None, sum_by, remove}
 use Rattle.pool_alloc.proofs.Imports.{UnitName, total, all_away, all_kept, units_of_slots, sum_by-cons}
 use Rattle.pool_alloc.specs.Places.{Thing, Counts, of_units, of_counts, kept_count, away_count, frame_count, frame_counted, frame_weight, phase_count, phase_counted, purge_count, release_count, counters_counted}
-use Rattle.pool_alloc.specs.Sound.{FitsCore}
+use Rattle.pool_alloc.specs.BetweenSteps.{FitsCore}
 use Rattle.pool_alloc.specs.Stepping.{Conserves, count_granted, grant_count, grant_counted, grant_weight}
 use Rattle.pool_alloc.specs.Turns.{After}
-use Rattle.pool_alloc.specs.Whole.{IsPartitioned, held_by_grant}
+use Rattle.pool_alloc.specs.PoolAndHolders.{IsPartitioned, held_by_grant}
 use Rattle.pool_alloc.specs.declared.frame.Frame.{Frame}
 use Rattle.pool_alloc.specs.declared.frame.Grant.{Grant}
 use Rattle.pool_alloc.specs.declared.frame.Grant.TheVariants.{Instance, Stack, Heap, Component}

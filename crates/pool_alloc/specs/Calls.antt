@@ -4,9 +4,9 @@ use Rattle.pool_alloc.specs.Imports.{MakerTold, empty_queue, Plan, MemoryType}
 use Rattle.pool_alloc.specs.Objects.{no_objects}
 use Rattle.pool_alloc.specs.HeapLeases.{LeasedHeap, heap_numbers, IsHeapLease}
 use Rattle.pool_alloc.specs.Leases.{Lease}
-use Rattle.pool_alloc.specs.Steps.{IsForInstance, memories_wanted, images_wanted, tables_wanted, plain_decl}
+use Rattle.pool_alloc.specs.StepReads.{IsForInstance, memories_wanted, images_wanted, tables_wanted, plain_decl}
 use Rattle.pool_alloc.specs.Turns.{returned_next}
-use Rattle.pool_alloc.specs.Sound.{queue_room, IsLeaseOf, AreLeasesOf, AreImagesOf, AreBegun, IsNew}
+use Rattle.pool_alloc.specs.BetweenSteps.{queue_room, IsLeaseOf, AreLeasesOf, AreImagesOf, AreBegun, IsNew}
 use Rattle.pool_alloc.specs.Modules.{HasImages}
 use Rattle.pool_alloc.specs.declared.pool_core.Settings.{Settings}
 use Rattle.pool_alloc.specs.declared.frame.Frame.{Frame}
@@ -19,7 +19,7 @@ use Rattle.pool_alloc.specs.declared.frame.Phase.TheVariants.{Idle, Key, Validat
 use Rattle.pool_alloc.specs.declared.frame.Ending.TheVariants.{Granted as granted, Returned as returned}
 use Rattle.pool_alloc.specs.declared.frame.Grant.{Grant}
 use Rattle.pool_alloc.specs.declared.frame.Grant.TheVariants.{Instance, Stack, Heap, Component}
-use Rattle.pool_alloc.specs.Asked.{ModuleAsked}
+use Rattle.pool_alloc.specs.PlainModules.{ModuleAsked}
 use Rattle.pool_alloc.specs.declared.frame.Call.{Call}
 use Rattle.pool_alloc.specs.declared.frame.Call.TheVariants as call
 use Rattle.pool_alloc.specs.declared.frame.Outcome.{Outcome}

@@ -3,17 +3,17 @@
 use Rattle.std.specs.Prelude.{◌≡◌, ℕ, ◌+◌, ◌<◌, ◌==◌, List, [], ◌∷◌, length, Bool, true, if◌then◌else◌}
 use Rattle.pool_alloc.specs.Imports.{list_all, MakerTold, used_count, all_away, all_kept, queue_tried, Queue, after_take, taken_into, part_at, Plan, PoolPart}
 use Rattle.pool_slots.specs.declared.part.PoolPart.TheVariants as part
-use Rattle.pool_alloc.specs.Sound.{IsCore, IsFrame, IsPoolPlan, IsPartAt}
-use Rattle.pool_alloc.specs.Steps.{queue_at, with_queue, counting_instances}
+use Rattle.pool_alloc.specs.BetweenSteps.{IsCore, IsFrame, IsPoolPlan, IsPartAt}
+use Rattle.pool_alloc.specs.StepReads.{queue_at, with_queue, counting_instances}
 use Rattle.pool_alloc.specs.Turns.{gone_to, is_flushed}
-use Rattle.pool_alloc.specs.Whole.{Holding, held_by, IsPartitioned}
+use Rattle.pool_alloc.specs.PoolAndHolders.{Holding, held_by, IsPartitioned}
 use Rattle.pool_alloc.specs.declared.pool_core.PoolCore.{PoolCore}
 use Rattle.pool_alloc.specs.declared.pool_core.Settings.{Settings}
 use Rattle.pool_alloc.specs.declared.frame.Asked.{Asked}
 use Rattle.pool_alloc.specs.declared.frame.Asked.TheVariants.{Nothing as nothing_asked}
 use Rattle.pool_alloc.specs.declared.frame.Ending.{Ending}
 use Rattle.pool_alloc.specs.declared.frame.Ending.TheVariants.{Returned as returned}
-use Rattle.pool_alloc.specs.declared.lease.InstanceLease.{InstanceLease}
+use Rattle.pool_alloc.specs.declared.leases.instance.InstanceLease.{InstanceLease}
 use Rattle.pool_alloc.specs.declared.frame.Frame.{Frame}
 use Rattle.pool_alloc.specs.declared.frame.Phase.{Phase}
 use Rattle.pool_alloc.specs.declared.frame.Phase.TheVariants.{Idle, Flush, UncountInstance}

@@ -2,8 +2,8 @@
 use Rattle.std.specs.Prelude.{◌≡◌, ◌⊎◌, ℕ, ◌+◌, ◌*◌, ◌<◌, List, Bool, true, Option, Some, None, ◌^◌}
 use Rattle.pool_alloc.specs.Imports.{count, rounded_up, MakerTold, Planned, slab_stripes, Told, Rose, BadConfig, PoolingAllocationConfig, Tunables, LinearMemory, Offered, AreMadeTo, lists_some_making, fails_some_slot, SomeGivenUp, places_planned, divided, IsStripedPlanOf, PartSettings, OfKinds, StripedPlanSettings, PoolNewError}
 use Rattle.pool_slots.specs.declared.errors.PoolNewError.TheVariants as refused
+use Rattle.pool_alloc.specs.BetweenSteps.{queue_room}
 use Rattle.pool_alloc.specs.Calls.{lists_made}
-use Rattle.pool_alloc.specs.Sound.{queue_room}
 use Rattle.pool_alloc.specs.declared.pool_core.PoolCore.{PoolCore}
 use Rattle.pool_alloc.specs.declared.pool_core.Settings.{Settings}
 

@@ -1,7 +1,7 @@
 -- The module of which an instance is asked for.
 use Rattle.std.specs.Prelude.{◌≡◌, length, slice_get, Option, IfSome}
 use Rattle.pool_alloc.specs.Imports.{MemoryDecl, TableType}
-use Rattle.pool_alloc.specs.Steps.{memories_wanted, tables_wanted}
+use Rattle.pool_alloc.specs.StepReads.{memories_wanted, tables_wanted}
 use Rattle.pool_alloc.specs.declared.frame.Frame.{Frame}
 use Rattle.pool_alloc.specs.declared.frame.Asked.{Asked}
 use Rattle.pool_alloc.specs.declared.frame.Asked.TheVariants.{Module as module_asked}

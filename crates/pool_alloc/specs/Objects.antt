@@ -3,13 +3,13 @@ use Rattle.std.specs.Prelude.{ℕ, ◌+◌, length, Option}
 use Rattle.pool_alloc.specs.declared.frame.Asked.{Asked}
 use Rattle.pool_alloc.specs.Leases.{slot_taken}
 use Rattle.pool_alloc.specs.Reserved.{no_room}
-use Rattle.pool_alloc.specs.Steps.{memories_wanted, tables_wanted, stacks_wanted, heaps_wanted}
+use Rattle.pool_alloc.specs.StepReads.{memories_wanted, tables_wanted, stacks_wanted, heaps_wanted}
 use Rattle.pool_alloc.specs.StackLeases.{stack_taken}
 use Rattle.pool_alloc.specs.TableLeases.{table_taken}
 use Rattle.pool_alloc.specs.declared.frame.Object.{Object}
 use Rattle.pool_alloc.specs.declared.frame.Object.TheVariants.{Memory, Table, Stack}
 use Rattle.pool_alloc.specs.declared.frame.TakenSlot.{TakenSlot}
-use Rattle.pool_alloc.specs.declared.lease.InstanceLease.{InstanceLease}
+use Rattle.pool_alloc.specs.declared.leases.instance.InstanceLease.{InstanceLease}
 
 -- how many objects a request is for
 abbrev pub objects_wanted : Asked → ℕ

@@ -6,7 +6,7 @@ use Rattle.pool_alloc.specs.HeapLeases.{LeasedHeap}
 use Rattle.pool_alloc.specs.Leases.{Lease}
 use Rattle.pool_alloc.specs.Objects.{no_objects}
 use Rattle.pool_alloc.specs.Reserved.{with_item}
-use Rattle.pool_alloc.specs.Rows.{no_instance_left, no_component_left}
+use Rattle.pool_alloc.specs.StepTable.{no_instance_left, no_component_left}
 use Rattle.pool_alloc.specs.Turns.{Row, goes, ends, next, stays, failing, answer_of}
 use Rattle.pool_alloc.specs.declared.frame.Frame.{Frame}
 use Rattle.pool_alloc.specs.declared.frame.Grant.TheVariants.{Component, Stack as stack_granted, Heap as heap_granted}

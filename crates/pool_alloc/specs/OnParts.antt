@@ -6,8 +6,8 @@ use Rattle.pool_slots.specs.declared.part.PoolPart.TheVariants as part
 use Rattle.pool_alloc.specs.CanStep.{HasAllocators, CanTryShard, CanTakeRegion, CanFreeOne, CanGoOn, CanEndStripe, CanPutNext, CanFree}
 use Rattle.pool_alloc.specs.Purges.{purged_stripe, pick_affine_on, take_affine_on, put_affine_on, free_affine_on}
 use Rattle.pool_alloc.specs.Releases.{released_stripe, nth_taken, take_warm_on, take_resident_on, put_resident_on, free_taken_on}
-use Rattle.pool_alloc.specs.Rows.{FlushStep, put, free, flush_step, pick_on, take_queue_on, take_region_on, take_heap_on, put_heap_on, put_back_on, free_one_on, free_heap_on, merge_on, put_region_on, free_on}
-use Rattle.pool_alloc.specs.Steps.{IsQueuePart, IsHeapsPart, shard_in, queue_in, heaps_in, part_holding, allocator_for, cell_returned, first_shard}
+use Rattle.pool_alloc.specs.StepTable.{FlushStep, put, free, flush_step, pick_on, take_queue_on, take_region_on, take_heap_on, put_heap_on, put_back_on, free_one_on, free_heap_on, merge_on, put_region_on, free_on}
+use Rattle.pool_alloc.specs.StepReads.{IsQueuePart, IsHeapsPart, shard_in, queue_in, heaps_in, part_holding, allocator_for, cell_returned, first_shard}
 use Rattle.pool_alloc.specs.Turns.{Row, lifted, stays}
 use Rattle.pool_alloc.specs.declared.frame.Frame.{Frame}
 use Rattle.pool_alloc.specs.declared.frame.Phase.{Phase}

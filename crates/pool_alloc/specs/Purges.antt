@@ -3,7 +3,7 @@
 use Rattle.std.specs.Prelude.{◌≡◌, ℕ, ◌+◌, ◌-◌, ◌*◌, ◌^◌, ◌<◌, ◌&&◌, List, length, min, sum_by, drop, nat_lt, if◌then◌else◌, Bool, true, false, Option, Some, None}
 use Rattle.pool_alloc.specs.Imports.{CompiledModuleId, Slot, forgotten, ShardState, affine_answer, after_affine_pick, after_free, slot_number, MemoryInModule, SlotId, Cell, unmapped, unknown, previously_used, taken, cell_of, home_of, CellState, cell_numbers, cell_emptied, cell_filled, ImageSlot, Unmapped, Unknown, PreviouslyUsed, Taken, Allocator, Plan, SlotName}
 use Rattle.pool_alloc.specs.Leases.{memory_slot}
-use Rattle.pool_alloc.specs.Steps.{StepGiven, stripe_allocator, shard_at, cell_named, with_shard, with_cell}
+use Rattle.pool_alloc.specs.StepReads.{StepGiven, stripe_allocator, shard_at, cell_named, with_shard, with_cell}
 use Rattle.pool_alloc.specs.Turns.{Turn, goes, ends, Row, lifted}
 use Rattle.pool_alloc.specs.declared.frame.Frame.{Frame}
 use Rattle.pool_alloc.specs.declared.frame.Outcome.TheVariants as answer

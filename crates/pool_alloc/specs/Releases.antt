@@ -5,7 +5,7 @@ use Rattle.pool_alloc.specs.Imports.{Slot, taken_outside, ShardState, after_take
 use Rattle.pool_slots.specs.declared.errors.AllocError.TheVariants as refusal
 use Rattle.pool_alloc.specs.Leases.{memory_slot}
 use Rattle.pool_alloc.specs.Purges.{image_in}
-use Rattle.pool_alloc.specs.Steps.{StepGiven, stripe_allocator, shard_at, cell_named, with_shard, with_cell}
+use Rattle.pool_alloc.specs.StepReads.{StepGiven, stripe_allocator, shard_at, cell_named, with_shard, with_cell}
 use Rattle.pool_alloc.specs.Turns.{Turn, goes, ends, Row, lifted}
 use Rattle.pool_alloc.specs.declared.frame.Frame.{Frame}
 use Rattle.pool_alloc.specs.declared.frame.FreedSlot.{FreedSlot}

@@ -1,7 +1,7 @@
 -- How far a call has searched the pool for a slot, where no other party could free one meanwhile.
 use Rattle.std.specs.Prelude.{IsSome, ◌≡◌, ℕ, ◌<◌, []}
 use Rattle.pool_index.specs.Shard.{ShardState, use_of}
-use Rattle.pool_alloc.specs.Steps.{shard_at, queue_at, allocator_for, shard_tried, queue_tried}
+use Rattle.pool_alloc.specs.StepReads.{shard_at, queue_at, allocator_for, shard_tried, queue_tried}
 use Rattle.pool_alloc.specs.declared.pool_core.PoolCore.{PoolCore}
 use Rattle.pool_alloc.specs.declared.frame.Ending.{Ending}
 use Rattle.pool_alloc.specs.declared.frame.Ending.TheVariants.{Granted as granted}

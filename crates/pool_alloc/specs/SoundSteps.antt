@@ -2,11 +2,11 @@
 -- what held before it.
 use Rattle.std.specs.Prelude.{◌≡◌, ◌+◌, ◌≤◌, false}
 use Rattle.pool_alloc.specs.Imports.{MakerTold}
-use Rattle.pool_alloc.specs.Bounds.{steps_left}
+use Rattle.pool_alloc.specs.StepBounds.{steps_left}
 use Rattle.pool_alloc.specs.Calls.{IsGrantOf, IfGranted}
 use Rattle.pool_alloc.specs.PartyTold.{PartyTold}
 use Rattle.pool_alloc.specs.Searches.{IsSearched}
-use Rattle.pool_alloc.specs.Stages.{GoesOn}
+use Rattle.pool_alloc.specs.CallStages.{GoesOn}
 use Rattle.pool_alloc.specs.Stepping.{CanStep, Conserves, EndsWith, IsSameSize, ChangesOnePart, is_idle}
 use Rattle.pool_alloc.specs.Turns.{After}
 use Rattle.pool_alloc.specs.declared.frame.Frame.{Frame}

@@ -2,13 +2,13 @@
 use Rattle.std.specs.Prelude.{◌≡◌, ◌⊎◌, ℕ, ◌+◌, ◌^◌, ◌<◌, ◌≤◌, ◌&&◌, List, Bool, true, false, not, Option, Some, None, is_some}
 use Rattle.pool_alloc.specs.Imports.{MakerTold, Exchange, ShardState, CellState, HeapEntry, SlotName, Queue, memory_kind, table_kind, stack_kind, heap_kind}
 use Rattle.pool_alloc.specs.PartyTold.{PartyTold}
-use Rattle.pool_alloc.specs.Steps.{StepGiven, with_shard, with_cell, with_queue, counting_keys, counting_instances, counting_memories, counting_tables, counting_stacks, counting_heaps, counting_components, with_heaps}
+use Rattle.pool_alloc.specs.StepReads.{StepGiven, with_shard, with_cell, with_queue, counting_keys, counting_instances, counting_memories, counting_tables, counting_stacks, counting_heaps, counting_components, with_heaps}
 use Rattle.pool_alloc.specs.StackLeases.{stack_taken}
 use Rattle.pool_alloc.specs.Turns.{After}
-use Rattle.pool_alloc.specs.Rows.{row}
-use Rattle.pool_alloc.specs.Answers.{MayBeTold, IsPlanned, AsksOf, MakesOf, LimiterHears}
+use Rattle.pool_alloc.specs.StepTable.{row}
+use Rattle.pool_alloc.specs.PageCallAnswers.{MayBeTold, IsPlanned, AsksOf, MakesOf, LimiterHears}
 use Rattle.pool_alloc.specs.Places.{Thing, Counter, Counts, number_counted, counted_instance, counted_component, counted_object, only, Weight, kept_count, away_weight, frame_weight, instance_count, instance_counted, taken_count, heap_count}
-use Rattle.pool_alloc.specs.Sound.{IsCore, IsFrame, FitsCore}
+use Rattle.pool_alloc.specs.BetweenSteps.{IsCore, IsFrame, FitsCore}
 use Rattle.pool_alloc.specs.declared.pool_core.Counters.{Counters}
 use Rattle.pool_alloc.specs.declared.pool_core.PoolCore.{PoolCore}
 use Rattle.pool_alloc.specs.declared.frame.Frame.{Frame}

@@ -6,8 +6,8 @@ use Rattle.pool_alloc.specs.CanStep.{CanForget, CanDrain, CanValidate, CanResetO
 use Rattle.pool_alloc.specs.Modules.{IfAllocated, IfTable}
 use Rattle.pool_alloc.specs.PartyTold.{PartyTold}
 use Rattle.pool_alloc.specs.Purges.{has_turns}
-use Rattle.pool_alloc.specs.Rows.{FlushStep, run, zero, flush_step}
-use Rattle.pool_alloc.specs.Steps.{IsHeapAsked, image_wanted, memories_wanted}
+use Rattle.pool_alloc.specs.StepTable.{FlushStep, run, zero, flush_step}
+use Rattle.pool_alloc.specs.StepReads.{IsHeapAsked, image_wanted, memories_wanted}
 use Rattle.pool_alloc.specs.Stepping.{StepsAsking}
 use Rattle.pool_alloc.specs.declared.frame.Frame.{Frame}
 use Rattle.pool_alloc.specs.declared.frame.Outcome.{Outcome}

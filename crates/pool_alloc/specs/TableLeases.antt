@@ -6,8 +6,8 @@ use Rattle.pool_table.specs.Elements as elem
 use Rattle.pool_table.specs.declared.gc_store.GcTableError.TheVariants as failed
 use Rattle.pool_table.specs.declared.table.Table.{Table}
 use Rattle.pool_alloc.specs.declared.frame.TakenSlot.{TakenSlot}
-use Rattle.pool_alloc.specs.declared.table_element.Element.{Element}
-use Rattle.pool_alloc.specs.declared.table_element.Element.TheVariants as item
+use Rattle.pool_alloc.specs.declared.leases.element.Element.{Element}
+use Rattle.pool_alloc.specs.declared.leases.element.Element.TheVariants as item
 
 -- a table that was granted, the number of its slot, and the numbers that its region went out with
 pub record LeasedTable : Type 0 where

@@ -5,10 +5,10 @@ use Rattle.pool_alloc.specs.CanStep.{CanPlace, HasAllocators, CanTryShard, CanTr
 use Rattle.pool_alloc.specs.Freeing.{HasHome, CanBeFreed}
 use Rattle.pool_alloc.specs.Purges.{has_turns, purged_stripe}
 use Rattle.pool_alloc.specs.Releases.{released_stripe, nth_taken}
-use Rattle.pool_alloc.specs.Rows.{FlushStep, put, free, flush_step}
-use Rattle.pool_alloc.specs.Steps.{allocator_for, queues_searched, shard_tried, queue_tried, first_shard}
-use Rattle.pool_alloc.specs.declared.counting.CounterName.{CounterName}
-use Rattle.pool_alloc.specs.declared.counting.CounterName.TheVariants as counter
+use Rattle.pool_alloc.specs.StepTable.{FlushStep, put, free, flush_step}
+use Rattle.pool_alloc.specs.StepReads.{allocator_for, queues_searched, shard_tried, queue_tried, first_shard}
+use Rattle.pool_alloc.specs.declared.counters.CounterName.{CounterName}
+use Rattle.pool_alloc.specs.declared.counters.CounterName.TheVariants as counter
 use Rattle.pool_alloc.specs.declared.frame.Frame.{Frame}
 use Rattle.pool_alloc.specs.declared.frame.FreedSlot.{FreedSlot}
 use Rattle.pool_alloc.specs.declared.frame.Object.{Object}
@@ -23,8 +23,8 @@ use Rattle.pool_alloc.specs.declared.purge.PurgeStep.{PurgeStep}
 use Rattle.pool_alloc.specs.declared.purge.PurgeStep.TheVariants as purging_step
 use Rattle.pool_alloc.specs.declared.release.ReleaseStep.{ReleaseStep}
 use Rattle.pool_alloc.specs.declared.release.ReleaseStep.TheVariants as releasing_step
-use Rattle.pool_alloc.specs.declared.targets.Target.{Target}
-use Rattle.pool_alloc.specs.declared.targets.Target.TheVariants.{Part, Up, Down, Alone}
+use Rattle.pool_alloc.specs.declared.step.targets.Target.{Target}
+use Rattle.pool_alloc.specs.declared.step.targets.Target.TheVariants.{Part, Up, Down, Alone}
 
 -- The number at a counter.
 abbrev pub number_at : CounterName → Counters → ℕ

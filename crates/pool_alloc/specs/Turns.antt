@@ -6,7 +6,7 @@ use Rattle.pool_slots.specs.declared.errors.AllocError.TheVariants as refusal
 use Rattle.pool_alloc.specs.Objects.{objects_in, objects_wanted, no_objects}
 use Rattle.pool_alloc.specs.Leases.{Lease}
 use Rattle.pool_alloc.specs.TableLeases.{LeasedTable}
-use Rattle.pool_alloc.specs.Steps.{queues_next, allocator_for, kind_next}
+use Rattle.pool_alloc.specs.StepReads.{queues_next, allocator_for, kind_next}
 use Rattle.pool_alloc.specs.declared.pool_core.PoolCore.{PoolCore}
 use Rattle.pool_alloc.specs.declared.frame.Asked.{Asked}
 use Rattle.pool_alloc.specs.declared.frame.Asked.TheVariants.{Nothing as nothing_asked, Stack as stack_asked, Heap as heap_asked}

@@ -1,10 +1,16 @@
-use crate::heap_lease::HeapLease;
-use crate::lease::{InstanceLease, MemoryLease};
+//! A caller's frame: the call under way, and its next step.
+
+mod calls;
+pub(crate) mod turns;
+
+use crate::leases::heap::HeapLease;
+use crate::leases::instance::InstanceLease;
+use crate::leases::memory::MemoryLease;
+use crate::leases::stack::StackLease;
+use crate::leases::table::TableLease;
 use crate::purge::{PurgeCursor, PurgeStep};
 use crate::release::ReleaseStep;
 use crate::reserved::ReservedList;
-use crate::stack_lease::StackLease;
-use crate::table_lease::TableLease;
 use pool_images::{MemoryImageSlot, ModuleMemoryImages};
 use pool_pages::{PageRegion, Pages};
 use pool_slots::{AllocError, DecommitQueue, GcHeap, ImageSlot, RegionNumbers, SlotName};
@@ -22,7 +28,7 @@ pub struct ModuleCall {
 }
 
 impl Model for ModuleCall {
-    ghost use Rattle.pool_alloc.specs.Asked.{ModuleAsked};
+    ghost use Rattle.pool_alloc.specs.PlainModules.{ModuleAsked};
 
     ghost Value = { ModuleAsked };
 

@@ -1,3 +1,4 @@
+//! The trait of allocators, with one call for each request.
 ghost use Rattle.std.specs.Prelude.{◌≡◌, ◌<◌, ℕ, Option, None, Result, IfErr, IfSome, List, option_map};
 ghost use Rattle.pool_images.specs.Images.{Image};
 ghost use Rattle.pool_types.specs.declared.module_types.ComponentInfo.{ComponentInfo};
@@ -12,7 +13,9 @@ ghost use Rattle.pool_slots.specs.HeapsTold.{HeapsTold};
 ghost use Rattle.pool_types.specs.MemoryTypes.{refused_limits};
 ghost use Rattle.pool_alloc.specs.Requests.{IsModule, AreImagesOf, IsLimit, refused_by, IsMemoryOf, IsSameRequest, lent, kind_for, image_for};
 
-use crate::request::InstanceAllocationRequest;
+pub(crate) mod request;
+
+use crate::instance_allocator::request::InstanceAllocationRequest;
 use pool_index::ShardId;
 use pool_limits::ResourceLimiter;
 use pool_slots::{AllocError, HeapMaker, MemoryAllocationIndex};

@@ -10,10 +10,10 @@
 //! the same functions: `next_target` says what the frame's next step changes, and the step is then `step_part` on a part,
 //! `step_counted` by the number found at a counter, or `step_alone`.
 //!
-//! To add a step touch `Phase` in `frame.rt`, its code in a `*_steps.rt`, what it changes in `targets.rt`, and its call in
-//! `on_parts.rt`, `on_counters.rt` or `steps_alone.rt`; then its row in `specs/Rows.antt`, what it needs in
-//! `specs/OnParts.antt`, `specs/OnCounters.antt` or `specs/StepsAlone.antt`, and its share of `specs/Bounds.antt`,
-//! `specs/Places.antt` and `specs/Sound.antt`.
+//! To add a step touch `Phase` in `frame.rt`, its code in the file of its subject, what it changes in `step/targets.rt`, and its call in
+//! `step/on_parts.rt`, `step/on_counters.rt` or `step/alone.rt`; then its row in `specs/StepTable.antt`, what it needs in
+//! `specs/OnParts.antt`, `specs/OnCounters.antt` or `specs/StepsAlone.antt`, and its share of `specs/StepBounds.antt`,
+//! `specs/Places.antt` and `specs/BetweenSteps.antt`.
 //!
 //! From Wasmtime: `vm/instance/allocator.rs`, and under it `pooling.rs` and the calls of `pooling/`. It stands on
 //! `pool_slots` and the crates below it.
@@ -24,99 +24,68 @@
 //! ```
 #![tactic(auto)]
 
-// The core, and how it begins and ends
-mod closing;
-mod making;
+// The core: its parts, its counters and its numbers
+mod counters;
 mod metrics;
 mod parts;
 mod pool_core;
-mod stripes;
 
 // A caller's frame
 mod frame;
-mod frame_calls;
-mod frame_turns;
 mod reserved;
 
 // The step, and what it changes: a part, a counter, or neither
-mod counting;
-mod on_counters;
-mod on_parts;
-mod part_at;
-mod part_steps;
-mod part_sweeps;
 mod step;
-mod steps_alone;
-mod targets;
 
-// Steps of a request
-mod allocate_steps;
-mod cell_steps;
-mod component_steps;
-mod heap_steps;
-mod instantiate_step;
-mod make_step;
-mod shard_steps;
-mod stack_steps;
-mod table_steps;
-mod validate_step;
+// What a step does to a part: to any, to a shard, to a cell, to a queue
+mod cells;
+mod decommit_queue;
+mod pool_parts;
+mod shards;
 
-// Steps of a give-back
-mod flush_steps;
-mod freeing;
-mod queue_steps;
-mod region_steps;
-mod reset_step;
+// The pools of objects, each with its rules
+mod gc_heap_pool;
+mod memory_pool;
+mod stack_pool;
+mod table_pool;
 
-// Steps of a purge and of a release
+// A request is tested; an object that is given back is reset
+mod reset;
+mod validate;
+
+// A purge, and a release
 mod purge;
-mod purge_steps;
 mod release;
-mod release_steps;
-mod warm_slots;
 
 // What is granted
-mod heap_lease;
-mod lease;
-mod stack_lease;
-mod table_element;
-mod table_lease;
-
-// Rules by which a request is refused
-mod size_rules;
-mod table_rules;
-mod validations;
+mod leases;
 
 // The trait of allocators, and its requests
 mod instance_allocator;
-mod request;
 
-// Laws
-mod holders;
-mod refused;
-
-pub use counting::CounterName;
+pub use counters::CounterName;
 pub use frame::{
     Asked, Call, Frame, FrameLists, Grant, ModuleCall, Object, Outcome, Phase, TakenSlot,
 };
-pub use heap_lease::HeapLease;
 pub use instance_allocator::InstanceAllocator;
-pub use lease::{InstanceLease, MemoryLease};
+pub use instance_allocator::request::InstanceAllocationRequest;
+pub use leases::element::{Element, element_at, set_elements};
+pub use leases::heap::HeapLease;
+pub use leases::instance::InstanceLease;
+pub use leases::memory::MemoryLease;
+pub use leases::stack::StackLease;
+pub use leases::table::TableLease;
+pub use memory_pool::rules::{limits_refused, offsets_refused};
 pub use metrics::Metrics;
-pub use on_counters::step_counted;
-pub use on_parts::step_part;
 pub use parts::Parts;
+pub use pool_core::validations::refused_by;
 pub use pool_core::{Counters, PoolCore, Settings};
 pub use purge::{PurgeCursor, PurgeStep};
 pub use release::{ReleaseCursor, ReleaseStep};
-pub use request::InstanceAllocationRequest;
 pub use reserved::ReservedList;
-pub use size_rules::instance_size;
-pub use stack_lease::StackLease;
-pub use steps_alone::step_alone;
-pub use table_element::{Element, element_at, set_elements};
-pub use table_lease::TableLease;
-pub use table_rules::table_limits_refused;
-pub use targets::{Target, next_target};
-pub use validate_step::{limits_refused, offsets_refused};
-pub use validations::refused_by;
+pub use step::alone::step_alone;
+pub use step::on_counters::step_counted;
+pub use step::on_parts::step_part;
+pub use step::targets::{Target, next_target};
+pub use table_pool::rules::table_limits_refused;
+pub use validate::sizes::instance_size;

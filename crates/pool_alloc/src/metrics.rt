@@ -1,6 +1,7 @@
+//! The numbers of a pool.
 ghost use Rattle.std.specs.Prelude.{◌≡◌, List, Some, None, if◌then◌else◌};
-ghost use Rattle.pool_alloc.specs.Sums.{metrics_of, calls_kept, resident_sum};
-ghost use Rattle.pool_alloc.specs.Whole.{CountsGrants, IsPartitioned, held_by_grant};
+ghost use Rattle.pool_alloc.specs.PoolAndHolders.{CountsGrants, IsPartitioned, held_by_grant};
+ghost use Rattle.pool_alloc.specs.PoolTotals.{metrics_of, calls_kept, resident_sum};
 ghost use Rattle.pool_alloc.specs.declared.frame.Grant.{Grant};
 
 use crate::pool_core::PoolCore;

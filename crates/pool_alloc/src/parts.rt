@@ -1,8 +1,11 @@
+//! The list of a pool's parts.
 ghost use Rattle.std.specs.Prelude.{◌≡◌};
 ghost use Rattle.pool_alloc.specs.Closing.{all_free};
-ghost use Rattle.pool_alloc.specs.Sums.{warm_slots, resident_sum, calls_of_parts};
+ghost use Rattle.pool_alloc.specs.PoolTotals.{warm_slots, resident_sum, calls_of_parts};
 
-use crate::part_steps;
+mod numbers;
+mod place;
+
 use pool_index::SlotKind;
 use pool_pages::{PageCalls, Pages};
 use pool_slots::{GcHeap, PoolPart};
@@ -43,7 +46,7 @@ impl<P: Pages, H: GcHeap> Parts<P, H> {
     {
         let mut slots = 0u32;
         for part in &self.list {
-            slots = slots.saturating_add(part_steps::warm_in(kind, part));
+            slots = slots.saturating_add(numbers::warm_in(kind, part));
         }
         slots
     }
@@ -54,7 +57,7 @@ impl<P: Pages, H: GcHeap> Parts<P, H> {
     {
         let mut bytes = 0usize;
         for part in &self.list {
-            bytes = bytes.saturating_add(part_steps::resident_in(kind, part));
+            bytes = bytes.saturating_add(numbers::resident_in(kind, part));
         }
         bytes
     }
@@ -63,7 +66,7 @@ impl<P: Pages, H: GcHeap> Parts<P, H> {
     pub fn is_empty(&self) -> bool
         ensures { result ≡ all_free self.now }
     {
-        self.list.iter().all(|part| part_steps::has_free(part))
+        self.list.iter().all(|part| numbers::has_free(part))
     }
 
     /// The calls made so far on the regions that lie in cells and queues, together.
@@ -72,7 +75,7 @@ impl<P: Pages, H: GcHeap> Parts<P, H> {
     {
         let mut calls = PageCalls::none();
         for part in &self.list {
-            calls = calls.plus(part_steps::part_calls(part));
+            calls = calls.plus(numbers::part_calls(part));
         }
         calls
     }

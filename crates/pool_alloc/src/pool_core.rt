@@ -1,3 +1,10 @@
+//! The core of a pool: its parts, its counters and its settings.
+
+mod closing;
+mod laws;
+mod making;
+pub(crate) mod validations;
+
 use crate::frame::FrameLists;
 use crate::parts::Parts;
 use pool_pages::Pages;

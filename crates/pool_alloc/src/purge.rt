@@ -1,7 +1,11 @@
+//! How far a purge is.
 ghost use Rattle.std.specs.Prelude.{◌≡◌, ◌<◌, ◌^◌, length};
 ghost use Rattle.pool_alloc.specs.CanStep.{CanGoOn};
+ghost use Rattle.pool_alloc.specs.PoolTotals.{calls_in_purge};
 ghost use Rattle.pool_alloc.specs.Purges.{purge_begun, purged_memory, purged_stripe, found_one, behind_stripe, behind_memory, behind_turn};
-ghost use Rattle.pool_alloc.specs.Sums.{calls_in_purge};
+
+pub(crate) mod affine;
+pub(crate) mod steps;
 
 use crate::frame::TakenSlot;
 use crate::pool_core::Settings;

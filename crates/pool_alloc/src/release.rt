@@ -1,6 +1,10 @@
+//! How far a release is.
 ghost use Rattle.std.specs.Prelude.{◌≡◌, ◌+◌, ◌≤◌, ◌<◌, length, drop};
+ghost use Rattle.pool_alloc.specs.PoolTotals.{calls_in_release};
 ghost use Rattle.pool_alloc.specs.Releases.{released_stripe, nth_taken, not_resident, bytes_kept, releasing};
-ghost use Rattle.pool_alloc.specs.Sums.{calls_in_release};
+
+pub(crate) mod steps;
+pub(crate) mod warm;
 
 use crate::frame::{FreedSlot, TakenSlot};
 use crate::reserved::ReservedList;

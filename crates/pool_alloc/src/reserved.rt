@@ -1,3 +1,4 @@
+//! A list whose room is reserved.
 ghost use Rattle.std.specs.Prelude.{◌≡◌, ◌+◌, ◌<◌, ◌≤◌, ◌==◌, [], ◌∷◌, ◌++◌, length, slice_index_or, IfOk};
 ghost use Rattle.pool_alloc.specs.Reserved.{Reserved, IsPopped};
 

@@ -1,3 +1,4 @@
+//! A step of a call: what it changes is found, and the step is made on it.
 ghost use Rattle.std.specs.Prelude.{◌≡◌, false, None};
 ghost use Rattle.std.specs.Option.{option_copied_mut};
 ghost use Rattle.pool_pages.specs.MakerTold.{MakerTold};
@@ -7,12 +8,17 @@ ghost use Rattle.pool_alloc.specs.CanStep.{CanStepAt};
 ghost use Rattle.pool_alloc.specs.SoundSteps.{IsSoundStep};
 ghost use Rattle.pool_alloc.specs.Stepping.{CanStep, CanCount, StepsTo, StepsAsking, makes_heap};
 
+pub(crate) mod alone;
+pub(crate) mod on_counters;
+pub(crate) mod on_parts;
+pub(crate) mod targets;
+
 use crate::frame::{Frame, Outcome};
-use crate::on_counters::step_counted;
-use crate::on_parts::step_part;
 use crate::pool_core::PoolCore;
-use crate::steps_alone::step_alone;
-use crate::targets::{Target, next_target};
+use crate::step::alone::step_alone;
+use crate::step::on_counters::step_counted;
+use crate::step::on_parts::step_part;
+use crate::step::targets::{Target, next_target};
 use pool_limits::{ResourceLimiter, Unlimited};
 use pool_pages::Pages;
 use pool_slots::{GcHeap, HeapMaker};

@@ -9,7 +9,7 @@ use Rattle.pool_alloc.specs.Calls.{IsGrantOf, IsIdle, IfGranted, MayBegin, begun
 use Rattle.pool_alloc.specs.Leases.{Lease}
 use Rattle.pool_alloc.specs.PartyTold.{PartyTold}
 use Rattle.pool_alloc.specs.Places.{Counts, Thing, Weight, frame_count, frame_weight, of_counts, of_units, only, region_of, right_to}
-use Rattle.pool_alloc.specs.Sound.{IsFrame}
+use Rattle.pool_alloc.specs.BetweenSteps.{IsFrame}
 use Rattle.pool_alloc.specs.SoundSteps.{IsSoundStep}
 use Rattle.pool_alloc.specs.Stepping.{count_granted, grant_count, grant_counted, grant_weight, is_idle}
 use Rattle.pool_alloc.specs.TableLeases.{LeasedTable}
@@ -28,7 +28,7 @@ use Rattle.pool_alloc.specs.declared.frame.Outcome.TheVariants.{Granted}
 use Rattle.pool_alloc.specs.declared.frame.Phase.{Phase}
 use Rattle.pool_alloc.specs.declared.frame.Phase.TheVariants.{Idle}
 use Rattle.pool_alloc.specs.declared.pool_core.Settings.{Settings}
-use Rattle.pool_alloc.proofs.BegunCalls.{begun_frame, begun_weight, call_has, idle_of}
+use Rattle.pool_alloc.proofs.BegunFrames.{begun_frame, begun_weight, call_has, idle_of}
 use Rattle.pool_alloc.proofs.SoundSteps.{sound_step}
 use Rattle.pool_alloc.proofs.Weights.{frame_counts, frame_units, grant_counts, grant_units}
 use Rattle.pool_driver.specs.Calling.{GoesOnSince, HasEnded, brought}

@@ -11,8 +11,8 @@ use Rattle.pool_alloc.specs.Places.{Counter, Counts, counted_instance, counted_c
 use Rattle.pool_alloc.specs.Stepping.{Conserves, count_granted, grant_counted, grant_weight}
 use Rattle.pool_alloc.specs.Targets.{counted_up, number_at, with_number}
 use Rattle.pool_alloc.specs.Turns.{After}
-use Rattle.pool_alloc.specs.declared.counting.CounterName.{CounterName}
-use Rattle.pool_alloc.specs.declared.counting.CounterName.TheVariants as counter
+use Rattle.pool_alloc.specs.declared.counters.CounterName.{CounterName}
+use Rattle.pool_alloc.specs.declared.counters.CounterName.TheVariants as counter
 use Rattle.pool_alloc.specs.declared.frame.Frame.{Frame}
 use Rattle.pool_alloc.specs.declared.frame.Outcome.{Outcome}
 use Rattle.pool_alloc.specs.declared.frame.Outcome.TheVariants as answer

@@ -16,8 +16,8 @@ use Rattle.pool_slots.specs.ListUnits.{all_away, all_kept}
 use Rattle.pool_slots.specs.PartUnits.{part_away, part_kept}
 use Rattle.pool_slots.specs.declared.part.PoolPart.{PoolPart}
 use Rattle.pool_slots.proofs.ListUnits.{read_at}
+use Rattle.pool_alloc.specs.BetweenSteps.{IsCore, IsPartAt, IsPoolPlan}
 use Rattle.pool_alloc.specs.Places.{Thing}
-use Rattle.pool_alloc.specs.Sound.{IsCore, IsPartAt, IsPoolPlan}
 use Rattle.pool_alloc.specs.declared.frame.FrameLists.{FrameLists}
 use Rattle.pool_alloc.specs.declared.pool_core.Counters.{Counters}
 use Rattle.pool_driver.specs.Placed.{About, about_made, pool_meaning}

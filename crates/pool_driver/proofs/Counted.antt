@@ -24,7 +24,7 @@ use Rattle.pool_slots.specs.declared.slot_name.RegionNumbers.{RegionNumbers}
 use Rattle.pool_slots.specs.declared.slot_name.SlotName.{SlotName}
 use Rattle.pool_alloc.specs.Leases.{Lease, memory_slot}
 use Rattle.pool_alloc.specs.Places.{Thing, Counter, Counts, counted_instance, counted_component, counted_object, only, away_count, both_count, frame_count, frame_counted, frame_instances, instances_for, leased_count, tables_count, phase_count, phase_counted, phase_instances, counters_counted, number_counted}
-use Rattle.pool_alloc.specs.Sound.{IsCore, IsPartFor}
+use Rattle.pool_alloc.specs.BetweenSteps.{IsCore, IsPartFor}
 use Rattle.pool_alloc.specs.TableLeases.{LeasedTable, table_slot}
 use Rattle.pool_alloc.specs.declared.frame.Asked.{Asked}
 use Rattle.pool_alloc.specs.declared.frame.Asked.TheVariants as asked

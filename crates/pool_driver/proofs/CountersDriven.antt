@@ -16,8 +16,8 @@ use Rattle.pool_alloc.specs.StepsAlone.{CanStepAlone, StepsAlone}
 use Rattle.pool_alloc.specs.Stepping.{CanStep, StepsTo, StepsAsking}
 use Rattle.pool_alloc.specs.Targets.{CanFindTarget, counted_up, counting, next_target, number_at}
 use Rattle.pool_alloc.specs.Turns.{After, Left, left_by, resting}
-use Rattle.pool_alloc.specs.declared.counting.CounterName.{CounterName}
-use Rattle.pool_alloc.specs.declared.counting.CounterName.TheVariants as counter
+use Rattle.pool_alloc.specs.declared.counters.CounterName.{CounterName}
+use Rattle.pool_alloc.specs.declared.counters.CounterName.TheVariants as counter
 use Rattle.pool_alloc.specs.declared.frame.Frame.{Frame}
 use Rattle.pool_alloc.specs.declared.frame.Object.TheVariants.{Memory, Table, Stack}
 use Rattle.pool_alloc.specs.declared.frame.Outcome.{Outcome}
@@ -26,10 +26,10 @@ use Rattle.pool_alloc.specs.declared.frame.Phase.TheVariants.{Key, CountInstance
 use Rattle.pool_alloc.specs.declared.pool_core.Counters.{Counters}
 use Rattle.pool_alloc.specs.declared.pool_core.PoolCore.{PoolCore}
 use Rattle.pool_alloc.specs.declared.pool_core.Settings.{Settings}
-use Rattle.pool_alloc.specs.declared.targets.Target.{Target}
-use Rattle.pool_alloc.specs.declared.targets.Target.TheVariants.{Up, Down, Alone}
+use Rattle.pool_alloc.specs.declared.step.targets.Target.{Target}
+use Rattle.pool_alloc.specs.declared.step.targets.Target.TheVariants.{Up, Down, Alone}
 use Rattle.pool_alloc.proofs.OnCounters.{steps_up, steps_down}
-use Rattle.pool_alloc.proofs.Steps.{step_ok}
+use Rattle.pool_alloc.proofs.StepNeeds.{step_ok}
 use Rattle.pool_alloc.proofs.NextTargets.{can_up, can_down, can_alone}
 use Rattle.pool_driver.specs.Driving.{Given, IsDriven, StandsOn, StandsFor, SeesStep, SeesAlike, Decides, counted, uncounted, unchanged, counted_by, counter_number, counter_of}
 use Rattle.pool_driver.specs.Growing.{AreKept}

@@ -7,11 +7,11 @@ use Rattle.pool_slots.specs.SlotQueues.{Queued, first_of_kind}
 use Rattle.pool_slots.specs.declared.plan.Plan.{Plan}
 use Rattle.pool_alloc.specs.Places.{Counter, counted_instance, counted_component, counted_object, only, frame_counted, instances_for, phase_counted, phase_instances}
 use Rattle.pool_alloc.specs.Purges.{has_turns}
-use Rattle.pool_alloc.specs.Rows.{FlushStep, run, zero, put, free, flush_step}
-use Rattle.pool_alloc.specs.Sound.{IsFrame, IsShapedAt}
+use Rattle.pool_alloc.specs.StepTable.{FlushStep, run, zero, put, free, flush_step}
+use Rattle.pool_alloc.specs.BetweenSteps.{IsFrame, IsShapedAt}
 use Rattle.pool_alloc.specs.Targets.{next_target, flush_target, put_target, purge_target, release_target, object_counter}
-use Rattle.pool_alloc.specs.declared.counting.CounterName.{CounterName}
-use Rattle.pool_alloc.specs.declared.counting.CounterName.TheVariants as counter
+use Rattle.pool_alloc.specs.declared.counters.CounterName.{CounterName}
+use Rattle.pool_alloc.specs.declared.counters.CounterName.TheVariants as counter
 use Rattle.pool_alloc.specs.declared.frame.Frame.{Frame}
 use Rattle.pool_alloc.specs.declared.frame.FreedSlot.{FreedSlot}
 use Rattle.pool_alloc.specs.declared.frame.Object.TheVariants.{Memory, Table, Stack}
@@ -23,9 +23,9 @@ use Rattle.pool_alloc.specs.declared.purge.PurgeStep.{PurgeStep}
 use Rattle.pool_alloc.specs.declared.purge.PurgeStep.TheVariants as purging_step
 use Rattle.pool_alloc.specs.declared.release.ReleaseStep.{ReleaseStep}
 use Rattle.pool_alloc.specs.declared.release.ReleaseStep.TheVariants as releasing_step
-use Rattle.pool_alloc.specs.declared.targets.Target.{Target}
-use Rattle.pool_alloc.specs.declared.targets.Target.TheVariants.{Part, Up, Down, Alone}
-use Rattle.pool_alloc.proofs.Hands.{counts_one}
+use Rattle.pool_alloc.specs.declared.step.targets.Target.{Target}
+use Rattle.pool_alloc.specs.declared.step.targets.Target.TheVariants.{Part, Up, Down, Alone}
+use Rattle.pool_alloc.proofs.BeforeTheTurn.{counts_one}
 use Rattle.pool_driver.specs.Driving.{counter_of}
 
 -- the step counts up, or down

@@ -13,19 +13,19 @@ use Rattle.pool_slots.proofs.ListUnits.{read_at}
 use Rattle.pool_alloc.specs.CanStep.{CanStepAt}
 use Rattle.pool_alloc.specs.PartyTold.{PartyTold}
 use Rattle.pool_alloc.specs.Places.{counted_instance, counted_component, of_units, only, frame_instances, instances_for, phase_counted, phase_instances}
-use Rattle.pool_alloc.specs.Sound.{IsFrame}
+use Rattle.pool_alloc.specs.BetweenSteps.{IsFrame}
 use Rattle.pool_alloc.specs.Stepping.{CanStep, Conserves, StepsTo}
 use Rattle.pool_alloc.specs.Targets.{next_target}
 use Rattle.pool_alloc.specs.Turns.{After}
-use Rattle.pool_alloc.specs.declared.counting.CounterName.{CounterName}
-use Rattle.pool_alloc.specs.declared.counting.CounterName.TheVariants as counter
+use Rattle.pool_alloc.specs.declared.counters.CounterName.{CounterName}
+use Rattle.pool_alloc.specs.declared.counters.CounterName.TheVariants as counter
 use Rattle.pool_alloc.specs.declared.frame.Frame.{Frame}
 use Rattle.pool_alloc.specs.declared.frame.Outcome.{Outcome}
 use Rattle.pool_alloc.specs.declared.pool_core.Counters.{Counters}
 use Rattle.pool_alloc.specs.declared.pool_core.PoolCore.{PoolCore}
-use Rattle.pool_alloc.specs.declared.targets.Target.{Target}
-use Rattle.pool_alloc.specs.declared.targets.Target.TheVariants.{Part, Up, Down, Alone}
-use Rattle.pool_alloc.proofs.Steps.{can_step_at, can_still}
+use Rattle.pool_alloc.specs.declared.step.targets.Target.{Target}
+use Rattle.pool_alloc.specs.declared.step.targets.Target.TheVariants.{Part, Up, Down, Alone}
+use Rattle.pool_alloc.proofs.StepNeeds.{can_step_at, can_still}
 use Rattle.pool_alloc.proofs.Weights.{conserves_units, frame_units}
 use Rattle.pool_driver.specs.Carrying.{Carries, CountsFrame}
 use Rattle.pool_driver.specs.Driving.{Given, HasCounted, IsDriven, StandsOn, StandsFor, counted_by}

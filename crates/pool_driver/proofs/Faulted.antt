@@ -14,14 +14,14 @@ use Rattle.pool_slots.specs.declared.part.PoolPart.{PoolPart}
 use Rattle.pool_slots.specs.declared.plan.Plan.{Plan}
 use Rattle.pool_slots.specs.declared.slot_name.RegionNumbers.{RegionNumbers}
 use Rattle.pool_slots.specs.declared.slot_name.SlotName.{SlotName}
-use Rattle.pool_alloc.specs.Answers.{MayBeTold, PurgeTold, ReleaseTold}
+use Rattle.pool_alloc.specs.PageCallAnswers.{MayBeTold, PurgeTold, ReleaseTold}
 use Rattle.pool_alloc.specs.PartyTold.{PartyTold}
 use Rattle.pool_alloc.specs.Purges.{affine_picked, behind_memory, behind_turn, has_turns, image_in, pick_affine_row, purge_row, purge_to, purged_stripe}
 use Rattle.pool_alloc.specs.Releases.{behind_stripe, drain_at, drain_from, free_first, nth_taken, release_row, released_stripe, reserve_row, releasing, warm_taken}
-use Rattle.pool_alloc.specs.Rows.{flush_step, row_of}
-use Rattle.pool_alloc.specs.Sound.{IsFrame}
+use Rattle.pool_alloc.specs.StepTable.{flush_step, row_of}
+use Rattle.pool_alloc.specs.BetweenSteps.{IsFrame}
 use Rattle.pool_alloc.specs.Stepping.{CanStep, StepsTo}
-use Rattle.pool_alloc.specs.Steps.{StepGiven, cell_named, queue_tried, shard_tried}
+use Rattle.pool_alloc.specs.StepReads.{StepGiven, cell_named, queue_tried, shard_tried}
 use Rattle.pool_alloc.specs.Turns.{After, ends, goes, stepped}
 use Rattle.pool_alloc.specs.declared.frame.Ending.{Ending}
 use Rattle.pool_alloc.specs.declared.frame.Frame.{Frame}
@@ -36,8 +36,8 @@ use Rattle.pool_alloc.specs.declared.purge.PurgeStep.TheVariants as purging_step
 use Rattle.pool_alloc.specs.declared.release.ReleaseCursor.{ReleaseCursor}
 use Rattle.pool_alloc.specs.declared.release.ReleaseStep.{ReleaseStep}
 use Rattle.pool_alloc.specs.declared.release.ReleaseStep.TheVariants as releasing_step
-use Rattle.pool_alloc.proofs.Hands.{in_phase}
-use Rattle.pool_alloc.proofs.Steps.{can_still}
+use Rattle.pool_alloc.proofs.BeforeTheTurn.{in_phase}
+use Rattle.pool_alloc.proofs.StepNeeds.{can_still}
 use Rattle.pool_driver.specs.Faults.{AnswerKeeps, FrameKeeps, KeepsFaults, PartKeeps, PhaseKeeps, PurgeKeeps, ReleaseKeeps}
 use Rattle.pool_driver.specs.FaultsTold.{FaultTold}
 use Rattle.pool_driver.specs.Growing.{AreKept}

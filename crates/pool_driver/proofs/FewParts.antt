@@ -11,8 +11,8 @@ use Rattle.pool_pages.specs.MakerTold.{MakerTold}
 use Rattle.pool_index.specs.Layout.{slots_per_shard}
 use Rattle.pool_slots.specs.StripedPlans.{shards_for, stripe_slots, stripe_shards, shards_before}
 use Rattle.pool_slots.specs.declared.striped_plan.StripedPlanSettings.{StripedPlanSettings}
+use Rattle.pool_alloc.specs.BetweenSteps.{IsCore}
 use Rattle.pool_alloc.specs.Made.{IsMadeCore, plan_settings}
-use Rattle.pool_alloc.specs.Sound.{IsCore}
 use Rattle.pool_alloc.specs.declared.pool_core.PoolCore.{PoolCore}
 use Rattle.pool_alloc.specs.declared.pool_core.Settings.{Settings}
 use Rattle.pool_driver.specs.Counts.{counter_total}

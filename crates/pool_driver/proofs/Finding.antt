@@ -5,7 +5,7 @@ use Rattle.pool_hall.specs.declared.view.View.{View}
 use Rattle.pool_slots.specs.SlotQueues.{Queued, first_of_kind}
 use Rattle.pool_slots.specs.declared.plan.Plan.{Plan}
 use Rattle.pool_alloc.specs.Purges.{has_turns}
-use Rattle.pool_alloc.specs.Rows.{FlushStep, run, zero, put, free, flush_step}
+use Rattle.pool_alloc.specs.StepTable.{FlushStep, run, zero, put, free, flush_step}
 use Rattle.pool_alloc.specs.Targets.{CanFindTarget, next_target, flush_target, put_target, purge_target, release_target}
 use Rattle.pool_alloc.specs.declared.frame.Frame.{Frame}
 use Rattle.pool_alloc.specs.declared.frame.FreedSlot.{FreedSlot}
@@ -17,8 +17,8 @@ use Rattle.pool_alloc.specs.declared.purge.PurgeStep.{PurgeStep}
 use Rattle.pool_alloc.specs.declared.purge.PurgeStep.TheVariants as purging_step
 use Rattle.pool_alloc.specs.declared.release.ReleaseStep.{ReleaseStep}
 use Rattle.pool_alloc.specs.declared.release.ReleaseStep.TheVariants as releasing_step
-use Rattle.pool_alloc.specs.declared.targets.Target.{Target}
-use Rattle.pool_alloc.specs.declared.targets.Target.TheVariants.{Part, Up, Down, Alone}
+use Rattle.pool_alloc.specs.declared.step.targets.Target.{Target}
+use Rattle.pool_alloc.specs.declared.step.targets.Target.TheVariants.{Part, Up, Down, Alone}
 use Rattle.pool_alloc.proofs.NextTargets.{can_find, can_on}
 use Rattle.pool_driver.specs.Driving.{Given, IsDriven, StandsOn, StandsFor}
 use Rattle.pool_driver.specs.Placed.{About}

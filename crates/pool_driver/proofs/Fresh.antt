@@ -26,9 +26,9 @@ use Rattle.pool_slots.specs.declared.part_maker.PartSettings.{PartSettings}
 use Rattle.pool_slots.specs.declared.plan.Plan.{Plan}
 use Rattle.pool_slots.specs.declared.queued_range.QueueKind.TheVariants as of_queue
 use Rattle.pool_slots.proofs.ListUnits.{read_at}
+use Rattle.pool_alloc.specs.BetweenSteps.{IsCore, IsPartAt, IsPoolPlan}
 use Rattle.pool_alloc.specs.Made.{IsMadeCore, part_settings, plan_settings}
-use Rattle.pool_alloc.specs.Sound.{IsCore, IsPartAt, IsPoolPlan}
-use Rattle.pool_alloc.specs.Whole.{IsUntouched}
+use Rattle.pool_alloc.specs.PoolAndHolders.{IsUntouched}
 use Rattle.pool_alloc.specs.declared.pool_core.PoolCore.{PoolCore}
 use Rattle.pool_driver.specs.Faults.{PartKeeps}
 use Rattle.pool_driver.specs.Placed.{About, about_made, pool_meaning, part_counts}

@@ -8,9 +8,9 @@ use Rattle.pool_hall.specs.Tally.{additions, subtractions, number}
 use Rattle.pool_hall.specs.declared.unit_name.SlotKind.TheVariants.{Memory as memory_kind, Table as table_kind, Stack as stack_kind, Heap as heap_kind}
 use Rattle.pool_hall.specs.declared.view.View.{View}
 use Rattle.pool_slots.specs.declared.part.PoolPart.{PoolPart}
+use Rattle.pool_alloc.specs.BetweenSteps.{IsCore}
 use Rattle.pool_alloc.specs.Closing.{IsGivenBack}
 use Rattle.pool_alloc.specs.Places.{Counts, counters_counted, counted_instance, counted_component, counted_object}
-use Rattle.pool_alloc.specs.Sound.{IsCore}
 use Rattle.pool_alloc.specs.declared.frame.FrameLists.{FrameLists}
 use Rattle.pool_alloc.specs.declared.pool_core.PoolCore.{PoolCore}
 use Rattle.pool_driver.specs.Counts.{count_in, counts_in, IsEven}

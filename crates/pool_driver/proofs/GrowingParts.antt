@@ -20,8 +20,8 @@ use Rattle.pool_slots.specs.declared.plan.Allocator.{Allocator}
 use Rattle.pool_slots.specs.declared.plan.Plan.{Plan}
 use Rattle.pool_slots.specs.declared.slot_name.RegionNumbers.{RegionNumbers}
 use Rattle.pool_slots.specs.declared.slot_name.SlotName.{SlotName}
-use Rattle.pool_alloc.specs.Sound.{IsPartFor}
-use Rattle.pool_alloc.specs.Steps.{IsQueuePart, IsHeapsPart, after_frees, cell_named, shard_at, shard_in, part_holding, with_shard, with_cell, with_queue, with_heaps}
+use Rattle.pool_alloc.specs.BetweenSteps.{IsPartFor}
+use Rattle.pool_alloc.specs.StepReads.{IsQueuePart, IsHeapsPart, after_frees, cell_named, shard_at, shard_in, part_holding, with_shard, with_cell, with_queue, with_heaps}
 use Rattle.pool_alloc.specs.declared.frame.FreedSlot.{FreedSlot}
 use Rattle.pool_alloc.specs.declared.pool_core.PoolCore.{PoolCore}
 use Rattle.pool_alloc.specs.declared.pool_core.Settings.{Settings}

@@ -27,11 +27,11 @@ use Rattle.pool_alloc.specs.PartyTold.{PartyTold}
 use Rattle.pool_alloc.specs.Purges.{has_turns, pick_affine_row, purge_row, purged_memory, purged_stripe}
 use Rattle.pool_alloc.specs.Refusals.{heap_refused}
 use Rattle.pool_alloc.specs.Releases.{bytes_kept, nth_taken, release_row, released_stripe, reserve_row}
-use Rattle.pool_alloc.specs.Rows.{FlushStep, run, zero, put, free, component_counted, component_tested, counted, flush_row, flush_step, heap_granted, heaps_tested, in_queue, make_heap_row, merged, paged, put_first, reserved, row_of, stacks_tested, validated, was_made, was_made_table, was_reset}
-use Rattle.pool_alloc.specs.Sound.{IsPartAt, IsPartFor}
+use Rattle.pool_alloc.specs.StepTable.{FlushStep, run, zero, put, free, component_counted, component_tested, counted, flush_row, flush_step, heap_granted, heaps_tested, in_queue, make_heap_row, merged, paged, put_first, reserved, row_of, stacks_tested, validated, was_made, was_made_table, was_reset}
+use Rattle.pool_alloc.specs.BetweenSteps.{IsPartAt, IsPartFor}
 use Rattle.pool_alloc.specs.SoundSteps.{IsSoundStep}
 use Rattle.pool_alloc.specs.Stepping.{CanStep, StepsTo}
-use Rattle.pool_alloc.specs.Steps.{StepGiven, cell_named, cell_returned, first_shard, freed_of, queue_at, queue_tried, returned_as, shard_at, shard_tried, wanted, with_cell, with_shard}
+use Rattle.pool_alloc.specs.StepReads.{StepGiven, cell_named, cell_returned, first_shard, freed_of, queue_at, queue_tried, returned_as, shard_at, shard_tried, wanted, with_cell, with_shard}
 use Rattle.pool_alloc.specs.TableLeases.{LeasedTable}
 use Rattle.pool_alloc.specs.Turns.{After}
 use Rattle.pool_alloc.specs.declared.frame.Frame.{Frame}
@@ -45,7 +45,7 @@ use Rattle.pool_alloc.specs.declared.purge.PurgeStep.{PurgeStep}
 use Rattle.pool_alloc.specs.declared.purge.PurgeStep.TheVariants as purging_step
 use Rattle.pool_alloc.specs.declared.release.ReleaseStep.{ReleaseStep}
 use Rattle.pool_alloc.specs.declared.release.ReleaseStep.TheVariants as releasing_step
-use Rattle.pool_alloc.proofs.Hands.{in_phase}
+use Rattle.pool_alloc.proofs.BeforeTheTurn.{in_phase}
 use Rattle.pool_alloc.proofs.KindCounts.{first_has}
 use Rattle.pool_alloc.proofs.SoundSteps.{sound_step}
 use Rattle.pool_driver.specs.Faults.{FrameKeeps, KeepsFaults, PhaseKeeps, PurgeKeeps, QueueKeeps, QueuedKeeps, ReleaseKeeps}

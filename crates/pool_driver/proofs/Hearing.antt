@@ -2,9 +2,9 @@
 use Rattle.std.proofs.Common.{◌≡◌, ℕ, Bool, true, false, List, [], sym, ap, refl, ◌∙◌, true≢false, Option}
 use Rattle.pool_limits.specs.Exchanges.{Exchange}
 use Rattle.pool_slots.specs.declared.plan.Plan.{Plan}
-use Rattle.pool_alloc.specs.Answers.{LimiterHears}
+use Rattle.pool_alloc.specs.PageCallAnswers.{LimiterHears}
 use Rattle.pool_alloc.specs.PartyTold.{PartyTold}
-use Rattle.pool_alloc.specs.Steps.{StepGiven}
+use Rattle.pool_alloc.specs.StepReads.{StepGiven}
 use Rattle.pool_alloc.specs.Stepping.{StepsAsking}
 use Rattle.pool_alloc.specs.Targets.{next_target}
 use Rattle.pool_alloc.specs.Turns.{After}
@@ -14,8 +14,8 @@ use Rattle.pool_alloc.specs.declared.frame.Phase.{Phase}
 use Rattle.pool_alloc.specs.declared.frame.Phase.TheVariants.{MakeMemory, MakeTable}
 use Rattle.pool_alloc.specs.declared.pool_core.PoolCore.{PoolCore}
 use Rattle.pool_alloc.specs.declared.pool_core.Settings.{Settings}
-use Rattle.pool_alloc.specs.declared.targets.Target.{Target}
-use Rattle.pool_alloc.specs.declared.targets.Target.TheVariants.{Alone}
+use Rattle.pool_alloc.specs.declared.step.targets.Target.{Target}
+use Rattle.pool_alloc.specs.declared.step.targets.Target.TheVariants.{Alone}
 use Rattle.pool_slots.specs.declared.part.PoolPart.{PoolPart}
 use Rattle.pool_hall.specs.declared.view.View.{View}
 use Rattle.pool_driver.specs.Driving.{SeesStep, SeesAlike}

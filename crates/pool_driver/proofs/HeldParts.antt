@@ -21,8 +21,8 @@ use Rattle.pool_slots.proofs.ListUnits.{read_at}
 use Rattle.pool_alloc.specs.OnParts.{CanStepOn, row_on}
 use Rattle.pool_alloc.specs.PartFlows.{FlowsOnPart}
 use Rattle.pool_alloc.specs.PartyTold.{PartyTold}
-use Rattle.pool_alloc.specs.Sound.{IsPartAt}
-use Rattle.pool_alloc.specs.Steps.{with_part}
+use Rattle.pool_alloc.specs.BetweenSteps.{IsPartAt}
+use Rattle.pool_alloc.specs.StepReads.{with_part}
 use Rattle.pool_alloc.specs.Stepping.{CanStep, StepsTo, StepsAsking}
 use Rattle.pool_alloc.specs.Targets.{next_target}
 use Rattle.pool_alloc.specs.Turns.{After, PartAfter, part_after, resting}
@@ -30,11 +30,11 @@ use Rattle.pool_alloc.specs.declared.frame.Frame.{Frame}
 use Rattle.pool_alloc.specs.declared.frame.Outcome.{Outcome}
 use Rattle.pool_alloc.specs.declared.pool_core.PoolCore.{PoolCore}
 use Rattle.pool_alloc.specs.declared.pool_core.Settings.{Settings}
-use Rattle.pool_alloc.specs.declared.targets.Target.TheVariants.{Part}
+use Rattle.pool_alloc.specs.declared.step.targets.Target.TheVariants.{Part}
 use Rattle.pool_alloc.proofs.OnParts.{steps_at as steps_on}
 use Rattle.pool_alloc.proofs.PartFlows.{flows_on_part}
 use Rattle.pool_alloc.proofs.PoolParts.{part_same, part_other}
-use Rattle.pool_alloc.proofs.Steps.{can_still, step_ok}
+use Rattle.pool_alloc.proofs.StepNeeds.{can_still, step_ok}
 use Rattle.pool_alloc.proofs.NextTargets.{can_on}
 use Rattle.pool_driver.specs.Carrying.{Carries, Grows}
 use Rattle.pool_driver.specs.Driving.{Given, IsDriven, SeesAlike, changed, counted_by}

@@ -17,7 +17,7 @@ use Rattle.pool_slots.specs.declared.errors.ConcurrencyKind.TheVariants.{CoreIns
 use Rattle.pool_slots.specs.declared.plan.Allocator.{Allocator}
 use Rattle.pool_slots.specs.declared.plan.Plan.{Plan}
 use Rattle.pool_alloc.specs.Searches.{IsSearchedBy}
-use Rattle.pool_alloc.specs.Steps.{allocator_of}
+use Rattle.pool_alloc.specs.StepReads.{allocator_of}
 use Rattle.pool_alloc.specs.declared.frame.Ending.{Ending}
 use Rattle.pool_alloc.specs.declared.frame.Ending.TheVariants.{Granted as granted, Returned as returned, Refused as refused}
 use Rattle.pool_driver.specs.Telling.{HoldsMore, HasMore, IsFullSince, AreFullSince, AreTakenSince, CountsSince, RoomTold, LimitTold, RefusalTold, EndingTold, NoneTaken, IsReturnedBy, IsGoing, IsEnding, queue_takes}

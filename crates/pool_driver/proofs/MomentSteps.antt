@@ -12,8 +12,8 @@ use Rattle.pool_slots.specs.ListUnits.{bare, is_right, is_region}
 use Rattle.pool_slots.specs.RegionCells.{right_to as unit_right}
 use Rattle.pool_slots.specs.declared.part.PoolPart.{PoolPart}
 use Rattle.pool_slots.specs.declared.slot_name.SlotName.{SlotName}
+use Rattle.pool_alloc.specs.BetweenSteps.{IsFrame}
 use Rattle.pool_alloc.specs.Places.{right_to, region_of}
-use Rattle.pool_alloc.specs.Sound.{IsFrame}
 use Rattle.pool_alloc.specs.Stepping.{CanStep}
 use Rattle.pool_alloc.specs.declared.frame.Frame.{Frame}
 use Rattle.pool_alloc.specs.declared.frame.FrameLists.{FrameLists}

@@ -12,19 +12,19 @@ use Rattle.pool_slots.specs.declared.part.PoolPart.{PoolPart}
 use Rattle.pool_slots.specs.declared.part.PoolPart.TheVariants as part
 use Rattle.pool_slots.specs.declared.plan.Plan.{Plan}
 use Rattle.pool_alloc.specs.PartyTold.{PartyTold}
-use Rattle.pool_alloc.specs.Rows.{row_of}
-use Rattle.pool_alloc.specs.Steps.{IsQueuePart, shard_in, queue_in, shard_at, queue_at, shard_tried, queue_tried, wanted, with_part}
+use Rattle.pool_alloc.specs.StepTable.{row_of}
+use Rattle.pool_alloc.specs.StepReads.{IsQueuePart, shard_in, queue_in, shard_at, queue_at, shard_tried, queue_tried, wanted, with_part}
 use Rattle.pool_alloc.specs.Targets.{next_target, number_at}
 use Rattle.pool_alloc.specs.Turns.{After, resting}
-use Rattle.pool_alloc.specs.declared.counting.CounterName.{CounterName}
+use Rattle.pool_alloc.specs.declared.counters.CounterName.{CounterName}
 use Rattle.pool_alloc.specs.declared.frame.Frame.{Frame}
 use Rattle.pool_alloc.specs.declared.frame.Outcome.{Outcome}
 use Rattle.pool_alloc.specs.declared.frame.Phase.{Phase}
 use Rattle.pool_alloc.specs.declared.frame.Phase.TheVariants.{Pick, TakeQueue}
 use Rattle.pool_alloc.specs.declared.pool_core.PoolCore.{PoolCore}
 use Rattle.pool_alloc.specs.declared.pool_core.Settings.{Settings}
-use Rattle.pool_alloc.specs.declared.targets.Target.{Target}
-use Rattle.pool_alloc.specs.declared.targets.Target.TheVariants.{Part, Up, Down, Alone}
+use Rattle.pool_alloc.specs.declared.step.targets.Target.{Target}
+use Rattle.pool_alloc.specs.declared.step.targets.Target.TheVariants.{Part, Up, Down, Alone}
 use Rattle.pool_alloc.proofs.PlanPlaces.{tried_is_shard, tried_is_queue}
 use Rattle.pool_alloc.proofs.PoolParts.{part_same, shard_part, queue_part, sound_shard}
 use Rattle.pool_driver.specs.Driving.{Change, changed, counted, uncounted, unchanged, counter_number, Decides, view_after, IsChangeOf, SeesStep}

@@ -14,7 +14,7 @@ use Rattle.pool_slots.specs.Plans.{shard_role, role_at, slots_at}
 use Rattle.pool_slots.specs.declared.part.PoolPart.{PoolPart}
 use Rattle.pool_slots.specs.declared.part.PoolPart.TheVariants as part
 use Rattle.pool_slots.specs.declared.plan.Allocator.{Allocator}
-use Rattle.pool_alloc.specs.Sound.{IsPartFor}
+use Rattle.pool_alloc.specs.BetweenSteps.{IsPartFor}
 use Rattle.pool_alloc.specs.declared.pool_core.Settings.{Settings}
 use Rattle.pool_driver.specs.Counts.{counter_limits}
 use Rattle.pool_driver.specs.Ending.{HasNoted}

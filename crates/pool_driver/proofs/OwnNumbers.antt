@@ -8,9 +8,9 @@ use Rattle.pool_slots.specs.RegionCells.{IsAwaited}
 use Rattle.pool_slots.specs.SlotQueues.{Queued, first_of_kind}
 use Rattle.pool_slots.specs.declared.slot_name.RegionNumbers.{RegionNumbers}
 use Rattle.pool_slots.specs.declared.slot_name.SlotName.{SlotName}
-use Rattle.pool_alloc.specs.Sound.{HasRegion, IsCore, IsQueuedOf}
+use Rattle.pool_alloc.specs.BetweenSteps.{HasRegion, IsCore, IsQueuedOf}
 use Rattle.pool_alloc.specs.Stepping.{CanStep}
-use Rattle.pool_alloc.specs.Steps.{cell_named, cell_returned}
+use Rattle.pool_alloc.specs.StepReads.{cell_named, cell_returned}
 use Rattle.pool_alloc.specs.declared.frame.Frame.{Frame}
 use Rattle.pool_alloc.specs.declared.frame.Phase.{Phase}
 use Rattle.pool_alloc.specs.declared.frame.Phase.TheVariants.{PutBack, Flush, Purge, Release}
@@ -20,13 +20,13 @@ use Rattle.pool_alloc.specs.declared.purge.PurgeStep.{PurgeStep}
 use Rattle.pool_alloc.specs.declared.purge.PurgeStep.TheVariants as purging_step
 use Rattle.pool_alloc.specs.declared.release.ReleaseStep.{ReleaseStep}
 use Rattle.pool_alloc.specs.declared.release.ReleaseStep.TheVariants as releasing_step
-use Rattle.pool_alloc.proofs.Below.{queued_cells}
-use Rattle.pool_alloc.proofs.Hands.{in_phase}
-use Rattle.pool_alloc.proofs.Held.{HasGone, unit_once}
+use Rattle.pool_alloc.proofs.BeforeTheTurn.{in_phase}
 use Rattle.pool_alloc.proofs.OwnRegions.{queued_awaited, region_awaited}
+use Rattle.pool_alloc.proofs.PhaseFacts.{first_can_be_put}
 use Rattle.pool_alloc.proofs.PhaseSlots.{phase_gone}
 use Rattle.pool_alloc.proofs.ReturnRows.{first_of_all}
-use Rattle.pool_alloc.proofs.Stages.{first_can_be_put}
+use Rattle.pool_alloc.proofs.SlotsOfFrames.{HasGone, unit_once}
+use Rattle.pool_alloc.proofs.SumsBelow.{queued_cells}
 
 module _ {P H : Type 0} where
   -- The slot's cell waits for this, which went out with these numbers.

@@ -9,7 +9,7 @@ use Rattle.pool_slots.specs.SlotQueues.{Queued, Queue, by_kind, first_of_kind, f
 use Rattle.pool_slots.proofs.ByKinds.{each_by_kind}
 use Rattle.pool_slots.proofs.Lists.{each_append}
 use Rattle.pool_alloc.specs.Leases.{Lease, slot_taken}
-use Rattle.pool_alloc.specs.Own.{reset_into, slot_ended}
+use Rattle.pool_alloc.specs.MemorySteps.{reset_into, slot_ended}
 use Rattle.pool_alloc.specs.PoolStacks.{stack_reset}
 use Rattle.pool_alloc.specs.StackLeases.{LeasedStack}
 use Rattle.pool_alloc.specs.TableLeases.{LeasedTable}

@@ -20,8 +20,8 @@ use Rattle.pool_slots.specs.SlotQueues.{Queued, Queue, IsLeftBy, IsSlotLeft, for
 use Rattle.pool_slots.specs.declared.cells.ImageSlot.{ImageSlot}
 use Rattle.pool_slots.specs.declared.cells.ImageSlot.TheVariants.{Unmapped, Unknown, PreviouslyUsed, Taken}
 use Rattle.pool_slots.specs.declared.slot_name.SlotName.{SlotName}
-use Rattle.pool_alloc.specs.Answers.{Decommits, DecommitsWhole, Drains, Empties, Forgets, InstantiatesAs, RemovesImage, Resets}
-use Rattle.pool_alloc.specs.Own.{slot_ended}
+use Rattle.pool_alloc.specs.MemorySteps.{slot_ended}
+use Rattle.pool_alloc.specs.PageCallAnswers.{Decommits, DecommitsWhole, Drains, Empties, Forgets, InstantiatesAs, RemovesImage, Resets}
 use Rattle.pool_alloc.specs.Purges.{after_forgetting, known_after}
 use Rattle.pool_alloc.specs.Releases.{after_decommit}
 use Rattle.pool_alloc.specs.declared.frame.TakenSlot.{TakenSlot}

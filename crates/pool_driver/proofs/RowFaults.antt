@@ -38,15 +38,15 @@ use Rattle.pool_slots.specs.declared.plan.Plan.{Plan}
 use Rattle.pool_slots.specs.declared.slot_name.RegionNumbers.{RegionNumbers}
 use Rattle.pool_slots.specs.declared.slot_name.SlotName.{SlotName}
 use Rattle.pool_slots.proofs.Lists.{each_append}
-use Rattle.pool_alloc.specs.Answers.{Empties, FlushTold, InstantiatesFor, ResetTold, Resets}
+use Rattle.pool_alloc.specs.PageCallAnswers.{Empties, FlushTold, InstantiatesFor, ResetTold, Resets}
 use Rattle.pool_alloc.specs.HeapLeases.{LeasedHeap}
 use Rattle.pool_alloc.specs.Leases.{Lease, slot_taken}
 use Rattle.pool_alloc.specs.Modules.{IfAllocated}
-use Rattle.pool_alloc.specs.Own.{reset_into, refusal_of, made_for, made_of, made_of_limits}
+use Rattle.pool_alloc.specs.MemorySteps.{reset_into, refusal_of, made_for, made_of, made_of_limits}
 use Rattle.pool_alloc.specs.PoolStacks.{stack_reset}
-use Rattle.pool_alloc.specs.Rows as rows
-use Rattle.pool_alloc.specs.Sound.{IsMemoryNext}
-use Rattle.pool_alloc.specs.Steps.{StepGiven, allocator_for, cell_named, heaps_at, image_wanted, memories_wanted, part_holding, queue_at, queue_in, shard_at, tables_wanted, with_cell, with_part, with_queue, with_shard}
+use Rattle.pool_alloc.specs.StepTable as rows
+use Rattle.pool_alloc.specs.BetweenSteps.{IsMemoryNext}
+use Rattle.pool_alloc.specs.StepReads.{StepGiven, allocator_for, cell_named, heaps_at, image_wanted, memories_wanted, part_holding, queue_at, queue_in, shard_at, tables_wanted, with_cell, with_part, with_queue, with_shard}
 use Rattle.pool_alloc.specs.TableLeases.{LeasedTable}
 use Rattle.pool_alloc.specs.TableSteps.{table_reset_into, table_bytes, made_table, made_unless, table_in, table_refused}
 use Rattle.pool_alloc.specs.Turns.{After, Row, flush, goes, slot_search, stepped}
@@ -61,7 +61,7 @@ use Rattle.pool_alloc.specs.declared.frame.TakenSlot.{TakenSlot}
 use Rattle.pool_alloc.specs.declared.pool_core.PoolCore.{PoolCore}
 use Rattle.pool_alloc.specs.declared.pool_core.Settings.{Settings}
 use Rattle.pool_alloc.proofs.CoreChanges.{at_set}
-use Rattle.pool_alloc.proofs.Telling.{told_there}
+use Rattle.pool_alloc.proofs.ToldElements.{told_there}
 use Rattle.pool_driver.specs.Faults.{AnswerKeeps, FrameKeeps, KeepsFaults, LeaseKeeps, ObjectKeeps, PartKeeps, QueueKeeps, TableKeeps}
 use Rattle.pool_driver.specs.FaultsTold.{FaultTold, HasFaulted}
 use Rattle.pool_driver.specs.Placed.{IsSmall}

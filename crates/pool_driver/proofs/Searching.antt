@@ -17,9 +17,9 @@ use Rattle.pool_slots.specs.declared.part.PoolPart.{PoolPart}
 use Rattle.pool_slots.specs.declared.part.PoolPart.TheVariants as part
 use Rattle.pool_slots.specs.declared.plan.Plan.{Plan}
 use Rattle.pool_slots.specs.declared.slot_name.SlotName.{SlotName}
-use Rattle.pool_alloc.specs.Rows.{picked, taken_next, take_queue_on}
+use Rattle.pool_alloc.specs.StepTable.{picked, taken_next, take_queue_on}
 use Rattle.pool_alloc.specs.Searches.{IsSearchedBy}
-use Rattle.pool_alloc.specs.Steps.{allocator_for, wanted}
+use Rattle.pool_alloc.specs.StepReads.{allocator_for, wanted}
 use Rattle.pool_alloc.specs.Turns.{after, goes}
 use Rattle.pool_alloc.specs.declared.frame.Ending.{Ending}
 use Rattle.pool_alloc.specs.declared.frame.Ending.TheVariants.{Granted as granted, Returned as returned, Refused as refused}

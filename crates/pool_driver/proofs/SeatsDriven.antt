@@ -18,11 +18,11 @@ use Rattle.pool_alloc.specs.PartyTold.{PartyTold}
 use Rattle.pool_alloc.specs.StepsAlone.{CanStepAlone, StepsAlone}
 use Rattle.pool_alloc.specs.Targets.{next_target}
 use Rattle.pool_alloc.specs.Turns.{Left, PartAfter, left_by, part_after, resting}
-use Rattle.pool_alloc.specs.declared.counting.CounterName.{CounterName}
+use Rattle.pool_alloc.specs.declared.counters.CounterName.{CounterName}
 use Rattle.pool_alloc.specs.declared.frame.Frame.{Frame}
 use Rattle.pool_alloc.specs.declared.frame.Outcome.{Outcome}
 use Rattle.pool_alloc.specs.declared.pool_core.Settings.{Settings}
-use Rattle.pool_alloc.specs.declared.targets.Target.TheVariants.{Part, Up, Down, Alone}
+use Rattle.pool_alloc.specs.declared.step.targets.Target.TheVariants.{Part, Up, Down, Alone}
 use Rattle.pool_driver.specs.Driving.{Given, IsDriven, SeesAlike, SeesStep, counter_number}
 use Rattle.pool_driver.specs.Placed.{About, IsSmall, about_made, pool_meaning}
 use Rattle.pool_driver.specs.Pools.{IsPool}

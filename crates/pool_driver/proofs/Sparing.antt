@@ -20,8 +20,8 @@ use Rattle.pool_slots.specs.declared.part.PoolPart.TheVariants as part
 use Rattle.pool_slots.specs.declared.plan.Plan.{Plan}
 use Rattle.pool_slots.specs.declared.slot_name.SlotName.{SlotName}
 use Rattle.pool_alloc.specs.Purges.{pick_affine_row, has_turns, purged_memory, purged_stripe}
-use Rattle.pool_alloc.specs.Rows.{row_of, merged, put_first, flush_row, flush_step, FlushStep, run, zero, put, free}
-use Rattle.pool_alloc.specs.Steps.{StepGiven, IsQueuePart, shard_in, queue_in, shard_at, queue_at, with_part, with_shard, with_cell, with_queue, with_heaps, part_holding, after_frees, freed_of, first_shard}
+use Rattle.pool_alloc.specs.StepTable.{row_of, merged, put_first, flush_row, flush_step, FlushStep, run, zero, put, free}
+use Rattle.pool_alloc.specs.StepReads.{StepGiven, IsQueuePart, shard_in, queue_in, shard_at, queue_at, with_part, with_shard, with_cell, with_queue, with_heaps, part_holding, after_frees, freed_of, first_shard}
 use Rattle.pool_alloc.specs.Turns.{After, resting}
 use Rattle.pool_alloc.specs.declared.frame.Frame.{Frame}
 use Rattle.pool_alloc.specs.declared.frame.FreedSlot.{FreedSlot}
@@ -34,9 +34,9 @@ use Rattle.pool_alloc.specs.declared.purge.PurgeStep.TheVariants as purging_step
 use Rattle.pool_alloc.specs.declared.release.ReleaseStep.TheVariants as releasing_step
 use Rattle.pool_alloc.specs.PartyTold.{PartyTold}
 use Rattle.pool_alloc.specs.Targets.{next_target}
-use Rattle.pool_alloc.specs.declared.targets.Target.TheVariants.{Part}
+use Rattle.pool_alloc.specs.declared.step.targets.Target.TheVariants.{Part}
 use Rattle.pool_alloc.proofs.PoolParts.{part_same, part_other, queue_part}
-use Rattle.pool_alloc.proofs.Steps.{can_still}
+use Rattle.pool_alloc.proofs.StepNeeds.{can_still}
 use Rattle.pool_driver.specs.Driving.{Change, changed, counted as counter_up, uncounted as counter_down, unchanged, view_after, IsChangeOf, SeesStep}
 use Rattle.pool_driver.specs.Placed.{About, IsSmall, part_counts, pool_meaning}
 use Rattle.pool_driver.specs.Telling.{NoneTaken, queue_takes}

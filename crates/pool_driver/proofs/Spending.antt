@@ -21,9 +21,9 @@ use Rattle.pool_slots.specs.declared.part.PoolPart.{PoolPart}
 use Rattle.pool_slots.specs.declared.part.PoolPart.TheVariants as part
 use Rattle.pool_slots.specs.declared.plan.Plan.{Plan}
 use Rattle.pool_slots.specs.declared.slot_name.SlotName.{SlotName}
-use Rattle.pool_alloc.specs.Rows.{row_of, picked, taken_next, region_next, unmapped_next}
-use Rattle.pool_alloc.specs.Sound.{IsShapedAt}
-use Rattle.pool_alloc.specs.Steps.{memories_wanted, heaps_wanted, stacks_wanted, shard_at, shard_tried, wanted, allocator_for, cell_named}
+use Rattle.pool_alloc.specs.StepTable.{row_of, picked, taken_next, region_next, unmapped_next}
+use Rattle.pool_alloc.specs.BetweenSteps.{IsShapedAt}
+use Rattle.pool_alloc.specs.StepReads.{memories_wanted, heaps_wanted, stacks_wanted, shard_at, shard_tried, wanted, allocator_for, cell_named}
 use Rattle.pool_alloc.specs.Stepping.{is_idle}
 use Rattle.pool_alloc.specs.Turns.{After, Left, goes, after, resting}
 use Rattle.pool_alloc.specs.declared.frame.Asked.{Asked}
@@ -40,7 +40,7 @@ use Rattle.pool_alloc.specs.PartyTold.{PartyTold}
 use Rattle.pool_alloc.specs.Targets.{next_target}
 use Rattle.pool_alloc.proofs.PlanPlaces.{IsShardPlace}
 use Rattle.pool_alloc.proofs.PoolParts.{part_same, shard_part}
-use Rattle.pool_alloc.proofs.Steps.{can_still, step_ok}
+use Rattle.pool_alloc.proofs.StepNeeds.{can_still, step_ok}
 use Rattle.pool_driver.specs.Driving.{Change, changed, counted as counter_up, uncounted as counter_down, unchanged, view_after, IsChangeOf, SeesStep}
 use Rattle.pool_driver.specs.Placed.{About, IsSmall, part_counts, pool_meaning}
 use Rattle.pool_driver.specs.Spending.{is_shard_of, cold_in, in_hand, ColdWithin, Spends, AnswerWithin, AnswerSpends}

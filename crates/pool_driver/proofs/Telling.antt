@@ -12,12 +12,12 @@ use Rattle.pool_slots.specs.HeapLists.{heap_in}
 use Rattle.pool_alloc.specs.Calls.{begun_call}
 use Rattle.pool_alloc.specs.Leases.{Lease}
 use Rattle.pool_alloc.specs.PartyTold.{PartyTold}
-use Rattle.pool_alloc.specs.Rows.{row_of, counted, component_counted, component_tested, flush_step, no_instance_left}
-use Rattle.pool_alloc.specs.Sound.{IsShapedAt}
-use Rattle.pool_alloc.specs.Steps.{StepGiven, IsModule, shard_at, queue_at, shard_tried, queue_tried, cell_named, heaps_at}
+use Rattle.pool_alloc.specs.StepTable.{row_of, counted, component_counted, component_tested, flush_step, no_instance_left}
+use Rattle.pool_alloc.specs.BetweenSteps.{IsShapedAt}
+use Rattle.pool_alloc.specs.StepReads.{StepGiven, IsModule, shard_at, queue_at, shard_tried, queue_tried, cell_named, heaps_at}
 use Rattle.pool_alloc.specs.TableLeases.{LeasedTable}
 use Rattle.pool_alloc.specs.Turns.{After, all_returned, failing, resting, returned_next}
-use Rattle.pool_alloc.specs.declared.counting.CounterName.TheVariants as counter
+use Rattle.pool_alloc.specs.declared.counters.CounterName.TheVariants as counter
 use Rattle.pool_alloc.specs.declared.frame.Asked.{Asked}
 use Rattle.pool_alloc.specs.declared.frame.Asked.TheVariants as asked
 use Rattle.pool_alloc.specs.declared.frame.Call.{Call}

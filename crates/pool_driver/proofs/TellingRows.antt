@@ -25,11 +25,11 @@ use Rattle.pool_slots.specs.declared.errors.AllocError.TheVariants as refusal
 use Rattle.pool_slots.specs.declared.heap_maker.HeapMakeFault.TheVariants as no_heap
 use Rattle.pool_alloc.specs.Leases.{Lease}
 use Rattle.pool_alloc.specs.HeapLeases.{LeasedHeap}
-use Rattle.pool_alloc.specs.Own.{refusal_of, heap_refusal, made_of, made_of_limits, made_for}
+use Rattle.pool_alloc.specs.MemorySteps.{refusal_of, heap_refusal, made_of, made_of_limits, made_for}
 use Rattle.pool_alloc.specs.Purges.{purge_to, affine_picked, behind_memory, behind_turn, purge_row, has_turns, purged_stripe}
 use Rattle.pool_alloc.specs.Releases.{behind_stripe, free_first, drain_at, warm_taken, release_row, released_stripe}
-use Rattle.pool_alloc.specs.Rows.{unmapped_next, region_next, heap_next, validated, stacks_tested, heaps_tested, paged, was_made, was_made_table, make_heap_row, heap_granted, count_object_row, uncount_object_row, reset_row, was_reset, reset_turn, merged, flush_row, FlushStep, run, zero, put, free, put_first}
-use Rattle.pool_alloc.specs.Steps.{StepGiven}
+use Rattle.pool_alloc.specs.StepTable.{unmapped_next, region_next, heap_next, validated, stacks_tested, heaps_tested, paged, was_made, was_made_table, make_heap_row, heap_granted, count_object_row, uncount_object_row, reset_row, was_reset, reset_turn, merged, flush_row, FlushStep, run, zero, put, free, put_first}
+use Rattle.pool_alloc.specs.StepReads.{StepGiven}
 use Rattle.pool_alloc.specs.TableLeases.{LeasedTable}
 use Rattle.pool_alloc.specs.TableSteps.{made_unless, made_table}
 use Rattle.pool_alloc.specs.Turns.{Row, goes, after, failing}

@@ -8,7 +8,7 @@ use Rattle.pool_hall.specs.declared.view.View.{View}
 use Rattle.pool_slots.specs.declared.plan.Plan.{Plan}
 use Rattle.pool_alloc.specs.Leases.{Lease}
 use Rattle.pool_alloc.specs.Searches.{IsSearchedBy}
-use Rattle.pool_alloc.specs.Steps.{allocator_for, queues_next, kind_next}
+use Rattle.pool_alloc.specs.StepReads.{allocator_for, queues_next, kind_next}
 use Rattle.pool_alloc.specs.TableLeases.{LeasedTable}
 use Rattle.pool_alloc.specs.Turns.{Left, after, slot_search, no_slot_left, limit_of, returned_next, all_returned, granted_next, next_by, flush_next, is_flushed, failing, answer_of, is_granting}
 use Rattle.pool_alloc.specs.Objects.{objects_in, objects_wanted}

@@ -10,18 +10,18 @@ use Rattle.pool_slots.specs.Parts.{part_at}
 use Rattle.pool_slots.specs.declared.part.PoolPart.{PoolPart}
 use Rattle.pool_alloc.specs.PartyTold.{PartyTold}
 use Rattle.pool_alloc.specs.Places.{Counter, Counts, counted_instance, counted_component, counted_object, only, frame_counted, frame_instances, phase_counted}
-use Rattle.pool_alloc.specs.Sound.{IsFrame}
-use Rattle.pool_alloc.specs.Steps.{with_part}
+use Rattle.pool_alloc.specs.BetweenSteps.{IsFrame}
+use Rattle.pool_alloc.specs.StepReads.{with_part}
 use Rattle.pool_alloc.specs.Stepping.{CanStep, StepsAsking, count_granted, grant_counted}
 use Rattle.pool_alloc.specs.Targets.{counted_up, counting, next_target, number_at}
-use Rattle.pool_alloc.specs.declared.counting.CounterName.{CounterName}
-use Rattle.pool_alloc.specs.declared.counting.CounterName.TheVariants as counter
+use Rattle.pool_alloc.specs.declared.counters.CounterName.{CounterName}
+use Rattle.pool_alloc.specs.declared.counters.CounterName.TheVariants as counter
 use Rattle.pool_alloc.specs.declared.frame.Frame.{Frame}
 use Rattle.pool_alloc.specs.declared.frame.Outcome.{Outcome}
 use Rattle.pool_alloc.specs.declared.pool_core.Counters.{Counters}
 use Rattle.pool_alloc.specs.declared.pool_core.PoolCore.{PoolCore}
-use Rattle.pool_alloc.specs.declared.targets.Target.{Target}
-use Rattle.pool_alloc.specs.declared.targets.Target.TheVariants.{Part, Up, Down, Alone}
+use Rattle.pool_alloc.specs.declared.step.targets.Target.{Target}
+use Rattle.pool_alloc.specs.declared.step.targets.Target.TheVariants.{Part, Up, Down, Alone}
 use Rattle.pool_driver.specs.Carrying.{Carries}
 use Rattle.pool_driver.specs.Faults.{FrameKeeps, AnswerKeeps}
 use Rattle.pool_driver.specs.Growing.{AreKept}

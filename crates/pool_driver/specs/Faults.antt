@@ -19,7 +19,7 @@ use Rattle.pool_alloc.specs.declared.frame.Outcome.{Outcome}
 use Rattle.pool_alloc.specs.declared.frame.Outcome.TheVariants.{Granted}
 use Rattle.pool_alloc.specs.declared.frame.Phase.{Phase}
 use Rattle.pool_alloc.specs.declared.frame.Phase.TheVariants.{Empty, Instantiate, MakeMemory, MakeTable, CountObject, PutBack, UncountObject, UncountHeap, PutHeap, FreeHeap, Reset, Purge, Release}
-use Rattle.pool_alloc.specs.declared.lease.InstanceLease.{InstanceLease}
+use Rattle.pool_alloc.specs.declared.leases.instance.InstanceLease.{InstanceLease}
 use Rattle.pool_alloc.specs.declared.purge.PurgeStep.{PurgeStep}
 use Rattle.pool_alloc.specs.declared.purge.PurgeStep.TheVariants as purging_step
 use Rattle.pool_alloc.specs.declared.release.ReleaseStep.{ReleaseStep}

@@ -5,8 +5,8 @@ use Rattle.pool_hall.specs.Moment.{Moment}
 use Rattle.pool_hall.specs.Step.{moved, MayPut}
 use Rattle.pool_hall.specs.declared.unit_name.UnitName.{UnitName}
 use Rattle.pool_slots.specs.declared.part.PoolPart.{PoolPart}
+use Rattle.pool_alloc.specs.BetweenSteps.{IsFrame}
 use Rattle.pool_alloc.specs.PartFlows.{FlowsOnPart}
-use Rattle.pool_alloc.specs.Sound.{IsFrame}
 use Rattle.pool_alloc.specs.Stepping.{CanStep}
 use Rattle.pool_alloc.specs.Turns.{After}
 use Rattle.pool_alloc.specs.declared.frame.Frame.{Frame}

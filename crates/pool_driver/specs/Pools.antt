@@ -11,9 +11,9 @@ use Rattle.pool_hall.specs.Seat.{made_with, limits_of, view, IsSeatOf, IsFree}
 use Rattle.pool_hall.specs.declared.hall.Hall.{Hall}
 use Rattle.pool_hall.specs.declared.view.View.{View}
 use Rattle.pool_slots.specs.declared.part.PoolPart.{PoolPart}
+use Rattle.pool_alloc.specs.BetweenSteps.{IsSettings, IsPoolPlan}
 use Rattle.pool_alloc.specs.Calls.{lists_made}
 use Rattle.pool_alloc.specs.Made.{IsMadeCore}
-use Rattle.pool_alloc.specs.Sound.{IsSettings, IsPoolPlan}
 use Rattle.pool_alloc.specs.declared.frame.FrameLists.{FrameLists}
 use Rattle.pool_alloc.specs.declared.pool_core.Counters.{Counters}
 use Rattle.pool_alloc.specs.declared.pool_core.PoolCore.{PoolCore}

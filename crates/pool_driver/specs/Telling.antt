@@ -16,7 +16,7 @@ use Rattle.pool_slots.specs.declared.plan.Allocator.{Allocator}
 use Rattle.pool_slots.specs.declared.plan.Plan.{Plan}
 use Rattle.pool_alloc.specs.Places.{counted_instance, counted_component}
 use Rattle.pool_alloc.specs.Searches.{IsSearchedBy}
-use Rattle.pool_alloc.specs.Steps.{allocator_for, allocator_of}
+use Rattle.pool_alloc.specs.StepReads.{allocator_for, allocator_of}
 use Rattle.pool_alloc.specs.declared.frame.Ending.{Ending}
 use Rattle.pool_alloc.specs.declared.frame.Ending.TheVariants.{Returned as returned, Refused as refused}
 use Rattle.pool_alloc.specs.declared.frame.Frame.{Frame}

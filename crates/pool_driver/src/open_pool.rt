@@ -3,8 +3,8 @@ ghost use Rattle.std.specs.Prelude.{◌≡◌, ◌+◌, ◌^◌, ◌<◌, ◌≤
 ghost use Rattle.std.specs.List.{AllByRecursion};
 ghost use Rattle.pool_hall.specs.Rule.{first_view};
 ghost use Rattle.pool_hall.specs.Seat.{made_with, limits_of, view};
-ghost use Rattle.pool_alloc.specs.Sound.{IsCore};
-ghost use Rattle.pool_alloc.specs.Whole.{IsUntouched};
+ghost use Rattle.pool_alloc.specs.BetweenSteps.{IsCore};
+ghost use Rattle.pool_alloc.specs.PoolAndHolders.{IsUntouched};
 ghost use Rattle.pool_driver.specs.Counts.{counter_limits, counter_total};
 ghost use Rattle.pool_driver.specs.Origins.{about_of, inner_of};
 ghost use Rattle.pool_driver.specs.Placed.{about_by};

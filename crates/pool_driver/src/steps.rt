@@ -3,7 +3,7 @@ ghost use Rattle.std.specs.Prelude.{◌≡◌, length, None};
 ghost use Rattle.pool_hall.specs.Seat.{made_with, view, IsSeatOf, IsFree};
 ghost use Rattle.pool_limits.specs.Exchanges.{Exchanged};
 ghost use Rattle.pool_alloc.specs.Targets.{next_target};
-ghost use Rattle.pool_alloc.specs.declared.targets.Target.TheVariants.{Part, Up, Down};
+ghost use Rattle.pool_alloc.specs.declared.step.targets.Target.TheVariants.{Part, Up, Down};
 ghost use Rattle.pool_driver.specs.Driving.{Given, IsDriven, SeesAlike, SeesStep, counter_number};
 ghost use Rattle.pool_driver.specs.Origins.{about_of, inner_of};
 ghost use Rattle.pool_driver.specs.Placed.{IsSmall};

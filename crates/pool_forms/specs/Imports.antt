@@ -6,8 +6,8 @@ pub use Rattle.std.specs.Result.{result_ok}
 pub use Rattle.std.specs.Str.{bytes_eq, is_utf8}
 pub use Rattle.hex.specs.Hex.{decode_of, encode_lower}
 pub use Rattle.pool_alloc.specs.declared.metrics.Metrics.{Metrics}
-pub use Rattle.pool_alloc.specs.declared.table_element.Element.{Element}
-pub use Rattle.pool_alloc.specs.declared.table_element.Element.TheVariants.{Gc, Uninitialised}
+pub use Rattle.pool_alloc.specs.declared.leases.element.Element.{Element}
+pub use Rattle.pool_alloc.specs.declared.leases.element.Element.TheVariants.{Gc, Uninitialised}
 pub use Rattle.pool_limits.specs.Texts.{limiter_text}
 pub use Rattle.pool_limits.specs.declared.errors.Trap.{Trap}
 pub use Rattle.pool_limits.specs.declared.errors.Trap.TheVariants.{AtomicWaitNonSharedMemory, HeapMisaligned, MemoryOutOfBounds, TableOutOfBounds}

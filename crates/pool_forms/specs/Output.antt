@@ -2,7 +2,7 @@
 use Rattle.std.specs.Prelude.{ℕ, ◌+◌, ◌==◌, if◌then◌else◌, List, [], ◌∷◌, ◌++◌, codes, Bool, true, false, Option, Some, None, slice_get}
 use Rattle.pool_forms.specs.Imports.{decimal, encode_lower, whole_text, ModuleInfo, PageCalls, limit_text, AllocError, NoMemory, Unsupported, Limit, StacksDisabled, HeapsDisabled, LimiterDenied, LimiterFault, PageFault, HeapFault, limiter_text, Trap, MemoryOutOfBounds, TableOutOfBounds, HeapMisaligned, AtomicWaitNonSharedMemory, Metrics, Command, Instantiate, Input, RunOutput, Refusal, NoSuchGrant, GcStoreFault, Alloc, Reply, Instance, Told, Returned, Purged, Released, Refused, Trapped, VMContObj, Element, Uninitialised, Gc}
 use Rattle.pool_run.specs.declared.reply.Reply.TheVariants.{Component, Stack, Heap, Bytes, Done, Size, Grown}
-use Rattle.pool_alloc.specs.declared.table_element.Element.TheVariants.{Func, Cont}
+use Rattle.pool_alloc.specs.declared.leases.element.Element.TheVariants.{Func, Cont}
 use Rattle.pool_forms.specs.declared.print.Allocator.{Allocator}
 use Rattle.pool_forms.specs.declared.print.Allocator.TheVariants.{Pooling, OnDemand}
 use Rattle.pool_forms.specs.Fields.{◌>>=◌}

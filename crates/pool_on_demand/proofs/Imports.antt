@@ -5,10 +5,10 @@ pub use Rattle.std.proofs.lemmas.Bool.{leb-true}
 pub use Rattle.std.proofs.lemmas.List.{append_assoc, get_or-replicate, get_or_append_left, length-append, length-replicate, length-take-le, take-append-drop, take_more}
 pub use Rattle.std.specs.List.{list_all}
 pub use Rattle.std.specs.Option.{option_map_or}
-pub use Rattle.pool_alloc.proofs.Guarded.{guarded, guarded_plain}
-pub use Rattle.pool_alloc.specs.Guards.{IsOpen}
+pub use Rattle.pool_alloc.proofs.GuardPages.{guarded, guarded_plain}
+pub use Rattle.pool_alloc.specs.GuardPages.{IsOpen}
 pub use Rattle.pool_alloc.specs.Requests.{AreImagesOf, IsMemoryOf, IsSameRequest, if_leads, image_at, image_for, lent}
-pub use Rattle.pool_alloc.specs.declared.request.InstanceAllocationRequest.{InstanceAllocationRequest}
+pub use Rattle.pool_alloc.specs.declared.instance_allocator.request.InstanceAllocationRequest.{InstanceAllocationRequest}
 pub use Rattle.pool_images.proofs.Begun.{if_mapped, rounded_up_above}
 pub use Rattle.pool_images.proofs.Making.{fresh_clean, fresh_keeps}
 pub use Rattle.pool_images.proofs.Marks.{marked_above, range-zeros}

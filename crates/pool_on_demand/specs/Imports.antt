@@ -1,7 +1,7 @@
 -- What the files of specs/ import from the crates below and from std, but for std's plainest words.
 pub use Rattle.std.specs.Option.{option_or}
 pub use Rattle.std.specs.declared.alloc.Global.{Global}
-pub use Rattle.pool_alloc.specs.Guards.{guarding}
+pub use Rattle.pool_alloc.specs.GuardPages.{guarding}
 pub use Rattle.pool_alloc.specs.Refusals.{first_refused}
 pub use Rattle.pool_alloc.specs.Requests.{image_at}
 pub use Rattle.pool_images.specs.Images.{Image}

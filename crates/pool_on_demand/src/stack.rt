@@ -7,7 +7,7 @@ ghost use Rattle.pool_memory.specs.Creators.{IsSameMaker};
 ghost use Rattle.pool_memory.specs.Moving.{IsAsked, IsMadeRegion, IsRegionRefused, next_name};
 ghost use Rattle.pool_on_demand.specs.Answers.{Allocates, GrantsOrGives};
 ghost use Rattle.pool_on_demand.specs.Refusals.{stack_refused};
-ghost use Rattle.pool_alloc.specs.Guards.{IsOpen, guarding};
+ghost use Rattle.pool_alloc.specs.GuardPages.{IsOpen, guarding};
 ghost use Rattle.pool_on_demand.specs.Stacks.{IsStackMade, AsksForStack, stack_room, stack_behaviour, stack_in};
 
 use crate::lease::OnDemandStack;

@@ -7,8 +7,8 @@ use Rattle.pool_run.specs.Turns.{OpensAt, OpensNext, rests}
 use Rattle.pool_run.specs.declared.command.Command.{Command}
 use Rattle.pool_run.specs.declared.reply.Reply.{Reply}
 use Rattle.pool_run.specs.declared.running_party.RunningParty.{RunningParty}
-use Rattle.pool_run.proofs.Between.{set_other}
 use Rattle.pool_run.proofs.Folding.{folds_on}
+use Rattle.pool_run.proofs.KeptBetweenTurns.{set_other}
 use Rattle.pool_run.proofs.RunMade.{repeated}
 
 -- the turns of one party more

@@ -12,34 +12,34 @@ pub use Rattle.std.proofs.lemmas.Option.{get_or_from_slice_get, same_Some, slice
 pub use Rattle.std.specs.List.{AllByRecursion, AllZip, concat, list_all, list_any, range_with_len, slice_get}
 pub use Rattle.std.specs.Option.{option_and_then, option_map_or, option_or}
 pub use Rattle.std.specs.Vec.Iter.{into_iter_items}
-pub use Rattle.pool_alloc.proofs.BegunCalls.{at_rest, begun_bounded, begun_frame, begun_weight, call_has, idle_left, made_frame, made_weight, steps_left_same}
-pub use Rattle.pool_alloc.proofs.Below.{below, below_most, below_one, below_sum}
-pub use Rattle.pool_alloc.proofs.Hands.{frame_of, held_of}
-pub use Rattle.pool_alloc.proofs.Held.{frame_regions, none_past, right_is_out}
+pub use Rattle.pool_alloc.proofs.BeforeTheTurn.{frame_of, held_of}
+pub use Rattle.pool_alloc.proofs.BegunFrames.{at_rest, begun_bounded, begun_frame, begun_weight, call_has, idle_left, made_frame, made_weight, steps_left_same}
 pub use Rattle.pool_alloc.proofs.KeptCounts.{out_once}
 pub use Rattle.pool_alloc.proofs.MadePools.{made_core, made_untouched}
 pub use Rattle.pool_alloc.proofs.Picks.{picked_inside}
 pub use Rattle.pool_alloc.proofs.PlanPlaces.{IsShardPlace, cell_inside}
+pub use Rattle.pool_alloc.proofs.PoolAndHolders.{two_of_sum}
 pub use Rattle.pool_alloc.proofs.PoolParts.{name_in, slot_of_shard, sound_shard}
 pub use Rattle.pool_alloc.proofs.QueueCounts.{leased_regions, sum_by_agree, tables_regions}
 pub use Rattle.pool_alloc.proofs.SlotCounts.{both_regions, region_rights, slot_once, slot_other}
 pub use Rattle.pool_alloc.proofs.SlotIdentity.{IsOneSlot, slot_of_one}
-pub use Rattle.pool_alloc.proofs.Steps.{same_size, step_fewer, step_grants, step_ok}
+pub use Rattle.pool_alloc.proofs.SlotsOfFrames.{frame_regions, none_past, right_is_out}
+pub use Rattle.pool_alloc.proofs.StepNeeds.{same_size, step_fewer, step_grants, step_ok}
 pub use Rattle.pool_alloc.proofs.Striping.{some_stripes}
-pub use Rattle.pool_alloc.proofs.Untouched.{HasNothing, none_away, none_kept, untouched_is_whole}
+pub use Rattle.pool_alloc.proofs.SumsBelow.{below, below_most, below_one, below_sum}
+pub use Rattle.pool_alloc.proofs.UnusedPools.{HasNothing, none_away, none_kept, untouched_is_whole}
 pub use Rattle.pool_alloc.proofs.UsedSlots.{kept_sum, picked_was_in, used_is_out}
 pub use Rattle.pool_alloc.proofs.Weights.{conserves_units, frame_counts, frame_units, grant_counts, grant_units, no_total}
-pub use Rattle.pool_alloc.proofs.Wholes.{two_of_sum}
-pub use Rattle.pool_alloc.specs.Answers.{AsksForMemory, AsksOf, ByImage, Decommits, DecommitsWhole, Drains, Empties, FlushPlanned, FlushTold, FollowsDrain, FollowsForget, FollowsPlan, FollowsPlanFor, FollowsReset, FollowsRun, Forgets, InstantiatesAs, InstantiatesFor, IsPlanned, MakesOf, MayBeTold, RemovesImage, Resets}
-pub use Rattle.pool_alloc.specs.Asked.{ModuleAsked}
-pub use Rattle.pool_alloc.specs.Bounds.{bound_of, steps_left}
+pub use Rattle.pool_alloc.specs.PageCallAnswers.{AsksForMemory, AsksOf, ByImage, Decommits, DecommitsWhole, Drains, Empties, FlushPlanned, FlushTold, FollowsDrain, FollowsForget, FollowsPlan, FollowsPlanFor, FollowsReset, FollowsRun, Forgets, InstantiatesAs, InstantiatesFor, IsPlanned, MakesOf, MayBeTold, RemovesImage, Resets}
+pub use Rattle.pool_alloc.specs.PlainModules.{ModuleAsked}
+pub use Rattle.pool_alloc.specs.StepBounds.{bound_of, steps_left}
 pub use Rattle.pool_alloc.specs.Calls.{IfGranted, IsGrant, IsGrantOf, IsHeapOf, IsIdle, MayBegin, begun_call, frame_made, lists_made}
 pub use Rattle.pool_alloc.specs.HeapLeases.{LeasedHeap, heap_slot_taken}
 pub use Rattle.pool_alloc.specs.Leases.{IsChanged, IsGrown, IsWritten, Lease, memory_slot, slot_taken}
 pub use Rattle.pool_alloc.specs.Made.{GivesUpRegion, IsMadeCore, fails_slots, lists_making, part_settings, plan_settings, slots_of}
 pub use Rattle.pool_alloc.specs.Modules.{HasImages}
 pub use Rattle.pool_alloc.specs.Objects.{objects_in, objects_wanted}
-pub use Rattle.pool_alloc.specs.Own.{heap_refusal, heap_refusal as heap_refusal_of, made_for, made_of, made_of_limits, memory_made}
+pub use Rattle.pool_alloc.specs.MemorySteps.{heap_refusal, heap_refusal as heap_refusal_of, made_for, made_of, made_of_limits, memory_made}
 pub use Rattle.pool_alloc.specs.PartyTold.{MakesHeap, PartyTold}
 pub use Rattle.pool_alloc.specs.Places.{Counter, Counts, Thing, Weight, away_count, away_weight, both_count, counted_component, counted_instance, counted_object, counters_counted, frame_count, frame_counted, frame_instances, frame_weight, instance_count, instance_counted, instances_for, kept_count, leased_count, number_counted, of_counts, of_units, only, phase_count, phase_counted, phase_instances, queued_count, region_of, right_to, slot_count, tables_count, taken_count}
 pub use Rattle.pool_alloc.specs.PoolStacks.{IsNewStack, IsPoolStack, IsStackLease}
@@ -48,19 +48,19 @@ pub use Rattle.pool_alloc.specs.Purges.{after_forgetting, has_turns, known_after
 pub use Rattle.pool_alloc.specs.Refusals.{component_refused, heap_refused, module_refused, type_refused}
 pub use Rattle.pool_alloc.specs.Releases.{after_decommit, release_row, reserve_row}
 pub use Rattle.pool_alloc.specs.Reserved.{Reserved, no_room}
-pub use Rattle.pool_alloc.specs.Rows.{FlushStep, component_counted, component_tested, counted, flush_row, flush_step, free, heap_granted, heaps_tested, kind_settled, make_heap_row, make_memory_row, make_table_row, merged, no_component_left, paged, put, put_first, row_of, run, settled_step, some_queued, stacks_tested, validated, was_made, was_made_table, was_reset, zero, zero as zero_by_hand}
+pub use Rattle.pool_alloc.specs.StepTable.{FlushStep, component_counted, component_tested, counted, flush_row, flush_step, free, heap_granted, heaps_tested, kind_settled, make_heap_row, make_memory_row, make_table_row, merged, no_component_left, paged, put, put_first, row_of, run, settled_step, some_queued, stacks_tested, validated, was_made, was_made_table, was_reset, zero, zero as zero_by_hand}
 pub use Rattle.pool_alloc.specs.Searches.{IsSearched, IsSearchedAt}
-pub use Rattle.pool_alloc.specs.Sound.{AreBegun, AreImagesOf, AreLeasesOf, AreSupported, HasSlot, IsAllocating, IsCore, IsDraining, IsEnabled, IsFrame, IsHeapNext, IsLeaseOf, IsLocal, IsMemoryNext, IsNew, IsPartAt, IsPartFor, IsPoolPlan, IsPoolSlot, IsQueuedOf, IsShapedAt, IsSlotName, IsSupported, IsTableNext, MayBeRanged, MayHold, MayQueue, MustBeByHand}
+pub use Rattle.pool_alloc.specs.BetweenSteps.{AreBegun, AreImagesOf, AreLeasesOf, AreSupported, HasSlot, IsAllocating, IsCore, IsDraining, IsEnabled, IsFrame, IsHeapNext, IsLeaseOf, IsLocal, IsMemoryNext, IsNew, IsPartAt, IsPartFor, IsPoolPlan, IsPoolSlot, IsQueuedOf, IsShapedAt, IsSlotName, IsSupported, IsTableNext, MayBeRanged, MayHold, MayQueue, MustBeByHand}
 pub use Rattle.pool_alloc.specs.StackLeases.{LeasedStack, stack_slot, stack_taken}
-pub use Rattle.pool_alloc.specs.Stages.{FailsHeap, FindsNone, Follows, Goes, GoesOn, HasHeap, IsBroken, IsHeapTested, IsHeapUntested, IsPageFaulted, IsUntested, Makes, MakesTable, Progress, Raises, SeeksHeap, Stage, admitted, asks, counts_component, counts_heap, keys, no_call, purging, refusing, releasing, reserving, returning, seeks_heap, seeks_stack, stage_at, stage_back, stage_by, stage_of, stage_of_release, tests_component, tests_heap, uncounted, untested}
+pub use Rattle.pool_alloc.specs.CallStages.{FailsHeap, FindsNone, Follows, Goes, GoesOn, HasHeap, IsBroken, IsHeapTested, IsHeapUntested, IsPageFaulted, IsUntested, Makes, MakesTable, Progress, Raises, SeeksHeap, Stage, admitted, asks, counts_component, counts_heap, keys, no_call, purging, refusing, releasing, reserving, returning, seeks_heap, seeks_stack, stage_at, stage_back, stage_by, stage_of, stage_of_release, tests_component, tests_heap, uncounted, untested}
 pub use Rattle.pool_alloc.specs.Stepping.{CanCount, CanStep, Conserves, IsSameSize, StepsTo, count_granted, grant_components, grant_count, grant_counted, grant_heaps, grant_instances, grant_memories, grant_stacks, grant_tables, grant_weight, is_idle}
-pub use Rattle.pool_alloc.specs.Steps.{IsForInstance, IsHeapAsked, IsModule, StepGiven, allocator_for, allocator_of, heaps_wanted, image_wanted, images_made, images_wanted, info_wanted, kind_by, kind_next, memories_wanted, memory_slots, no_allocator, no_module, plain_decl, queue_in, shard_at, shard_in, stripe_allocator, tables_wanted}
-pub use Rattle.pool_alloc.specs.Sums.{calls_kept, metrics_of}
+pub use Rattle.pool_alloc.specs.StepReads.{IsForInstance, IsHeapAsked, IsModule, StepGiven, allocator_for, allocator_of, heaps_wanted, image_wanted, images_made, images_wanted, info_wanted, kind_by, kind_next, memories_wanted, memory_slots, no_allocator, no_module, plain_decl, queue_in, shard_at, shard_in, stripe_allocator, tables_wanted}
+pub use Rattle.pool_alloc.specs.PoolTotals.{calls_kept, metrics_of}
 pub use Rattle.pool_alloc.specs.TableLeases.{IsElementAt, IsFilled, IsLengthened, IsSet, LeasedTable, LiesInRegion, SetsElements, element_of, table_slot, table_taken}
 pub use Rattle.pool_alloc.specs.TableSteps.{AsksForTable, bytes_used, made_table, made_unless, table_bytes, table_in, table_made, table_refused}
 pub use Rattle.pool_alloc.specs.Turns.{After, Left, Row, Turn, after, all_returned, ends, failing, flush, goes, granted_next, is_flushed, limit_of, next, next_by, returned_next, search, stays, stepped}
-pub use Rattle.pool_alloc.specs.Wants.{MemoryWant, Want, new_heap, new_memory, new_stack, new_table, wants_from}
-pub use Rattle.pool_alloc.specs.Whole.{HasSlots, IsPartitioned, IsUntouched}
+pub use Rattle.pool_alloc.specs.WantedObjects.{MemoryWant, Want, new_heap, new_memory, new_stack, new_table, wants_from}
+pub use Rattle.pool_alloc.specs.PoolAndHolders.{HasSlots, IsPartitioned, IsUntouched}
 pub use Rattle.pool_alloc.specs.declared.frame.Asked.{Asked}
 pub use Rattle.pool_alloc.specs.declared.frame.Asked.TheVariants.{Heap as heap_asked, Module as module_asked, Nothing as nothing_asked, Stack as stack_asked}
 pub use Rattle.pool_alloc.specs.declared.frame.Call.{Call}
@@ -76,7 +76,7 @@ pub use Rattle.pool_alloc.specs.declared.frame.Outcome.{Outcome}
 pub use Rattle.pool_alloc.specs.declared.frame.Phase.{Phase}
 pub use Rattle.pool_alloc.specs.declared.frame.Phase.TheVariants.{CountComponent, CountHeap, CountInstance, CountObject, Empty, Flush, FreeHeap, FreeOne, Idle, Instantiate, Key, MakeHeap, MakeMemory, MakeTable, Merge, Pick, Purge, PutBack, PutHeap, PutNoHeap, Release, Reset, TakeHeap, TakeQueue, TakeRegion, TestHeap, TestStack, UncountComponent, UncountHeap, UncountInstance, UncountObject, Validate, ValidateComponent}
 pub use Rattle.pool_alloc.specs.declared.frame.TakenSlot.{TakenSlot}
-pub use Rattle.pool_alloc.specs.declared.lease.InstanceLease.{InstanceLease}
+pub use Rattle.pool_alloc.specs.declared.leases.instance.InstanceLease.{InstanceLease}
 pub use Rattle.pool_alloc.specs.declared.metrics.Metrics.{Metrics}
 pub use Rattle.pool_alloc.specs.declared.pool_core.Counters.{Counters}
 pub use Rattle.pool_alloc.specs.declared.pool_core.PoolCore.{PoolCore}
@@ -86,7 +86,7 @@ pub use Rattle.pool_alloc.specs.declared.purge.PurgeStep.{PurgeStep}
 pub use Rattle.pool_alloc.specs.declared.release.ReleaseCursor.{ReleaseCursor}
 pub use Rattle.pool_alloc.specs.declared.release.ReleaseStep.{ReleaseStep}
 pub use Rattle.pool_alloc.specs.declared.release.ReleaseStep.TheVariants.{Reserve}
-pub use Rattle.pool_alloc.specs.declared.table_element.Element.{Element}
+pub use Rattle.pool_alloc.specs.declared.leases.element.Element.{Element}
 pub use Rattle.pool_hall.specs.declared.unit_name.SlotKind.{SlotKind}
 pub use Rattle.pool_hall.specs.declared.unit_name.SlotKind.TheVariants.{Heap as heap_kind, Memory as memory_kind, Stack as stack_kind, Table as table_kind}
 pub use Rattle.pool_images.proofs.Begun.{rounded_up_above}

@@ -1,6 +1,5 @@
 pub mod Advanced
 pub mod Beginning
-pub mod Between
 pub mod BuiltInputs
 pub mod Bytes
 pub mod BytesMoved
@@ -23,6 +22,7 @@ pub mod HeapRequests
 pub mod HeldSlots
 mod Imports
 pub mod InputsRun
+pub mod KeptBetweenTurns
 pub mod LeaseChanges
 pub mod Limits
 pub mod LimitsOfRuns

@@ -13,7 +13,7 @@ use Rattle.pool_run.specs.Rooms.{World}
 use Rattle.pool_run.specs.declared.command.Command.{Command}
 use Rattle.pool_run.specs.declared.running_party.RunningParty.{RunningParty}
 use Rattle.pool_run.proofs.Advanced.{HasAdvanced, has_advanced}
-use Rattle.pool_run.proofs.Between.{IsDrawn, ready_there, still_drawn, advances}
+use Rattle.pool_run.proofs.KeptBetweenTurns.{IsDrawn, ready_there, still_drawn, advances}
 use Rattle.pool_run.proofs.Counters.{can_count}
 use Rattle.pool_run.proofs.Ended.{few_told, folds_count}
 use Rattle.pool_run.proofs.Folding.{run_turned, folds_more}

@@ -12,7 +12,7 @@ use Rattle.pool_run.specs.declared.running_party.RunningParty.{RunningParty}
 use Rattle.pool_run.proofs.Finishing.{set_same, turned_others}
 use Rattle.pool_run.proofs.Ended.{folds_count}
 use Rattle.pool_run.proofs.Folding.{run_turned, folds_on}
-use Rattle.pool_run.proofs.Between.{set_other}
+use Rattle.pool_run.proofs.KeptBetweenTurns.{set_other}
 use Rattle.pool_run.proofs.Cleared.{IsClearIdle}
 use Rattle.pool_run.proofs.Opened.{idle_is}
 use Rattle.pool_run.proofs.Pending.{IsPast, PastReply, step_past}

@@ -2,7 +2,7 @@
 use Rattle.std.proofs.Common.{◌≡◌, ℕ, true, List, Option, Some, None, refl, sym, ap, ◌∙◌, subst, is_some, [], ◌<◌, ◌≤◌, IfSome, slice_get, arith}
 use Rattle.pool_run.proofs.Imports.{some_mapped, told_if, Contents, MakerTold, Told, SlotIdentity, GrowthRule, Plan, elements, elements_in, TableView, state_in, ListedStore, IsTableLease, LeasedTable, element_of, Settings, Element}
 use Rattle.pool_table.specs.Elements as elem
-use Rattle.pool_alloc.specs.declared.table_element.Element.TheVariants as item
+use Rattle.pool_alloc.specs.declared.leases.element.Element.TheVariants as item
 use Rattle.pool_run.specs.Acts.{TableOp, gets, sets, lengthens, asks_length}
 use Rattle.pool_run.specs.PrivateTables.{Host, PrivateTable, StoredTable, IsGot, TableMoves}
 use Rattle.pool_run.specs.Turns.{private_table, stored_as, faults_left, MovesTable}

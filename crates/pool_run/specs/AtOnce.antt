@@ -4,7 +4,7 @@ use Rattle.pool_run.specs.Imports.{GrowthRule, GrowthGiven, LimiterTold, GrowFau
 use Rattle.pool_limits.specs.declared.errors.GrowFault.TheVariants as fault
 use Rattle.pool_slots.specs.declared.errors.AllocError.TheVariants as alloc
 use Rattle.pool_table.specs.declared.gc_store.GcTableError.TheVariants as failed
-use Rattle.pool_alloc.specs.declared.table_element.Element.{Element}
+use Rattle.pool_alloc.specs.declared.leases.element.Element.{Element}
 use Rattle.pool_run.specs.Acts.{MemoryOp, reads, writes, fills, grows, asks_size, TableOp, gets, sets, lengthens, asks_length, Act, requests, on_memory, on_table, drops, purges, releases, Wanted, an_instance, a_component, a_stack, a_heap}
 use Rattle.pool_run.specs.Objects.{MovesNamed}
 use Rattle.pool_run.specs.Turns.{LeaseMoves, StackStateMoves, StackLeaseMoves, leases_of, with_lease, with_stack_lease}

@@ -2,31 +2,31 @@
 pub use Rattle.std.specs.Int.{div_ceil}
 pub use Rattle.std.specs.List.{Any, concat, list_all, list_any, range_with_len, slice_get}
 pub use Rattle.std.specs.Option.{option_and_then, option_map_or, option_or}
-pub use Rattle.pool_alloc.specs.Asked.{ModuleAsked}
-pub use Rattle.pool_alloc.specs.Bounds.{bound_of, steps_left}
+pub use Rattle.pool_alloc.specs.PlainModules.{ModuleAsked}
+pub use Rattle.pool_alloc.specs.StepBounds.{bound_of, steps_left}
 pub use Rattle.pool_alloc.specs.Calls.{IsGrant, IsIdle, begun_call, frame_made}
 pub use Rattle.pool_alloc.specs.HeapLeases.{LeasedHeap}
 pub use Rattle.pool_alloc.specs.Leases.{IsUsable, Lease}
 pub use Rattle.pool_alloc.specs.Made.{IsMadeCore, settings_of}
 pub use Rattle.pool_alloc.specs.Modules.{HasImages}
-pub use Rattle.pool_alloc.specs.Own.{refusal_of}
+pub use Rattle.pool_alloc.specs.MemorySteps.{refusal_of}
 pub use Rattle.pool_alloc.specs.PartyTold.{PartyTold}
 pub use Rattle.pool_alloc.specs.Places.{Weight, away_count, away_weight, counted_component, counted_instance, counted_object, frame_weight, kept_count, of_units, only, queued_count, region_of, right_to}
 pub use Rattle.pool_alloc.specs.Refusals.{component_refused, instance_size, module_refused, type_refused}
 pub use Rattle.pool_alloc.specs.Reserved.{Reserved, no_room, with_item}
-pub use Rattle.pool_alloc.specs.Rows.{no_component_left}
+pub use Rattle.pool_alloc.specs.StepTable.{no_component_left}
 pub use Rattle.pool_alloc.specs.Searches.{IsSearched}
-pub use Rattle.pool_alloc.specs.Sound.{AreImagesOf, IsCore, IsFrame}
+pub use Rattle.pool_alloc.specs.BetweenSteps.{AreImagesOf, IsCore, IsFrame}
 pub use Rattle.pool_alloc.specs.StackLeases.{LeasedStack}
-pub use Rattle.pool_alloc.specs.Stages.{Progress, Stage, admitted, asks, counts_component, counts_heap, keys, no_call, purging, refusing, releasing, reserving, returning, seeks_heap, seeks_stack, stage_of, tests_component, tests_heap, uncounted, untested}
+pub use Rattle.pool_alloc.specs.CallStages.{Progress, Stage, admitted, asks, counts_component, counts_heap, keys, no_call, purging, refusing, releasing, reserving, returning, seeks_heap, seeks_stack, stage_of, tests_component, tests_heap, uncounted, untested}
 pub use Rattle.pool_alloc.specs.Stepping.{StepsTo, grant_components, grant_instances, grant_weight, is_idle}
-pub use Rattle.pool_alloc.specs.Steps.{IsModule, allocator_of, images_wanted, info_wanted, memories_wanted, memory_slots, no_module, queue_at, shard_at, stripe_allocator, tables_wanted}
-pub use Rattle.pool_alloc.specs.Sums.{calls_in_frame, calls_kept, calls_of_instance, metrics_of}
+pub use Rattle.pool_alloc.specs.StepReads.{IsModule, allocator_of, images_wanted, info_wanted, memories_wanted, memory_slots, no_module, queue_at, shard_at, stripe_allocator, tables_wanted}
+pub use Rattle.pool_alloc.specs.PoolTotals.{calls_in_frame, calls_kept, calls_of_instance, metrics_of}
 pub use Rattle.pool_alloc.specs.TableLeases.{LeasedTable, LiesInRegion, element_of}
 pub use Rattle.pool_alloc.specs.TableSteps.{table_bytes, table_refused}
 pub use Rattle.pool_alloc.specs.Turns.{After}
-pub use Rattle.pool_alloc.specs.Wants.{MemoryWant, Want, new_heap, new_memory, new_stack, new_table, wants_from}
-pub use Rattle.pool_alloc.specs.Whole.{Holding, IsPartitioned}
+pub use Rattle.pool_alloc.specs.WantedObjects.{MemoryWant, Want, new_heap, new_memory, new_stack, new_table, wants_from}
+pub use Rattle.pool_alloc.specs.PoolAndHolders.{Holding, IsPartitioned}
 pub use Rattle.pool_alloc.specs.declared.frame.Asked.{Asked}
 pub use Rattle.pool_alloc.specs.declared.frame.Asked.TheVariants.{Heap as heap_asked, Module as module_asked}
 pub use Rattle.pool_alloc.specs.declared.frame.Call.{Call}

@@ -1,8 +1,8 @@
 ghost use Rattle.std.specs.Prelude.{◌≡◌, Err, false, IfOk, IfErr, IfSome, OnOk};
 ghost use Rattle.std.specs.List.{list_any};
+ghost use Rattle.pool_alloc.specs.BetweenSteps.{IsCore};
 ghost use Rattle.pool_alloc.specs.Made.{IsMadeCore};
-ghost use Rattle.pool_alloc.specs.Sound.{IsCore};
-ghost use Rattle.pool_alloc.specs.Whole.{IsUntouched};
+ghost use Rattle.pool_alloc.specs.PoolAndHolders.{IsUntouched};
 ghost use Rattle.pool_run.specs.Built.{broken_rule};
 ghost use Rattle.pool_run.specs.Runs.{FaultsInMaking, region_unmade, region_listed, makings_for, NamesRule};
 

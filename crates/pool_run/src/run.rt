@@ -1,9 +1,9 @@
 ghost use Rattle.std.specs.Prelude.{◌≡◌, ◌↔◌, ℕ, ◌+◌, ◌^◌, ◌<◌, ◌≤◌, Err, Some, length, map, replicate, slice_get, slice_index_or, true, false, fold, None, IfOk, IfErr, OnOk};
 ghost use Rattle.pool_pages.specs.MakerTold.{MakerTold};
 ghost use Rattle.pool_types.specs.declared.bad_config.BadConfig.{BadConfig};
-ghost use Rattle.pool_alloc.specs.Sound.{IsCore};
-ghost use Rattle.pool_alloc.specs.Sums.{metrics_of};
-ghost use Rattle.pool_alloc.specs.Whole.{IsUntouched};
+ghost use Rattle.pool_alloc.specs.BetweenSteps.{IsCore};
+ghost use Rattle.pool_alloc.specs.PoolAndHolders.{IsUntouched};
+ghost use Rattle.pool_alloc.specs.PoolTotals.{metrics_of};
 ghost use Rattle.pool_run.specs.Built.{broken_rule, is_built};
 ghost use Rattle.pool_run.specs.Folds.{TurnsOf, commands_of, told_state, replies_after};
 ghost use Rattle.pool_run.specs.Numbers.{with_party, calls_of_run};

@@ -2,7 +2,7 @@ ghost use Rattle.std.specs.Prelude.{◌≡◌, ◌↔◌, ◌≤◌, [], Err, So
 ghost use Rattle.pool_pages.specs.MakerTold.{MakerTold};
 ghost use Rattle.pool_types.specs.declared.bad_config.BadConfig.{BadConfig};
 ghost use Rattle.pool_pages.specs.declared.failing.Failing.{Failing};
-ghost use Rattle.pool_alloc.specs.Sums.{metrics_of};
+ghost use Rattle.pool_alloc.specs.PoolTotals.{metrics_of};
 ghost use Rattle.pool_run.specs.Agreeing.{IsOnlyRun};
 ghost use Rattle.pool_run.specs.Built.{broken_rule, is_built};
 ghost use Rattle.pool_run.specs.Numbers.{calls_of_run};

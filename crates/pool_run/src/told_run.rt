@@ -1,6 +1,6 @@
 ghost use Rattle.std.specs.Prelude.{◌≡◌, ℕ, ◌+◌, ◌<◌, ◌≤◌, [], length, map, replicate, slice_get, slice_set, slice_index_or, vec_capacity, Some, IfOk, IfSome};
+ghost use Rattle.pool_alloc.specs.PoolTotals.{metrics_of};
 ghost use Rattle.pool_alloc.specs.Reserved.{no_room};
-ghost use Rattle.pool_alloc.specs.Sums.{metrics_of};
 ghost use Rattle.pool_run.specs.Folds.{TurnsOf, commands_of, told_state, replies_after};
 ghost use Rattle.pool_run.specs.Numbers.{calls_of_run};
 ghost use Rattle.pool_run.specs.Progress.{is_busy, commands_done, Advances, IsRunOf};

@@ -1,7 +1,7 @@
 ghost use Rattle.std.specs.Prelude.{◌≡◌, ◌+◌, ◌^◌, ◌<◌, ◌≤◌, [], length, true, map, slice_get, slice_index_or, IfOk, None, Some};
 ghost use Rattle.pool_pages.specs.MakerTold.{MakerTold};
 ghost use Rattle.pool_alloc.specs.Calls.{IsIdle, IfGranted, begun_call};
-ghost use Rattle.pool_alloc.specs.Steps.{memories_wanted, tables_wanted};
+ghost use Rattle.pool_alloc.specs.StepReads.{memories_wanted, tables_wanted};
 ghost use Rattle.pool_alloc.specs.declared.frame.Asked.TheVariants.{Module as module_asked};
 ghost use Rattle.pool_alloc.specs.Stepping.{CanStep, CanCount, is_idle};
 ghost use Rattle.pool_run.specs.Acts.{requests};

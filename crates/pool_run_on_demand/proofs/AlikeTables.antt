@@ -4,7 +4,7 @@ use Rattle.std.proofs.Common.{◌≡◌, ℕ, ◌+◌, ◌-◌, ◌^◌, Bool, t
 use Rattle.pool_run_on_demand.proofs.Imports.{some_mapped, put_all, risen, GrowthRule, table_answer, table_failure, TableOutOfBounds, ElementKind, functions, gc_refs, continuations, uninitialised, func, gc_ref, cont, type_of, empty, element_of, Element, TableOp, gets, sets, lengthens, asks_length, Host, PrivateTable, StoredTable, TableMoves, IsGot, calls_through, calls_after, table_filled, kind_filled, filled_by, table_growth, table_left, element_for, GrowthEnd, Reply, Done, Size, Grown, told_element, Refused, GcStoreFault, Alloc}
 use Rattle.pool_run.specs.declared.reply.Reply.TheVariants.{Trap}
 use Rattle.pool_table.specs.Elements as elem
-use Rattle.pool_alloc.specs.declared.table_element.Element.TheVariants as item
+use Rattle.pool_alloc.specs.declared.leases.element.Element.TheVariants as item
 use Rattle.pool_slots.specs.declared.errors.AllocError.TheVariants as alloc
 use Rattle.pool_run_on_demand.specs.OnDemand.{TableMovesOnDemand}
 use Rattle.pool_run_on_demand.specs.Alike.{table_in, IsServed}

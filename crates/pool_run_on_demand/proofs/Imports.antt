@@ -12,15 +12,15 @@ pub use Rattle.std.proofs.lemmas.Option.{get_or_from_slice_get, slice_get-get_or
 pub use Rattle.std.specs.Arc.{arc_value}
 pub use Rattle.std.specs.List.{AllByRecursion, cons_option, list_all, list_any}
 pub use Rattle.std.specs.Option.{option_and_then, option_map_or, option_or}
-pub use Rattle.pool_alloc.specs.Asked.{ModuleAsked}
-pub use Rattle.pool_alloc.specs.Guards.{guarding}
+pub use Rattle.pool_alloc.specs.GuardPages.{guarding}
+pub use Rattle.pool_alloc.specs.PlainModules.{ModuleAsked}
 pub use Rattle.pool_alloc.specs.Refusals.{first_refused, offset_refused}
 pub use Rattle.pool_alloc.specs.Requests.{IsModule, if_leads, image_at, lent, refused_by}
 pub use Rattle.pool_alloc.specs.Reserved.{Reserved, with_item}
-pub use Rattle.pool_alloc.specs.Steps.{no_module}
+pub use Rattle.pool_alloc.specs.StepReads.{no_module}
 pub use Rattle.pool_alloc.specs.TableLeases.{HasType, IsElementAt, IsSet, LeasedTable, element_of}
-pub use Rattle.pool_alloc.specs.Wants.{MemoryWant, Want, new_heap, new_memory, new_stack, new_table, wants_from}
-pub use Rattle.pool_alloc.specs.declared.table_element.Element.{Element}
+pub use Rattle.pool_alloc.specs.WantedObjects.{MemoryWant, Want, new_heap, new_memory, new_stack, new_table, wants_from}
+pub use Rattle.pool_alloc.specs.declared.leases.element.Element.{Element}
 pub use Rattle.pool_images.proofs.Begun.{rounded_up_above}
 pub use Rattle.pool_images.specs.Images.{Image, ends_in_minimum, first_misplaced, images_from, start}
 pub use Rattle.pool_images.specs.Slots.{Slot, SlotIdentity, identity, limited, raised, raising}

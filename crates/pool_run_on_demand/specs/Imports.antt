@@ -1,11 +1,11 @@
 -- What the files of specs/ import from the crates below and from std, but for std's plainest words.
 pub use Rattle.std.specs.List.{AllByRecursion, list_all, list_any}
 pub use Rattle.std.specs.Option.{option_map_or, option_or}
-pub use Rattle.pool_alloc.specs.Asked.{ModuleAsked}
+pub use Rattle.pool_alloc.specs.PlainModules.{ModuleAsked}
 pub use Rattle.pool_alloc.specs.Refusals.{first_refused, offset_refused}
 pub use Rattle.pool_alloc.specs.Requests.{IsModule}
 pub use Rattle.pool_alloc.specs.TableLeases.{HasType}
-pub use Rattle.pool_alloc.specs.Wants.{MemoryWant, Want, new_heap, new_memory, new_stack, new_table}
+pub use Rattle.pool_alloc.specs.WantedObjects.{MemoryWant, Want, new_heap, new_memory, new_stack, new_table}
 pub use Rattle.pool_alloc.specs.declared.metrics.Metrics.{Metrics}
 pub use Rattle.pool_images.specs.Images.{Image, start}
 pub use Rattle.pool_images.specs.Slots.{Slot}

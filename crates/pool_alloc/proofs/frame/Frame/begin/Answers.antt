@@ -1,4 +1,4 @@
-use Rattle.pool_alloc.proofs.BegunCalls.{begun_frame}
+use Rattle.pool_alloc.proofs.BegunFrames.{begun_frame}
 use Rattle.pool_alloc.proofs.frame.Frame.begin.Goals as goal
 
 pub returns-in-GiveBack-clause-sound : goal.returns-in-GiveBack-clause-sound

@@ -1,7 +1,7 @@
 use Rattle.std.proofs.Common.{◌∙◌, ap, take}
 use Rattle.pool_alloc.proofs.Imports.{PageCalls, added}
-use Rattle.pool_alloc.specs.Sums.{part_calls, calls_of_parts}
-use Rattle.pool_alloc.proofs.Totals.{parts_more}
+use Rattle.pool_alloc.specs.PoolTotals.{part_calls, calls_of_parts}
+use Rattle.pool_alloc.proofs.PoolTotals.{parts_more}
 use Rattle.pool_alloc.proofs.parts.Parts.page_calls.Goals as goal
 
 pub loop-part-preserved : goal.loop-part-preserved

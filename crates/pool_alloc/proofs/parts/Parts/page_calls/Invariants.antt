@@ -1,5 +1,5 @@
 use Rattle.std.proofs.Common.{◌≡◌, take}
-use Rattle.pool_alloc.specs.Sums.{calls_of_parts}
+use Rattle.pool_alloc.specs.PoolTotals.{calls_of_parts}
 use Rattle.pool_alloc.proofs.parts.Parts.page_calls.Given as goal
 
 -- the calls on the regions of the parts so far

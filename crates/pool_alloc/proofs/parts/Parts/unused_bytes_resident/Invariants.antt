@@ -1,5 +1,5 @@
 use Rattle.std.proofs.Common.{◌≡◌, take}
-use Rattle.pool_alloc.specs.Sums.{resident_sum}
+use Rattle.pool_alloc.specs.PoolTotals.{resident_sum}
 use Rattle.pool_alloc.proofs.parts.Parts.unused_bytes_resident.Given as goal
 
 -- those of the parts so far

@@ -1,5 +1,5 @@
 use Rattle.std.proofs.Common.{◌≡◌, take}
-use Rattle.pool_alloc.specs.Sums.{warm_slots}
+use Rattle.pool_alloc.specs.PoolTotals.{warm_slots}
 use Rattle.pool_alloc.proofs.parts.Parts.unused_warm_slots.Given as goal
 
 -- those of the parts so far

@@ -1,5 +1,5 @@
 use Rattle.pool_alloc.proofs.Closings.{can_close, closing_counts_on, closing_step, closing_fewer, closing_plan, closing_settings, nobody}
-use Rattle.pool_alloc.proofs.Steps.{can_step_at}
+use Rattle.pool_alloc.proofs.StepNeeds.{can_step_at}
 use Rattle.pool_alloc.proofs.pool_core.PoolCore.closing_step.Goals as goal
 
 pub flush_on-requires-clause-can : goal.flush_on-requires-clause-can

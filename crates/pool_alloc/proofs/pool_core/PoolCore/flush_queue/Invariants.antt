@@ -1,6 +1,6 @@
 use Rattle.std.proofs.Common.{◌≡◌}
-use Rattle.pool_alloc.specs.Bounds.{steps_left}
 use Rattle.pool_alloc.specs.Closing.{IsClosing}
+use Rattle.pool_alloc.specs.StepBounds.{steps_left}
 use Rattle.pool_alloc.proofs.pool_core.PoolCore.flush_queue.Given as goal
 
 abbrev pub ghost-closing_step : goal.ghost-closing_step

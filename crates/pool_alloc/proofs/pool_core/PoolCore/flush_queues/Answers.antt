@@ -1,6 +1,6 @@
 use Rattle.std.proofs.Common.{rules, refl, ap, ◌∙◌, arith}
 use Rattle.pool_slots.specs.declared.plan.Plan.{Plan}
-use Rattle.pool_alloc.specs.Steps.{queues_searched}
+use Rattle.pool_alloc.specs.StepReads.{queues_searched}
 use Rattle.pool_alloc.proofs.Closings.{closed_at_home, closed_by, parts_of}
 use Rattle.pool_alloc.proofs.pool_core.PoolCore.flush_queues.Goals as goal
 

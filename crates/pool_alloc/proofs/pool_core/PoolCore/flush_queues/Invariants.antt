@@ -1,6 +1,6 @@
 use Rattle.std.proofs.Common.{◌≡◌, ◌+◌}
 use Rattle.pool_alloc.specs.Closing.{IsClosed}
-use Rattle.pool_alloc.specs.Steps.{queues_searched}
+use Rattle.pool_alloc.specs.StepReads.{queues_searched}
 use Rattle.pool_alloc.proofs.pool_core.PoolCore.flush_queues.Given as goal
 
 abbrev pub ghost-flush_queue : goal.ghost-flush_queue

@@ -1,4 +1,4 @@
-use Rattle.pool_alloc.proofs.BegunCalls.{made_frame}
+use Rattle.pool_alloc.proofs.BegunFrames.{made_frame}
 use Rattle.pool_alloc.proofs.pool_core.PoolCore.frame.Goals as goal
 
 pub returns-clause-sound : goal.returns-clause-sound

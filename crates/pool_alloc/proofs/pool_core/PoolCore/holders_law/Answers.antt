@@ -1,4 +1,4 @@
-use Rattle.pool_alloc.proofs.Wholes.{whole_fits, slots_apart, held_not_warm, call_has_slots}
+use Rattle.pool_alloc.proofs.PoolAndHolders.{whole_fits, slots_apart, held_not_warm, call_has_slots}
 use Rattle.pool_alloc.proofs.pool_core.PoolCore.holders_law.Goals as goal
 
 pub returns-clause-slots : goal.returns-clause-slots

@@ -1,4 +1,4 @@
-use Rattle.pool_alloc.proofs.Alone.{refused_same}
+use Rattle.pool_alloc.proofs.UninterruptedCalls.{refused_same}
 use Rattle.pool_alloc.proofs.pool_core.PoolCore.refused_requests_change_no_count.Goals as goal
 
 pub returns : goal.returns

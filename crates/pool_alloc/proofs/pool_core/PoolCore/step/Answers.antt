@@ -1,6 +1,6 @@
-use Rattle.pool_alloc.proofs.Advancing.{without_limiter}
 use Rattle.pool_alloc.proofs.SoundSteps.{sound_step}
-use Rattle.pool_alloc.proofs.Steps.{can_step_at}
+use Rattle.pool_alloc.proofs.StepNeeds.{can_step_at}
+use Rattle.pool_alloc.proofs.StepsAsRows.{without_limiter}
 use Rattle.pool_alloc.proofs.pool_core.PoolCore.step.Goals as goal
 
 pub advance_answering-requires-after_bounds : goal.advance_answering-requires-after_bounds

@@ -2,9 +2,9 @@ use Rattle.std.proofs.Common.{◌≡◌, ℕ, ◌<◌, ◌≤◌, refl, sym, ap,
 use Rattle.pool_alloc.proofs.Imports.{MakerTold, IsWithinRules, HaveGuards, PartSettings, StripedPlanSettings}
 use Rattle.pool_alloc.specs.declared.frame.FrameLists.{FrameLists}
 use Rattle.pool_alloc.specs.Made.{settings_of}
-use Rattle.pool_alloc.proofs.Advancing.{told_of_none}
 use Rattle.pool_alloc.proofs.MadeNumbers.{fails_in, fault_in, listed_as, raises_in, behind_in, plan_in, few_in, parts_in}
 use Rattle.pool_alloc.proofs.MadePools.{made_core, made_untouched}
+use Rattle.pool_alloc.proofs.StepsAsRows.{told_of_none}
 use Rattle.pool_alloc.proofs.Striping.{slab_kept}
 use Rattle.pool_alloc.proofs.pool_core.PoolCore.within_rules.Goals as goal
 

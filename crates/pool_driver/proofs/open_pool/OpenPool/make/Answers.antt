@@ -3,8 +3,8 @@ use Rattle.pool_types.specs.Count.{IsPageSize}
 use Rattle.pool_types.specs.SettingsRules.{IsWithinRules}
 use Rattle.pool_pages.specs.MakerTold.{MakerTold}
 use Rattle.pool_types.proofs.ConfigRules.{within_rules}
+use Rattle.pool_alloc.specs.BetweenSteps.{IsCore}
 use Rattle.pool_alloc.specs.Made.{IsMadeCore, fails_slots}
-use Rattle.pool_alloc.specs.Sound.{IsCore}
 use Rattle.pool_driver.specs.Pools.{IsOpen, about_core}
 use Rattle.pool_driver.proofs.FewParts.{few_parts}
 use Rattle.pool_driver.proofs.Makers.{same_maker, memory_unlisted}

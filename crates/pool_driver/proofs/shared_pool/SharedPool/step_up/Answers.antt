@@ -1,7 +1,7 @@
 use Rattle.std.proofs.Common.{◌≡◌, length, rules, None}
 use Rattle.pool_hall.specs.Seat.{made_with, limits_of, view}
 use Rattle.pool_alloc.specs.Targets.{next_target}
-use Rattle.pool_alloc.specs.declared.targets.Target.TheVariants.{Up}
+use Rattle.pool_alloc.specs.declared.step.targets.Target.TheVariants.{Up}
 use Rattle.pool_driver.specs.Driving.{IsDriven}
 use Rattle.pool_driver.specs.Origins.{about_of, inner_of}
 use Rattle.pool_driver.specs.Pools.{IsSharedOf}

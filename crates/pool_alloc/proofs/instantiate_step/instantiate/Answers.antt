@@ -1,5 +1,0 @@
-use Rattle.pool_alloc.specs.Steps.{under}
-use Rattle.pool_alloc.proofs.instantiate_step.instantiate.Goals as goal
-
-pub returns : goal.returns
-returns g c = (c.begin-fault.result, c.begin-fault.new.held, c.begin-fault.ensures.begun, c.begin-fault.ensures.planned, λ core. c.begun.ensures (under c.args.settings.now core.plan core))

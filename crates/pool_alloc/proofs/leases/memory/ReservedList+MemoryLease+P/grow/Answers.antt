@@ -1,0 +1,12 @@
+use Rattle.std.proofs.Common.{◌≡◌, ◌<◌, List, length, refl, slice_index_or}
+use Rattle.std.proofs.lemmas.List.{get_or_read}
+use Rattle.pool_alloc.specs.Leases.{Lease}
+use Rattle.pool_alloc.proofs.leases.memory.ReservedList+MemoryLease+P.grow.Goals as goal
+
+pub returns : goal.returns
+returns g c =
+    let xs : List Lease = c.self.inside.items.items in
+    let l : Lease = c.index_mut-lease.result.now in
+    let inside : c.args.place < length xs = rw (← c.self.view_is) at c.requires in
+    let read : (d : Lease) → l ≡ slice_index_or xs c.args.place d = λ d. get_or_read xs c.args.place l inside c.index_mut-lease.ensures.value d in
+    rw (← c.self.view_is) (record { lease = c.grow.new.self; change = λ d. rw (read d) at c.grow.ensures; is = refl })

@@ -1,0 +1,21 @@
+use Rattle.std.proofs.Common.{◌≡◌, ◌<◌, List, length, refl, slice_index_or}
+use Rattle.std.proofs.lemmas.List.{get_or_read}
+use Rattle.pool_alloc.specs.TableLeases.{LeasedTable, element_of, CanBeSet}
+use Rattle.pool_alloc.proofs.leases.table.ReservedList+TableLease+P.fill.Goals as goal
+
+pub fill-requires : goal.fill-requires
+fill-requires g c =
+    let xs : List LeasedTable = c.self.inside.items.items in
+    let l : LeasedTable = c.index_mut-lease.result.now in
+    let inside : c.args.place < length xs = rw (← c.self.view_is) at c.requires.place in
+    let read : l ≡ slice_index_or xs c.args.place l = get_or_read xs c.args.place l inside c.index_mut-lease.ensures.value l in
+    let asked : CanBeSet (slice_index_or xs c.args.place l).table.kind (element_of c.args.element) = (rw (← c.self.view_is) at c.requires.element) l in
+    rw (← read) at asked
+
+pub returns : goal.returns
+returns g c =
+    let xs : List LeasedTable = c.self.inside.items.items in
+    let l : LeasedTable = c.index_mut-lease.result.now in
+    let inside : c.args.place < length xs = rw (← c.self.view_is) at c.requires.place in
+    let read : (d : LeasedTable) → l ≡ slice_index_or xs c.args.place d = λ d. get_or_read xs c.args.place l inside c.index_mut-lease.ensures.value d in
+    rw (← c.self.view_is) (record { lease = c.fill.new.self; change = λ d. rw (read d) at c.fill.ensures; is = refl })

@@ -1,4 +1,0 @@
-use Rattle.pool_alloc.proofs.part_sweeps.free_in.Given as goal
-
-abbrev pub ghosts-free_of : goal.ghosts-free_of
-ghosts-free_of g a = record { name = a.blank.name; parts = a.blank.parts }

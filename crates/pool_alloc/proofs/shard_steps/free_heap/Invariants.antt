@@ -1,4 +1,0 @@
-use Rattle.pool_alloc.proofs.shard_steps.free_heap.Given as goal
-
-abbrev pub ghosts-free_of : goal.ghosts-free_of
-ghosts-free_of g a = record { name = a.blank.name; parts = a.blank.parts }

@@ -1,4 +1,0 @@
-use Rattle.pool_alloc.proofs.shard_steps.pick.Given as goal
-
-abbrev pub ghosts-pick_of : goal.ghosts-pick_of
-ghosts-pick_of g a = record { name = a.blank.name; parts = a.blank.parts }
