@@ -5,7 +5,9 @@ use Rattle.pool_hall.specs.declared.view.View.{View}
 use Rattle.pool_limits.specs.Exchanges.{Exchange}
 use Rattle.pool_slots.specs.declared.part.PoolPart.{PoolPart}
 use Rattle.pool_slots.specs.declared.plan.Plan.{Plan}
-use Rattle.pool_alloc.specs.Calls.{IsGrantOf, IsIdle, IfGranted, MayBegin, begun_call}
+use Rattle.pool_pages.specs.MakerTold.{MakerTold}
+use Rattle.pool_alloc.specs.CallStages.{Goes, Stage, no_call, keys, asks, tests_component, counts_component, returning, refusing, purging, reserving, releasing, stage_by, stage_of}
+use Rattle.pool_alloc.specs.Calls.{IsGrant, IsGrantOf, IsIdle, IfGranted, MayBegin, begun_call}
 use Rattle.pool_alloc.specs.Leases.{Lease}
 use Rattle.pool_alloc.specs.PartyTold.{PartyTold}
 use Rattle.pool_alloc.specs.Places.{Counts, Thing, Weight, frame_count, frame_weight, of_counts, of_units, only, region_of, right_to}
@@ -19,21 +21,24 @@ use Rattle.pool_alloc.specs.declared.frame.Asked.{Asked}
 use Rattle.pool_alloc.specs.declared.frame.Asked.TheVariants as asked
 use Rattle.pool_alloc.specs.declared.frame.Call.{Call}
 use Rattle.pool_alloc.specs.declared.frame.Call.TheVariants as call
+use Rattle.pool_alloc.specs.Objects.{objects_in}
+use Rattle.pool_alloc.specs.declared.frame.Ending.{Ending}
 use Rattle.pool_alloc.specs.declared.frame.Ending.TheVariants.{Returned as returned}
 use Rattle.pool_alloc.specs.declared.frame.Frame.{Frame}
 use Rattle.pool_alloc.specs.declared.frame.Grant.{Grant}
 use Rattle.pool_alloc.specs.declared.frame.Grant.TheVariants.{Instance, Component, Stack, Heap}
 use Rattle.pool_alloc.specs.declared.frame.Outcome.{Outcome}
-use Rattle.pool_alloc.specs.declared.frame.Outcome.TheVariants.{Granted}
+use Rattle.pool_alloc.specs.declared.frame.Outcome.TheVariants.{Key, Granted, Returned, Purged, Released, Refused}
 use Rattle.pool_alloc.specs.declared.frame.Phase.{Phase}
 use Rattle.pool_alloc.specs.declared.frame.Phase.TheVariants.{Idle}
+use Rattle.pool_alloc.specs.declared.pool_core.PoolCore.{PoolCore}
 use Rattle.pool_alloc.specs.declared.pool_core.Settings.{Settings}
 use Rattle.pool_alloc.proofs.BegunFrames.{begun_frame, begun_weight, call_has, idle_of}
 use Rattle.pool_alloc.proofs.SoundSteps.{sound_step}
 use Rattle.pool_alloc.proofs.Weights.{frame_counts, frame_units, grant_counts, grant_units}
-use Rattle.pool_driver.specs.Calling.{GoesOnSince, HasEnded, brought}
+use Rattle.pool_driver.specs.Calling.{CallKind, GoesOnSince, HasEnded, MayAnswer, brought, gives_back, kind_at, kind_of}
 use Rattle.pool_driver.specs.Counts.{counter_limits}
-use Rattle.pool_driver.specs.Driving.{Given, IsDriven, SeesStep, StandsOn, StandsFor}
+use Rattle.pool_driver.specs.Driving.{Change, Given, IsDriven, SeesStep, StandsOn, StandsFor, changed, counted, uncounted, unchanged, view_after}
 use Rattle.pool_driver.specs.Faults.{AnswerKeeps}
 use Rattle.pool_driver.specs.Placed.{About}
 use Rattle.pool_driver.specs.Pools.{core_of}
@@ -169,9 +174,61 @@ module _ {T P H : Type 0} (places : ℕ) (g : Given) (v : View T) (f : Frame P H
     stands = begins_on c refl;
   }
 
+module _ {P H : Type 0} (maker : MakerTold) (old new : PartyTold) (c : PoolCore P H) (f : Frame P H) where
+  -- a step leaves a call of its kind, or answers it so
+  kind_stays : (s t : Stage) → Goes maker old new c f s t None → kind_at t ≡ kind_at s
+  kind_stays no_call no_call goes = refl
+  kind_stays keys no_call goes = absurd goes
+  kind_stays (asks p) (asks q) goes = refl
+  kind_stays (asks p) (refusing e) goes = refl
+  kind_stays (tests_component info) counts_component goes = refl
+  kind_stays counts_component (refusing e) goes = refl
+  kind_stays returning returning goes = refl
+  kind_stays (refusing e) (refusing d) goes = refl
+  kind_stays purging purging goes = refl
+  kind_stays reserving releasing goes = refl
+  kind_stays releasing releasing goes = refl
+  kind_stays s t goes = absurd goes
+
+  kind_answers : (s t : Stage) (o : Outcome P H) → Goes maker old new c f s t (Some o) → MayAnswer (kind_at s) o
+  kind_answers no_call no_call o goes = absurd goes
+  kind_answers keys no_call Key goes = tt
+  kind_answers (asks p) no_call (Granted grant) goes = tt
+  kind_answers (asks p) no_call (Refused e) goes = tt
+  kind_answers (tests_component info) no_call (Refused e) goes = tt
+  kind_answers counts_component no_call (Granted grant) goes = tt
+  kind_answers returning no_call Returned goes = tt
+  kind_answers (refusing e) no_call (Refused d) goes = tt
+  kind_answers purging no_call (Purged n) goes = tt
+  kind_answers reserving no_call (Refused e) goes = tt
+  kind_answers releasing no_call (Released n) goes = tt
+  kind_answers s t o goes = absurd goes
+
+module _ {P H : Type 0} where
+  back_kind : (memories : List Lease) (tables : List LeasedTable) (f : Frame P H) → f.asked ≡ asked.Nothing → f.ending ≡ returned → kind_at (stage_of (record (returned_next memories tables f).frame { step_count = 0 })) ≡ gives_back
+  back_kind (lease ∷ memories) tables f nothing back = ap (λ (e : Ending). kind_at (stage_by f.asked e (objects_in (record f.objects { memories = record f.objects.memories { items = memories } })))) back
+  back_kind [] (lease ∷ tables) f nothing back = ap (λ (e : Ending). kind_at (stage_by f.asked e (objects_in (record f.objects { tables = record f.objects.tables { items = tables } })))) back
+  back_kind [] [] f nothing back =
+      subst (λ (a : Asked). kind_at (stage_of (record (all_returned a f).frame { step_count = 0 })) ≡ gives_back) (sym nothing)
+      (ap (λ (e : Ending). kind_at (stage_by f.asked e (objects_in f.objects))) back)
+
+  -- A call is of its kind as it begins.
+  pub begun_kind : (c : Call P H) (f : Frame P H) → kind_at (stage_of (begun_call c f)) ≡ kind_of c
+  begun_kind call.Key f = refl
+  begun_kind (call.Module m) f = refl
+  begun_kind (call.Component info) f = refl
+  begun_kind call.Stack f = refl
+  begun_kind (call.Heap ty) f = refl
+  begun_kind (call.GiveBack (Instance lease)) f = back_kind lease.memories.items lease.tables.items (record f { asked = asked.Nothing; objects = lease; ending = returned }) refl refl
+  begun_kind (call.GiveBack Component) f = refl
+  begun_kind (call.GiveBack (Stack lease)) f = refl
+  begun_kind (call.GiveBack (Heap lease memory)) f = refl
+  begun_kind (call.Purge id) f = refl
+  begun_kind call.Release f = refl
+
 -- A call that begins goes on since then.
 pub goes_begun : {T P H : Type 0} (a : About) (v : View T) (c : Call P H) (f : Frame P H) → v.limits ≡ counter_limits a.settings → GoesOnSince a v v (begun_call c f) (begun_call c f)
-goes_begun a v c f limits = record { busy = begun_busy c f; tells = tells_begin v a.plan c f; spends = spends_begin v a.plan (begun_call c f); more = same_holds v v refl; limits = limits; home = refl; asked = refl }
+goes_begun a v c f limits = record { busy = begun_busy c f; tells = tells_begin v a.plan c f; spends = spends_begin v a.plan (begun_call c f); more = same_holds v v refl; limits = limits; portions = refl; home = refl; asked = refl; kind = refl }
 
 module _ {T P H : Type 0} (about : T → About) (inner : T → PoolPart P H) (Passes : List Exchange → Type 0) (old new : PartyTold) (a : About) (base v w : View T) (first f next : Frame P H) (o : Option (Outcome P H)) (goes : GoesOnSince a base v first f) (sees : SeesStep about inner Passes old new a v w f next o) where
   sound_here : IsSoundStep a.maker old new sees.core f (record { core = sees.left; frame = next; outcome = o })
@@ -179,6 +236,15 @@ module _ {T P H : Type 0} (about : T → About) (inner : T → PoolPart P H) (Pa
 
   more_here : HoldsMore base w
   more_here = holds_on base v w goes.more (sees_more about inner Passes old new a v w f next o sees)
+
+  portions_here : w.portions ≡ base.portions
+  portions_here = ap (λ (z : View T). z.portions) sees.view ∙ same_portions sees.change ∙ goes.portions
+    where
+      same_portions : (change : Change T) → (view_after about inner change v).portions ≡ v.portions
+      same_portions (changed p x y) = refl
+      same_portions (counted name found) = refl
+      same_portions (uncounted name) = refl
+      same_portions unchanged = refl
 
   ends_here : is_some o ≡ is_idle next.phase
   ends_here = sound_here.ended.answer ∙ ap (λ (b : Bool). not b && is_idle next.phase) goes.busy
@@ -193,8 +259,10 @@ module _ {T P H : Type 0} (about : T → About) (inner : T → PoolPart P H) (Pa
         spends = (spends_step about inner Passes old new a base v w f next o sees goes.spends).0;
         more = more_here;
         limits = sees_limits about inner Passes old new a v w f next o sees ∙ goes.limits;
+        portions = portions_here;
         home = home_stays about inner Passes old new a base v w f next o goes.more goes.limits sees goes.tells ∙ goes.home;
         asked = asked_stays about inner Passes old new a base v w f next o sees busy ∙ goes.asked;
+        kind = kind_stays a.maker old new sees.core f (stage_of f) (stage_of next) (subst (λ (z : Option (Outcome P H)). Goes a.maker old new sees.core f (stage_of f) (stage_of next) z) none sound_here.goes.way) ∙ goes.kind;
       }
 
   -- and after one with an answer it has ended.
@@ -205,9 +273,33 @@ module _ {T P H : Type 0} (about : T → About) (inner : T → PoolPart P H) (Pa
       let spends = (spends_step about inner Passes old new a base v w f next o sees goes.spends).1 in
       record {
         idle = idle_phase next.phase (sym ends_here ∙ ap (λ (z : Option (Outcome P H)). is_some z) some);
+        kind = subst (λ (k : CallKind). MayAnswer k answer) goes.kind (kind_answers a.maker old new sees.core f (stage_of f) (stage_of next) answer (subst (λ (z : Option (Outcome P H)). Goes a.maker old new sees.core f (stage_of f) (stage_of next) z) some sound_here.goes.way));
         granted = subst (λ (z : Option (Outcome P H)). IfGranted (IsGrantOf a.maker a.settings a.plan first.asked) z) some (subst (λ (z : Asked). IfGranted (IsGrantOf a.maker a.settings a.plan z) o) goes.asked granted);
         told = subst (λ (z : Option (Outcome P H)). AnswerTold base w a.plan first.home z) some (subst (λ (n : ℕ). AnswerTold base w a.plan n o) goes.home told);
         spends = subst (λ (z : Option (Outcome P H)). AnswerSpends base w a.plan first.asked z) some (subst (λ (z : Asked). AnswerSpends base w a.plan z o) goes.asked spends);
         more = more_here;
+        portions = portions_here;
         home = home_stays about inner Passes old new a base v w f next o goes.more goes.limits sees goes.tells ∙ goes.home;
       }
+
+module _ {P H : Type 0} where
+  -- A grant of what was asked for is one of the pool, so that it may be given back.
+  pub grant_of : (maker : MakerTold) (s : Settings) (plan : Plan) (asked : Asked) (grant : Grant P H) → IsGrantOf maker s plan asked grant → IsGrant maker s plan grant
+  grant_of maker s plan asked (Instance lease) is = is.0
+  grant_of maker s plan asked Component is = is
+  grant_of maker s plan asked (Stack lease) is = is.0
+  grant_of maker s plan asked (Heap lease memory) is = (is.heap, is.memory_is)
+
+  -- An answer that is no grant has nothing.
+  pub none_granted : (of : Grant P H → ℕ) (o : Outcome P H) → ((grant : Grant P H) → o ≡ Granted grant → ⊥) → count_granted of (Some o) ≡ 0
+  none_granted of (Granted grant) not_granted = absurd (not_granted grant refl)
+  none_granted of Key not_granted = refl
+  none_granted of Returned not_granted = refl
+  none_granted of (Purged n) not_granted = refl
+  none_granted of (Released n) not_granted = refl
+  none_granted of (Refused e) not_granted = refl
+
+  -- The answer to a give-back has nothing.
+  pub none_returned : (of : Grant P H → ℕ) (o : Outcome P H) → MayAnswer gives_back o → count_granted of (Some o) ≡ 0
+  none_returned of Returned may = refl
+  none_returned of o may = absurd may

@@ -66,7 +66,7 @@ module _ (n : ℕ) (maker : MakerTold) (s : PartSettings) where
     cell_counts_none stack_kind slot x is i = ap (λ (y : PoolPart P H). slice_index (part_counts y) i) is ∙ noughts 0 refl i
     cell_counts_none heap_kind slot x is i = absurd is
 
-    counts_none : (r : Role) (x : PoolPart P H) → IsMadeAs n maker s r x → (i : ℕ) → slice_index (part_counts x) i ≡ 0
+    pub counts_none : (r : Role) (x : PoolPart P H) → IsMadeAs n maker s r x → (i : ℕ) → slice_index (part_counts x) i ≡ 0
     counts_none (shard_role a j) x is i = ap (λ (y : PoolPart P H). slice_index (part_counts y) i) is.1 ∙ five i
     counts_none (cell_role name) x is i = cell_counts_none name.kind name.slot x is i
     counts_none queue_role x is i = ap (λ (y : PoolPart P H). slice_index (part_counts y) i) is ∙ noughts 0 refl i
@@ -80,7 +80,7 @@ module _ (n : ℕ) (maker : MakerTold) (s : PartSettings) where
     cell_keeps stack_kind slot x is = subst (λ (y : PoolPart P H). PartKeeps y) (sym is) tt
     cell_keeps heap_kind slot x is = absurd is
 
-    keeps_none : (r : Role) (x : PoolPart P H) → IsMadeAs n maker s r x → PartKeeps x
+    pub keeps_none : (r : Role) (x : PoolPart P H) → IsMadeAs n maker s r x → PartKeeps x
     keeps_none (shard_role a j) x is = subst (λ (y : PoolPart P H). PartKeeps y) (sym is.1) tt
     keeps_none (cell_role name) x is = cell_keeps name.kind name.slot x is
     keeps_none queue_role x is = subst (λ (y : PoolPart P H). PartKeeps y) (sym is) tt

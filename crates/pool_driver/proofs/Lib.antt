@@ -9,6 +9,7 @@ pub mod Driven
 pub mod Faulted
 pub mod FewParts
 pub mod Finding
+pub mod FirstFrames
 pub mod Fresh
 pub mod FullShards
 pub mod GivenBack
@@ -17,6 +18,7 @@ pub mod GrowingSteps
 pub mod Hearing
 pub mod HeldParts
 pub mod Holding
+pub mod LastFrames
 pub mod Lists
 pub mod Makers
 pub mod MomentSteps

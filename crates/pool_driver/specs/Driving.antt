@@ -1,5 +1,7 @@
 -- A call's frame, driven over a hall: what ties it to its seat, and what the seat sees of each step.
 use Rattle.std.specs.Prelude.{◌≡◌, ℕ, ◌+◌, ◌-◌, ◌<◌, List, [], length, Option, None}
+use Rattle.pool_pages.specs.MakerTold.{MakerTold}
+use Rattle.pool_hall.specs.Seat.{made_with, view}
 use Rattle.pool_hall.specs.Step.{add_view, subtract_view, put_view}
 use Rattle.pool_hall.specs.Tally.{additions, subtractions, number}
 use Rattle.pool_hall.specs.declared.unit_name.SlotKind.TheVariants.{Memory as memory_kind, Table as table_kind, Stack as stack_kind, Heap as heap_kind}
@@ -8,6 +10,7 @@ use Rattle.pool_hall.specs.declared.view.View.{View}
 use Rattle.pool_limits.specs.Exchanges.{Exchange}
 use Rattle.pool_slots.specs.Parts.{part_at}
 use Rattle.pool_slots.specs.declared.part.PoolPart.{PoolPart}
+use Rattle.pool_alloc.specs.Calls.{frame_made}
 use Rattle.pool_alloc.specs.PartyTold.{PartyTold}
 use Rattle.pool_alloc.specs.Places.{Counter, Counts, counted_instance, counted_component, counted_object, only, frame_counted, frame_instances, phase_counted}
 use Rattle.pool_alloc.specs.BetweenSteps.{IsFrame}
@@ -26,13 +29,18 @@ use Rattle.pool_driver.specs.Carrying.{Carries}
 use Rattle.pool_driver.specs.Faults.{FrameKeeps, AnswerKeeps}
 use Rattle.pool_driver.specs.Growing.{AreKept}
 use Rattle.pool_driver.specs.Placed.{About, IsSmall, pool_meaning}
-use Rattle.pool_driver.specs.Pools.{core_of}
+use Rattle.pool_driver.specs.Pools.{IsOpen, core_of}
+use Rattle.pool_driver.specs.declared.open_pool.OpenPool.{OpenPool}
 
 -- Of which pool a call is, and what else its seat has: units that the call doesn't touch, and what else the seat has counted.
 pub record Given : Type 0 where
   pub about : About
   pub rest : List UnitName
   pub counted : Counts
+
+-- A call whose seat has nothing else.
+abbrev pub alone_of : About → Given
+alone_of a = record { about = a; rest = []; counted = λ k. 0 }
 
 -- The number of a counter in the hall.
 abbrev pub counter_number : CounterName → ℕ
@@ -96,6 +104,10 @@ module _ {P H : Type 0} where
     pub carries : Carries g.rest v.units f o
     pub counted : HasCounted g.counted v f o
     pub stands : StandsFor (next_target g.about.settings g.about.plan f.phase f) g.about places f
+
+-- The seat of an open pool may drive each frame as it is made.
+abbrev pub DrivesFirst : {P H M R : Type 0} → (M → MakerTold) → OpenPool P H M R → Type 0
+DrivesFirst {P} {H} told o = (a : About) → IsOpen told a o → (home : ℕ) → IsDriven {P = P} {H = H} (length (made_with o.pool.hall)) (alone_of a) (view o.seat) (frame_made home a.settings) None
 
 -- What a step changed in the hall: the part at a place, from the first to the second; a counter, at which this number was found; or nothing.
 pub data Change (T : Type 0) : Type 0 where

@@ -2,7 +2,7 @@
 ghost use Rattle.std.specs.Prelude.{length, None, Some};
 ghost use Rattle.pool_hall.specs.Seat.{made_with, view, IsSeatOf, IsFree};
 ghost use Rattle.pool_alloc.specs.Calls.{MayBegin, begun_call};
-ghost use Rattle.pool_driver.specs.Calling.{GoesOnSince, HasEnded, brought};
+ghost use Rattle.pool_driver.specs.Calling.{GoesOnSince, HasEnded, MayAnswer, brought, kind_of};
 ghost use Rattle.pool_driver.specs.Driving.{Given, IsDriven};
 ghost use Rattle.pool_driver.specs.Pools.{IsSharedOf};
 
@@ -39,6 +39,7 @@ impl<P: Pages, H: GcHeap, M: PageMaker> SharedPool<P, H, M> {
         ensures free { IsFree seat.new }
         ensures driven { IsDriven (length (made_with self.now.hall)) given (view seat.new) frame.new (Some result) }
         ensures ended { HasEnded given.about (view seat.old) (view seat.new) (begun_call call frame.old) frame.new result }
+        ensures kind { MayAnswer (kind_of call) result }
     {
         frame.begin(call);
         self.run(rt, seat, alloc, frame, limiter, heaps)

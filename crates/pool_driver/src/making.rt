@@ -2,6 +2,7 @@
 ghost use Rattle.std.specs.Prelude.{◌≡◌, false, None, IfOk, IfErr, IfSome, OnOk, MatchResult};
 ghost use Rattle.pool_types.specs.SettingsRules.{first_broken_rule};
 ghost use Rattle.pool_alloc.specs.Made.{lists_making, fails_slots, GivesUpRegion, IsRefusedFor, CountsFault, NeedsFault, NeedsListed};
+ghost use Rattle.pool_driver.specs.Driving.{DrivesFirst};
 ghost use Rattle.pool_driver.specs.Pools.{IsMadeOpen};
 
 use crate::open_pool::OpenPool;
@@ -24,6 +25,7 @@ impl<P: Pages, H: GcHeap, M: PageMaker<Region = P>> OpenPool<P, H, M> {
     ) -> Result<Self, PoolNewError>
         requires page { page ≡ (M.told maker.old).page }
         ensures made { IfOk result (IsMadeOpen M.told (M.told maker.old) config.now tunables.now offered.now shards) }
+        ensures drives { IfOk result (DrivesFirst M.told) }
         ensures rules { OnOk result (first_broken_rule config.now tunables.now page shards offered.now ≡ None) }
         ensures refused { IfErr result (IsRefusedFor (first_broken_rule config.now tunables.now page shards offered.now)) }
         ensures maker { M.told maker.new ≡ record (M.told maker.old) { behind = (M.told maker.new).behind; faults = (M.told maker.new).faults } }

@@ -6,6 +6,7 @@ ghost use Rattle.pool_hall.specs.Seat.{made_with, limits_of, view};
 ghost use Rattle.pool_alloc.specs.BetweenSteps.{IsCore};
 ghost use Rattle.pool_alloc.specs.PoolAndHolders.{IsUntouched};
 ghost use Rattle.pool_driver.specs.Counts.{counter_limits, counter_total};
+ghost use Rattle.pool_driver.specs.Driving.{DrivesFirst};
 ghost use Rattle.pool_driver.specs.Origins.{about_of, inner_of};
 ghost use Rattle.pool_driver.specs.Placed.{about_by};
 ghost use Rattle.pool_driver.specs.Pools.{IsAsMade, IsOpen, about_core};
@@ -41,6 +42,7 @@ impl<P: Pages, H: GcHeap, M: PageMaker> OpenPool<P, H, M> {
         ensures open { IfOk result (IsOpen M.told (about_core (M.told maker.now) core)) }
         ensures parts { IfOk result (λ o. map inner_of (made_with o.pool.hall) ≡ core.parts) }
         ensures view { IfOk result (λ o. view o.seat ≡ first_view (made_with o.pool.hall) (limits_of o.pool.hall)) }
+        ensures drives { IfOk result (DrivesFirst M.told) }
     {
         let PoolCore {
             parts,

@@ -123,7 +123,19 @@ impl<P: Pages, H: GcHeap> PoolCore<P, H> {
         ensures made { IfOk result (λ f. f ≡ frame_made home self.now.settings) }
         ensures sound { IfOk result (λ f. (maker : MakerTold) → IsCore maker self.now → IsFrame maker self.now.settings self.now.plan f) }
     {
-        let lists = frame_lists(alloc, &self.settings)?;
+        let frame = Frame::new(alloc, &self.settings, home)?;
+        Ok(frame)
+    }
+}
+
+impl<P: Pages, H: GcHeap> Frame<P, H> {
+    /// A caller's frame for pools with these settings, without a call. Its home's number, of any size, gives the caller's home shard and home
+    /// queue. Its lists have room for the largest batch, so that no step takes memory for them.
+    pub fn new(alloc: Global, settings: &Settings, home: u32) -> Result<Self, AllocError>
+        requires few { settings.now.batch ≤ 4096 }
+        ensures made { IfOk result (λ f. f ≡ frame_made home settings.now) }
+    {
+        let lists = frame_lists(alloc, settings)?;
         Ok(frame_over(alloc, home, lists))
     }
 }
