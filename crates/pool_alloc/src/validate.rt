@@ -104,12 +104,8 @@ fn room_for<P: Pages>(
     Ok(InstanceLease { memories, tables })
 }
 
-// The first rule that the module breaks, in a pool with so many slots for tables.
-pub(crate) fn module_refused(
-    settings: &Settings,
-    total: u32,
-    info: &ModuleInfo,
-) -> Option<Unsupported>
+/// The first rule that the module breaks, in a pool with so many slots for tables.
+pub fn module_refused(settings: &Settings, total: u32, info: &ModuleInfo) -> Option<Unsupported>
     requires { CanValidate info.now.memories }
     ensures { result ≡ module_refused settings.now total info.now }
 {

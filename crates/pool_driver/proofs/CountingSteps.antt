@@ -57,7 +57,7 @@ same_down n name is = ap of is
     of _ = n
 
 -- a flush, a purge and a release count nothing
-flush_counts_none : (plan : Plan) (step : FlushStep) (slots : List Queued) (freed : List FreedSlot) → (is_up (flush_target plan step slots freed) ≡ false) × (is_down (flush_target plan step slots freed) ≡ false) × (ups_instances (flush_target plan step slots freed) ≡ 0) × (ups_components (flush_target plan step slots freed) ≡ 0)
+pub flush_counts_none : (plan : Plan) (step : FlushStep) (slots : List Queued) (freed : List FreedSlot) → (is_up (flush_target plan step slots freed) ≡ false) × (is_down (flush_target plan step slots freed) ≡ false) × (ups_instances (flush_target plan step slots freed) ≡ 0) × (ups_components (flush_target plan step slots freed) ≡ 0)
 flush_counts_none plan run slots freed = (refl, refl, refl, refl)
 flush_counts_none plan (zero kind) slots freed = (refl, refl, refl, refl)
 flush_counts_none plan free slots freed = (refl, refl, refl, refl)

@@ -71,20 +71,20 @@ module _ {T P H : Type 0} (about : T → About) (inner : T → PoolPart P H) (p 
     goes_on : CallGoes base w plan f
     goes_on = going_held base v w more plan f.home f.queues f.ending (not_back f.ending (NoneTaken v w plan) aim) going
 
-    found_told : (k : SlotKind) (name : SlotName) → LeftTold base w plan f.home (after f (goes (taken_next k name)))
+    found_told : (k : SlotKind) (name : SlotName) → LeftTold base w plan f.home f.stripe (after f (goes (taken_next k name)))
     found_told heap_kind name = (goes_on, tt, refl)
     found_told memory_kind name = (goes_on, tt, refl)
     found_told table_kind name = (goes_on, tt, refl)
     found_told stack_kind name = (goes_on, tt, refl)
 
-    pub pick_told : LeftTold base w plan f.home (after f (picked plan (pick_answer (wanted f) s) s tried f))
+    pub pick_told : LeftTold base w plan f.home f.stripe (after f (picked plan (pick_answer (wanted f) s) s tried f))
     pick_told = go (pick_answer (wanted f) s) refl
       where
-        go : (o : Option (SlotId × ℕ)) → pick_answer (wanted f) s ≡ o → LeftTold base w plan f.home (after f (picked plan o s tried f))
+        go : (o : Option (SlotId × ℕ)) → pick_answer (wanted f) s ≡ o → LeftTold base w plan f.home f.stripe (after f (picked plan o s tried f))
         go (Some q) e = found_told (allocator_for plan f).kind (record { kind = (allocator_for plan f).kind; slot = slot_number s q.0.0 })
         go None e = either (nat_lt (tried + 1) (allocator_for plan f).shards) refl
           where
-            either : (b : Bool) → nat_lt (tried + 1) (allocator_for plan f).shards ≡ b → LeftTold base w plan f.home (after f (picked plan None s tried f))
+            either : (b : Bool) → nat_lt (tried + 1) (allocator_for plan f).shards ≡ b → LeftTold base w plan f.home f.stripe (after f (picked plan None s tried f))
             either true further = rw further ((full_next e, goes_on), tt, refl)
             either false last =
                 let all = ltb-false (tried + 1) (allocator_for plan f).shards last in
@@ -115,9 +115,9 @@ module _ {T P H : Type 0} (about : T → About) (inner : T → PoolPart P H) (p 
       ending = (going_held base v w more plan f.home f.queues f.ending (not_back f.ending (NoneTaken v w plan) aim) going).ending;
     }
 
-    pub take_told : LeftTold base w plan f.home (after taken (take_queue_on plan q f).turn)
+    pub take_told : LeftTold base w plan f.home f.stripe (after taken (take_queue_on plan q f).turn)
     take_told = go (length q.slots == 0) refl
       where
-        go : (b : Bool) → (length q.slots == 0) ≡ b → LeftTold base w plan f.home (after taken (take_queue_on plan q f).turn)
+        go : (b : Bool) → (length q.slots == 0) ≡ b → LeftTold base w plan f.home f.stripe (after taken (take_queue_on plan q f).turn)
         go true empty = rw empty (search_told base w plan taken (full_held base v w more (allocator_for plan f) f.home (allocator_for plan f).shards full) takes_next takes_on)
         go false some = rw some (flush_told base w plan taken takes_on)

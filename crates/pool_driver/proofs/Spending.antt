@@ -52,7 +52,7 @@ use Rattle.pool_driver.proofs.Sparing.{KeepsCold, picks_slot, put_keeps_both}
 cold_rose : (n : ℕ) → n < 2 ^ 64 → rise n (n + 1) ≡ 1
 cold_rose n small = omega arith
 
-pick_cold : (want : Option MemoryInModule) (s : ShardState) → s.cold < 2 ^ 64 → rise s.cold (after_pick want s).cold ≤ 1
+pub pick_cold : (want : Option MemoryInModule) (s : ShardState) → s.cold < 2 ^ 64 → rise s.cold (after_pick want s).cold ≤ 1
 pick_cold want s small = go (choice want s)
   where
     go : (k : Option Choice) → rise s.cold (option_map_or (after_choice want s) k (after_full s)).cold ≤ 1
@@ -122,7 +122,7 @@ module _ {T P H : Type 0} (about : T → About) (inner : T → PoolPart P H) (Pa
       by no_role role = refl
 
   -- In a step that picks no slot no shard counts a cold pick.
-  cold_still : (kind : SlotKind) → picks_slot f.phase ≡ false → cold_in c.plan kind w ≡ cold_in c.plan kind v
+  pub cold_still : (kind : SlotKind) → picks_slot f.phase ≡ false → cold_in c.plan kind w ≡ cold_in c.plan kind v
   cold_still kind other = go s.change s.of s.view
     where
       go : (ch : Change T) → IsChangeOf about inner ch (next_target a.settings a.plan f.phase f) c s.left → w ≡ view_after about inner ch v → cold_in c.plan kind w ≡ cold_in c.plan kind v
@@ -133,16 +133,16 @@ module _ {T P H : Type 0} (about : T → About) (inner : T → PoolPart P H) (Pa
 
   -- A pick counts one at most, and none where it finds none.
   module _ (tried : ℕ) (is : f.phase ≡ Pick tried) where
-    abbrev place : ℕ
+    abbrev pub place : ℕ
     place = shard_tried tried c.plan f
 
-    abbrev shard : ShardState
+    abbrev pub shard : ShardState
     shard = shard_at place c
 
-    picks : PickAt about inner Passes old new a v w f next o s place
+    pub picks : PickAt about inner Passes old new a v w f next o s place
     picks = pick_at about inner Passes old new a v w f next o s tried is
 
-    pick_counts : (kind : SlotKind) → cold_in c.plan kind w ≡ (if is_shard_of kind (role_at c.plan place) then rise shard.cold (after_pick (wanted f) shard).cold else 0) + cold_in c.plan kind v
+    pub pick_counts : (kind : SlotKind) → cold_in c.plan kind w ≡ (if is_shard_of kind (role_at c.plan place) then rise shard.cold (after_pick (wanted f) shard).cold else 0) + cold_in c.plan kind v
     pick_counts kind = cold_put kind place picks.before picks.after picks.put ∙ (λ i. (if is_shard_of kind (role_at c.plan place) then rise (slice_index (part_counts (picks.was i)) cold_picks) (slice_index (part_counts (picks.is i)) cold_picks) else 0) + cold_in c.plan kind v)
 
     pick_least : (b : Bool) (n : ℕ) → n ≤ 1 → (if b then n else 0) ≤ 1
@@ -159,7 +159,7 @@ module _ {T P H : Type 0} (about : T → About) (inner : T → PoolPart P H) (Pa
         let least = pick_least (is_shard_of kind (role_at c.plan place)) _ (pick_cold (wanted f) shard picks.small) in
         omega arith
 
-    none_picked : (kind : SlotKind) → pick_answer (wanted f) shard ≡ None → cold_in c.plan kind w ≡ cold_in c.plan kind v
+    pub none_picked : (kind : SlotKind) → pick_answer (wanted f) shard ≡ None → cold_in c.plan kind w ≡ cold_in c.plan kind v
     none_picked kind none = let e = pick_counts kind in let still = pick_none (is_shard_of kind (role_at c.plan place)) _ (ap (λ (t : ShardState). rise shard.cold t.cold) (after_none (wanted f) shard none) ∙ no_rise shard.cold picks.small) in omega arith
 
   -- What a step leaves of a call for a stack.

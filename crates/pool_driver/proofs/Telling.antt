@@ -1,6 +1,6 @@
 -- What a seat's view tells of a call is kept by each step of it, and begins with it: one phase after the other.
-use Rattle.std.proofs.Common.{◌≡◌, ℕ, Bool, true, false, List, [], ◌∷◌, sym, refl, ap, subst, ◌∙◌, arith, Option, Some, None}
-use Rattle.std.specs.Prelude.{length, nat_le, nat_lt, slice_index}
+use Rattle.std.proofs.Common.{◌≡◌, ◌⊎◌, ⊎_elim, inl, inr, ℕ, Bool, true, false, List, [], ◌∷◌, sym, refl, ap, subst, ◌∙◌, arith, Option, Some, None}
+use Rattle.std.specs.Prelude.{◌%◌, length, nat_le, nat_lt, slice_index}
 use Rattle.pool_types.specs.declared.unsupported.Unsupported.{Unsupported}
 use Rattle.pool_limits.specs.Exchanges.{Exchange}
 use Rattle.pool_hall.specs.Step.{add_view}
@@ -42,14 +42,20 @@ use Rattle.pool_driver.proofs.Sparing.{takes_queue, none_taken_still}
 use Rattle.pool_driver.proofs.TellingRows.{RowTold, validate_told, heap_test_told, stack_test_told, region_told, paged_told, made_told, memory_fails, table_made_told, table_fails, object_told, heap_told, heap_made_told, heap_granted_told, uncount_told, flush_row_told, merge_told, reset_told, purge_told, release_told}
 use Rattle.pool_driver.proofs.Turning.{LeftTold, answered, next_told}
 
+-- The stripe that a step of a phase leaves: that of the party, or what a key gives.
+module _ {P H : Type 0} (c : PoolCore P H) where
+  abbrev stripe_after : Phase P H → Frame P H → ℕ
+  stripe_after Key f = c.counters.key % length c.plan.memories
+  stripe_after _ f = f.stripe
+
 -- An instance that is one too many is counted off at once, since nothing of it is granted yet.
 module _ {T P H : Type 0} (base w : View T) (plan : Plan) (f : Frame P H) (over : PhaseTold base w UncountInstance plan f) where
-  over_returned : (memories : List Lease) (tables : List LeasedTable) → memories ≡ [] → tables ≡ [] → IsModule f.asked → LeftTold base w plan f.home (returned_next memories tables f)
+  over_returned : (memories : List Lease) (tables : List LeasedTable) → memories ≡ [] → tables ≡ [] → IsModule f.asked → LeftTold base w plan f.home f.stripe (returned_next memories tables f)
   over_returned (lease ∷ memories) tables no_memories no_tables module_asked = absurd cc
   over_returned [] (lease ∷ tables) no_memories no_tables module_asked = absurd cc
   over_returned [] [] no_memories no_tables module_asked = go f.asked module_asked
     where
-      go : (a : Asked) → IsModule a → LeftTold base w plan f.home (all_returned a f)
+      go : (a : Asked) → IsModule a → LeftTold base w plan f.home f.stripe (all_returned a f)
       go (asked.Module m) is = (over, tt, refl)
       go asked.Nothing is = absurd is
       go asked.Stack is = absurd is
@@ -84,8 +90,9 @@ module _ {T P H : Type 0} (about : T → About) (inner : T → PoolPart P H) (Pa
   shape : (p : Phase P H) → f.phase ≡ p → IsShapedAt a.maker c.settings c.plan p f
   shape p is = subst (λ (q : Phase P H). IsShapedAt a.maker c.settings c.plan q f) is s.can.frame.shape
 
+  -- each row but that of a key leaves the stripe
   abbrev Row : Phase P H → Type 0
-  Row p = RowTold base w c.plan f.home (row_of given p c e)
+  Row p = RowTold base w c.plan f.home (stripe_after c p f) (row_of given p c e)
 
   told_pick : (tried : ℕ) → f.phase ≡ Pick tried → PhaseTold base v (Pick tried) c.plan f → Row (Pick tried)
   told_pick tried is told =
@@ -111,7 +118,7 @@ module _ {T P H : Type 0} (about : T → About) (inner : T → PoolPart P H) (Pa
       let up = counted_at about inner Passes old new a v w f next o s CountInstance counter.CoreInstances is refl in
       go up.0 up.1 up.2 (nat_lt c.counters.core_instances c.settings.max_core_instances) refl
     where
-      go : (found : ℕ) → w ≡ add_view instance_counter found v → c.counters.core_instances ≡ found → (b : Bool) → nat_lt c.counters.core_instances c.settings.max_core_instances ≡ b → RowTold base w c.plan f.home (counted b c e)
+      go : (found : ℕ) → w ≡ add_view instance_counter found v → c.counters.core_instances ≡ found → (b : Bool) → nat_lt c.counters.core_instances c.settings.max_core_instances ≡ b → RowTold base w c.plan f.home f.stripe (counted b c e)
       go found added same true test = next_told base w c.plan f.ending _ refl (held CountInstance is refl told.1)
       go found added same false test =
           let over : nat_lt found (slice_index v.limits instance_counter) ≡ false = ap (λ (n : ℕ). nat_lt found n) max_instances ∙ ap (λ (n : ℕ). nat_lt n c.settings.max_core_instances) (sym same) ∙ test in
@@ -123,7 +130,7 @@ module _ {T P H : Type 0} (about : T → About) (inner : T → PoolPart P H) (Pa
       let up = counted_at about inner Passes old new a v w f next o s CountComponent counter.ComponentInstances is refl in
       go up.0 up.1 up.2 (nat_lt c.counters.component_instances c.settings.max_component_instances) refl
     where
-      go : (found : ℕ) → w ≡ add_view component_counter found v → c.counters.component_instances ≡ found → (b : Bool) → nat_lt c.counters.component_instances c.settings.max_component_instances ≡ b → RowTold base w c.plan f.home (component_counted b c e)
+      go : (found : ℕ) → w ≡ add_view component_counter found v → c.counters.component_instances ≡ found → (b : Bool) → nat_lt c.counters.component_instances c.settings.max_component_instances ≡ b → RowTold base w c.plan f.home f.stripe (component_counted b c e)
       go found added same true test = (tt, tt, refl)
       go found added same false test =
           let over : nat_lt found (slice_index v.limits component_counter) ≡ false = ap (λ (n : ℕ). nat_lt found n) max_components ∙ ap (λ (n : ℕ). nat_lt n c.settings.max_component_instances) (sym same) ∙ test in
@@ -144,7 +151,7 @@ module _ {T P H : Type 0} (about : T → About) (inner : T → PoolPart P H) (Pa
       let over = over_held base v w more ⊥ ⊥ (IsOver base v component_counter) (WasOver base w component_counter) (λ no. no) off c.plan f.home f.ending (still UncountComponent is refl) told in
       (tt, answered P H base w ⊥ (WasOver base w component_counter) (λ no. absurd no) (λ was. was) c.plan f.home f.ending (shape UncountComponent is).1 over.none over.ending, refl)
 
-  tested_told : (x : Option Unsupported) → CountsSince base w component_counter 0 0 0 → RowTold base w c.plan f.home (component_tested x c e)
+  tested_told : (x : Option Unsupported) → CountsSince base w component_counter 0 0 0 → RowTold base w c.plan f.home f.stripe (component_tested x c e)
   tested_told (Some rule) none = (tt, tt, refl)
   tested_told None none = (none, tt, refl)
 
@@ -186,20 +193,34 @@ module _ {T P H : Type 0} (about : T → About) (inner : T → PoolPart P H) (Pa
   told_at (Purge p step) is told = purge_told base w c.plan c e given p step
   told_at (Release step) is told = release_told base w c.plan c e given step
 
-  all_kept : Tells base v a.plan f → Tells base w a.plan next × AnswerTold base w a.plan f.home o × (next.home ≡ f.home)
+  key_or : (p : Phase P H) → (p ≡ Key) ⊎ (stripe_after c p f ≡ f.stripe)
+  key_or Key = inl refl
+  key_or p = inr refl
+
+  all_kept : Tells base v a.plan f → LeftTold base w a.plan f.home (stripe_after c f.phase f) (record { frame = next; outcome = o })
   all_kept told =
       let by_core : Tells base v c.plan f = subst (λ (plan : Plan). Tells base v plan f) (sym s.plan) told in
       let row : Row f.phase = told_at f.phase refl by_core in
-      let after : Tells base w c.plan next × AnswerTold base w c.plan f.home o × (next.home ≡ f.home) = subst (λ (z : After P H). Tells base w c.plan z.frame × AnswerTold base w c.plan f.home z.outcome × (z.frame.home ≡ f.home)) (sym s.row.1.0.is) row in
-      subst (λ (plan : Plan). Tells base w plan next × AnswerTold base w plan f.home o × (next.home ≡ f.home)) s.plan after
+      let after : LeftTold base w c.plan f.home (stripe_after c f.phase f) (record { frame = next; outcome = o }) = subst (λ (z : After P H). LeftTold base w c.plan f.home (stripe_after c f.phase f) (record { frame = z.frame; outcome = z.outcome })) (sym s.row.1.0.is) row in
+      subst (λ (plan : Plan). LeftTold base w plan f.home (stripe_after c f.phase f) (record { frame = next; outcome = o })) s.plan after
 
   -- What is told of a call is kept by each of its steps, and of its answer the reason is told with the last.
   pub tells_step : Tells base v a.plan f → Tells base w a.plan next × AnswerTold base w a.plan f.home o
   tells_step told = ((all_kept told).0, (all_kept told).1)
 
-  -- The party's home stays.
+  -- The party's home stays,
   pub home_stays : Tells base v a.plan f → next.home ≡ f.home
-  home_stays told = (all_kept told).2
+  home_stays told = ap (λ (of : ℕ × ℕ). of.0) (all_kept told).2
+
+  -- and its stripe, but where it draws a key.
+  pub stripe_stays : Tells base v a.plan f → (f.phase ≡ Key) ⊎ (next.stripe ≡ f.stripe)
+  stripe_stays told = go f.phase refl
+    where
+      go : (p : Phase P H) → f.phase ≡ p → (f.phase ≡ Key) ⊎ (next.stripe ≡ f.stripe)
+      go p is = ⊎_elim
+          (λ (key : p ≡ Key). inl (is ∙ key))
+          (λ (same : stripe_after c p f ≡ f.stripe). inr (ap (λ (of : ℕ × ℕ). of.1) (all_kept told).2 ∙ ap (λ (q : Phase P H). stripe_after c q f) is ∙ same))
+          (key_or p)
 
 nothing_counted : {T : Type 0} (v : View T) (k : ℕ) → CountsSince v v k 0 0 0
 nothing_counted v k = record { added = omega arith; low = omega arith; subtracted = omega arith }

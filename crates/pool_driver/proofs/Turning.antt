@@ -40,12 +40,12 @@ over_told base v plan home n e going = record {
 }
 
 module _ {T P H : Type 0} (base v : View T) where
-  -- What is told once a turn was made, of the frame and of the answer. The party's home stays.
-  abbrev pub LeftTold : Plan → ℕ → Left P H → Type 0
-  LeftTold plan home l = Tells base v plan l.frame × AnswerTold base v plan home l.outcome × (l.frame.home ≡ home)
+  -- What is told once a turn was made, of the frame and of the answer. The party's home and stripe stay.
+  abbrev pub LeftTold : Plan → ℕ → ℕ → Left P H → Type 0
+  LeftTold plan home stripe l = Tells base v plan l.frame × AnswerTold base v plan home l.outcome × ◌≡◌ {A = ℕ × ℕ} (l.frame.home, l.frame.stripe) (home, stripe)
 
   -- Objects are given back, or the call ends.
-  pub returned_told : (plan : Plan) (memories : List Lease) (tables : List LeasedTable) (f : Frame P H) → is_granting f.ending ≡ false → CallGoes base v plan f → LeftTold plan f.home (returned_next memories tables f)
+  pub returned_told : (plan : Plan) (memories : List Lease) (tables : List LeasedTable) (f : Frame P H) → is_granting f.ending ≡ false → CallGoes base v plan f → LeftTold plan f.home f.stripe (returned_next memories tables f)
   returned_told plan (lease ∷ memories) tables f back going = (going, tt, refl)
   returned_told plan [] (lease ∷ tables) f back going = (going, tt, refl)
   returned_told plan [] [] f back going = all f.asked
@@ -53,29 +53,29 @@ module _ {T P H : Type 0} (base v : View T) where
       ended : AnswerTold base v {P = P} {H = H} plan f.home (Some (answer_of f.ending))
       ended = answered P H base v ⊥ ⊥ (λ no. absurd no) (λ no. absurd no) plan f.home f.ending back going.none going.ending
 
-      all : (a : Asked) → LeftTold plan f.home (all_returned a f)
+      all : (a : Asked) → LeftTold plan f.home f.stripe (all_returned a f)
       all asked.Stack = (tt, ended, refl)
       all (asked.Heap ty) = (tt, ended, refl)
       all asked.Nothing = (over_told base v plan f.home f.queues f.ending going, tt, refl)
       all (asked.Module m) = (over_told base v plan f.home f.queues f.ending going, tt, refl)
 
   -- A slot is picked for the next object, from the first shard on, or the call ends with its grant.
-  granted_told : (plan : Plan) (f : Frame P H) → CallGoes base v plan f → LeftTold plan f.home (granted_next f)
+  granted_told : (plan : Plan) (f : Frame P H) → CallGoes base v plan f → LeftTold plan f.home f.stripe (granted_next f)
   granted_told plan f going = go (nat_lt (objects_in f.objects) (objects_wanted f.asked)) refl
     where
-      go : (b : Bool) → nat_lt (objects_in f.objects) (objects_wanted f.asked) ≡ b → LeftTold plan f.home (granted_next f)
+      go : (b : Bool) → nat_lt (objects_in f.objects) (objects_wanted f.asked) ≡ b → LeftTold plan f.home f.stripe (granted_next f)
       go true more = rw more ((λ j below. absurd (omega arith), going), tt, refl)
       go false none = rw none (tt, tt, refl)
 
-  pub next_told : (plan : Plan) (e : Ending) (f : Frame P H) → f.ending ≡ e → CallGoes base v plan f → LeftTold plan f.home (next_by e f)
+  pub next_told : (plan : Plan) (e : Ending) (f : Frame P H) → f.ending ≡ e → CallGoes base v plan f → LeftTold plan f.home f.stripe (next_by e f)
   next_told plan granted f is going = granted_told plan f going
   next_told plan returned f is going = returned_told plan f.objects.memories.items f.objects.tables.items f (ap is_granting is) going
   next_told plan (refused e) f is going = returned_told plan f.objects.memories.items f.objects.tables.items f (ap is_granting is) going
 
-  pub flush_told : (plan : Plan) (f : Frame P H) → CallGoes base v plan f → LeftTold plan f.home (flush_next f)
+  pub flush_told : (plan : Plan) (f : Frame P H) → CallGoes base v plan f → LeftTold plan f.home f.stripe (flush_next f)
   flush_told plan f going = go (is_flushed f) refl
     where
-      go : (b : Bool) → is_flushed f ≡ b → LeftTold plan f.home (flush_next f)
+      go : (b : Bool) → is_flushed f ≡ b → LeftTold plan f.home f.stripe (flush_next f)
       go true flushed = rw flushed (next_told plan f.ending f refl going)
       go false more = rw more (going, tt, refl)
 
@@ -93,10 +93,10 @@ module _ {T P H : Type 0} (base v : View T) where
       go heap_kind is = let r = room heap_kind is in record { shards = r.shards; queues = r.queues }
 
   -- The search goes on, or it ends with a refusal of which all is told.
-  pub search_told : (plan : Plan) (f : Frame P H) → AreFullSince base v (allocator_for plan f) f.home (allocator_for plan f).shards → AreTakenSince base v plan f.home f.queues → CallGoes base v plan f → LeftTold plan f.home (after f (slot_search plan f))
+  pub search_told : (plan : Plan) (f : Frame P H) → AreFullSince base v (allocator_for plan f) f.home (allocator_for plan f).shards → AreTakenSince base v plan f.home f.queues → CallGoes base v plan f → LeftTold plan f.home f.stripe (after f (slot_search plan f))
   search_told plan f full taken going = go (nat_lt f.queues (queues_next plan f)) refl
     where
-      go : (b : Bool) → nat_lt f.queues (queues_next plan f) ≡ b → LeftTold plan f.home (after f (slot_search plan f))
+      go : (b : Bool) → nat_lt f.queues (queues_next plan f) ≡ b → LeftTold plan f.home f.stripe (after f (slot_search plan f))
       go true more = rw more ((full, going), tt, refl)
       go false none =
           let all : queues_next plan f ≤ f.queues = ltb-false f.queues (queues_next plan f) none in

@@ -1,3 +1,4 @@
+pub mod Asking
 pub mod Calling
 pub mod Carrying
 pub mod Counts
@@ -7,8 +8,10 @@ pub mod Faults
 pub mod FaultsTold
 pub mod Growing
 pub mod Laws
+pub mod Limits
 pub mod Origins
 pub mod Placed
 pub mod Pools
+pub mod Refusing
 pub mod Spending
 pub mod Telling

@@ -21,6 +21,7 @@ use Rattle.pool_driver.specs.Counts.{counter_limits}
 use Rattle.pool_driver.specs.Origins.{about_of, inner_of}
 use Rattle.pool_driver.specs.Placed.{About, about_by, about_made}
 use Rattle.pool_driver.specs.declared.open_pool.OpenPool.{OpenPool}
+use Rattle.pool_driver.specs.declared.part.HallPart.{HallPart}
 use Rattle.pool_driver.specs.declared.shared_pool.SharedPool.{SharedPool}
 
 -- With what a pool was made: its configuration, and about how many shards were asked for.
@@ -57,7 +58,7 @@ pub record IsHallOf {T : Type 0} (about : T → About) (a : About) (h : Hall T) 
   pub limits : limits_of h ≡ counter_limits a.settings
 
 -- The pool that callers share is this one.
-pub record IsSharedOf {P H M R : Type 0} (told : M → MakerTold) (a : About) (p : SharedPool P H M R) : Type 0 where
+pub record IsSharedOf {P H M : Type 0} (told : M → MakerTold) (a : About) (p : SharedPool (Hall (HallPart P H M))) : Type 0 where
   pub hall : IsHallOf (about_of told) a p.hall
   pub settings : p.settings ≡ a.settings
   pub plan : p.plan ≡ a.plan

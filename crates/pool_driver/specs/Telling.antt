@@ -76,6 +76,11 @@ module _ {T : Type 0} (base v : View T) where
     pub low : number (low_additions c) v ≡ number (low_additions c) base + lower
     pub subtracted : number (subtractions c) v ≡ number (subtractions c) base + fewer
 
+  -- A counter had at most so many additions, and at most so many of them low.
+  pub record AddsAtMost (c most : ℕ) : Type 0 where
+    pub added : number (additions c) v ≤ number (additions c) base + most
+    pub low : number (low_additions c) v ≤ number (low_additions c) base + most
+
   -- The reason of a refusal for room: each shard of the allocator answered that it is full, and each queue that is searched was taken.
   pub record RoomTold (plan : Plan) (home : ℕ) (kind : SlotKind) (stripe : ℕ) : Type 0 where
     pub shards : AreFullSince (allocator_of plan kind stripe) home (allocator_of plan kind stripe).shards

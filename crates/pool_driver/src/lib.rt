@@ -34,4 +34,4 @@ mod laws;
 pub use laws::{moments_are_cores, steps_may_put, what_fits_stands};
 pub use open_pool::OpenPool;
 pub use part::{HallPart, Origin};
-pub use shared_pool::SharedPool;
+pub use shared_pool::{PoolHall, PoolSeat, SharedPool};

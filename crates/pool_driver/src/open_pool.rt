@@ -12,7 +12,7 @@ ghost use Rattle.pool_driver.specs.Placed.{about_by};
 ghost use Rattle.pool_driver.specs.Pools.{IsAsMade, IsOpen, about_core};
 
 use crate::part::{HallPart, Origin};
-use crate::shared_pool::SharedPool;
+use crate::shared_pool::{PoolHall, SharedPool};
 use pool_alloc::{FrameLists, PoolCore, Settings};
 use pool_hall::{Hall, HallSeat};
 use pool_pages::{PageMaker, Pages};
@@ -23,7 +23,7 @@ use std::snapshot::Snapshot;
 /// A pool whose parts lie in a hall, with its first seat, and what it is closed with.
 #[derive(Drop)]
 pub struct OpenPool<P: Pages, H: GcHeap, M: PageMaker> {
-    pub pool: SharedPool<P, H, M>,
+    pub pool: SharedPool<PoolHall<P, H, M>>,
     /// The first seat, or the one that all others were joined to.
     pub seat: HallSeat<HallPart<P, H, M>>,
     /// The lists of a frame that no party has. The pool is closed with them.

@@ -10,7 +10,7 @@ ghost use Rattle.pool_driver.specs.Placed.{IsSmall};
 ghost use Rattle.pool_driver.specs.Pools.{IsSharedOf};
 
 use crate::part::HallPart;
-use crate::shared_pool::SharedPool;
+use crate::shared_pool::{PoolHall, SharedPool};
 use pool_alloc::{
     CounterName, Frame, Outcome, Target, next_target, step_alone, step_counted, step_part,
 };
@@ -21,7 +21,7 @@ use pool_slots::{GcHeap, HeapMaker, PoolPart};
 use std::alloc::Global;
 use std::sync::Wait;
 
-impl<P: Pages, H: GcHeap, M: PageMaker> SharedPool<P, H, M> {
+impl<P: Pages, H: GcHeap, M: PageMaker> SharedPool<PoolHall<P, H, M>> {
     /// Makes one step of the frame's call, as `PoolCore::step` does. It waits for the part that it changes, and holds no other. A step
     /// that changes no part holds none: so neither the limiter nor the maker of heaps is asked while a part is locked. Puts the outcome, if
     /// the call ends with the step, where the caller has a place for it.

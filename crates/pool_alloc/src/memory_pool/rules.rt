@@ -7,7 +7,8 @@ ghost use Rattle.pool_alloc.specs.Refusals.{type_refused, first_refused, offset_
 use crate::pool_core::Settings;
 use pool_types::{ImageDecl, MemoryDecl, MemoryType, PageSize, Unsupported};
 
-pub(crate) fn type_refused(settings: &Settings, ty: &MemoryType) -> Option<Unsupported>
+/// The first rule that the type of a memory breaks.
+pub fn type_refused(settings: &Settings, ty: &MemoryType) -> Option<Unsupported>
     requires { ty.now.page_size_log2 < 64 }
     ensures { result ≡ type_refused settings.now ty.now }
 {

@@ -31,7 +31,7 @@ pub(crate) fn size_refused(settings: &Settings, info: &ModuleInfo) -> Option<Uns
 }
 
 /// The first rule that the component breaks.
-pub(crate) fn component_refused(settings: &Settings, info: &ComponentInfo) -> Option<Unsupported>
+pub fn component_refused(settings: &Settings, info: &ComponentInfo) -> Option<Unsupported>
     ensures { result ≡ component_refused settings.now info.now }
 {
     let limit = settings.max_core_instances_per_component;

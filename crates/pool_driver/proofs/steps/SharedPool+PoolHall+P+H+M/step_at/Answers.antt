@@ -7,7 +7,7 @@ use Rattle.pool_driver.specs.Origins.{about_of, inner_of}
 use Rattle.pool_driver.specs.Pools.{IsSharedOf}
 use Rattle.pool_driver.proofs.Finding.{place_inside}
 use Rattle.pool_driver.proofs.SeatsDriven.{can_hold, can_put_back, driven_after, sees_after}
-use Rattle.pool_driver.proofs.shared_pool.SharedPool.step_at.Goals as goal
+use Rattle.pool_driver.proofs.steps.SharedPool+PoolHall+P+H+M.step_at.Goals as goal
 
 pub take-requires-clause-place : goal.take-requires-clause-place
 take-requires-clause-place g c =

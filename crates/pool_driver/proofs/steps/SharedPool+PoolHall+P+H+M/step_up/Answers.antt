@@ -6,7 +6,7 @@ use Rattle.pool_driver.specs.Driving.{IsDriven}
 use Rattle.pool_driver.specs.Origins.{about_of, inner_of}
 use Rattle.pool_driver.specs.Pools.{IsSharedOf}
 use Rattle.pool_driver.proofs.SeatsDriven.{can_up_here, driven_after_up, sees_after_up}
-use Rattle.pool_driver.proofs.shared_pool.SharedPool.step_up.Goals as goal
+use Rattle.pool_driver.proofs.steps.SharedPool+PoolHall+P+H+M.step_up.Goals as goal
 
 pub step_counted-requires-clause-can : goal.step_counted-requires-clause-can
 step_counted-requires-clause-can g c =

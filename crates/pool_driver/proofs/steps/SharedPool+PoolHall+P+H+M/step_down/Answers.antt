@@ -6,7 +6,7 @@ use Rattle.pool_driver.specs.Driving.{IsDriven}
 use Rattle.pool_driver.specs.Origins.{about_of, inner_of}
 use Rattle.pool_driver.specs.Pools.{IsSharedOf}
 use Rattle.pool_driver.proofs.SeatsDriven.{can_down_here, driven_after_down, may_count_down, sees_after_down}
-use Rattle.pool_driver.proofs.shared_pool.SharedPool.step_down.Goals as goal
+use Rattle.pool_driver.proofs.steps.SharedPool+PoolHall+P+H+M.step_down.Goals as goal
 
 pub subtract-requires-clause-more : goal.subtract-requires-clause-more
 subtract-requires-clause-more g c =

@@ -1,4 +1,4 @@
-use Rattle.pool_driver.proofs.shared_pool.SharedPool.step.Given as goal
+use Rattle.pool_driver.proofs.steps.SharedPool+PoolHall+P+H+M.step.Given as goal
 
 abbrev pub ghost-step_at : goal.ghost-step_at
 ghost-step_at g a = g.given

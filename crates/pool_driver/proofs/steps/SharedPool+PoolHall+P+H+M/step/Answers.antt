@@ -9,7 +9,7 @@ use Rattle.pool_driver.specs.Pools.{IsSharedOf}
 use Rattle.pool_driver.proofs.Finding.{can_find_next, can_find_over, target_is}
 use Rattle.pool_driver.proofs.Hearing.{is_alone, sees_for}
 use Rattle.pool_driver.proofs.SeatsDriven.{can_step_alone, driven_after_alone, sees_after_alone}
-use Rattle.pool_driver.proofs.shared_pool.SharedPool.step.Goals as goal
+use Rattle.pool_driver.proofs.steps.SharedPool+PoolHall+P+H+M.step.Goals as goal
 
 pub next_target-requires : goal.next_target-requires
 next_target-requires g c =
