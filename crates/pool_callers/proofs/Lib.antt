@@ -1,0 +1,7 @@
+pub mod Answers
+pub mod Giving
+pub mod GrantUnits
+pub mod Images
+pub mod Seats
+pub mod Settling
+pub mod Writing

@@ -1,0 +1,27 @@
+//! Proved callers of `PoolingInstanceAllocator`: how a program uses the pool for threads.
+//!
+//! `use_a_stack` asks for a stack, writes into it, and gives it back; `run_one_caller` makes an allocator, does that in its
+//! first seat, and closes it. A caller says in its contract what it needs of the allocator and of its seat, and gives back
+//! what it was granted. The tests open pools over regions in memory, and count the page calls.
+//!
+//! It exports what a program may copy, and is no port.
+#![tactic(auto)]
+
+// Callers
+mod instances;
+mod one_caller;
+mod two_stacks;
+
+// Regions that count their page calls
+#[cfg(test)]
+mod counted_pages;
+
+// Whole pools
+#[cfg(test)]
+mod one_caller_tests;
+#[cfg(test)]
+mod page_call_tests;
+
+pub use instances::{module_call, once_more, two_at_once, write_and_drop};
+pub use one_caller::{run_one_caller, use_a_stack};
+pub use two_stacks::{hold_each, hold_two};
