@@ -20,8 +20,8 @@ use pool_slots::{GcHeap, PoolNewError, PoolPart};
 use pool_types::{Enabled, Offered, PageSize, PoolingAllocationConfig, Tunables};
 use std::alloc::{AllocError, Global};
 
-/// The pooling allocator. Callers on many threads share it, and each part of it lies behind a lock of its own, of which a call holds one at
-/// a time. Its regions come from a maker that it was made with, and goes without later. `A` is the hall of its parts, a `PoolHall`.
+/// The pooling allocator. It is made to be shared by callers on many threads: each part of it lies behind a lock of its own, of which a call
+/// holds one at a time. Its regions come from a maker that it was made with, and goes without later. `A` is the hall of its parts, a `PoolHall`.
 #[derive(Drop)]
 pub struct PoolingInstanceAllocator<A: Drop, P: Pages, H: GcHeap> {
     pub(crate) pool: SharedPool<A>,
