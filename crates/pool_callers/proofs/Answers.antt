@@ -29,6 +29,7 @@ use Rattle.pool_driver.specs.Calling.{CallKind, HasEnded, MayAnswer, asks_for, d
 use Rattle.pool_driver.specs.Driving.{IsDriven}
 use Rattle.pool_driver.specs.Placed.{About}
 use Rattle.pool_driver.specs.Limits.{IfRefused, KeepsStripe, Names}
+use Rattle.pool_driver.specs.PageFaults.{CellFaulted, IfFaulted}
 use Rattle.pool_driver.specs.Spending.{RefusalFewer}
 use Rattle.pool_driver.specs.Telling.{AnswerTold, RefusalTold, WasOver, component_counter, instance_counter}
 use Rattle.pool_driver.proofs.Calling.{grant_of, none_returned}
@@ -89,6 +90,7 @@ module _ {T P H : Type 0} (places : ℕ) (a : About) (v w : View T) (first f : F
         names = subst (λ (n : ℕ). Names a.settings a.plan n e) (same ∙ of) (subst (λ (x : Outcome P H). IfRefused (Names a.settings a.plan f.stripe) x) is ended.names);
         told = subst (λ (n : ℕ). RefusalTold v w (WasOver v w instance_counter) (WasOver v w component_counter) a.plan n e) at' (subst (λ (x : Outcome P H). AnswerTold v w a.plan first.home (Some x)) is ended.told);
         fewer = subst (λ (x : Asked). RefusalFewer v w a.plan x e) asks (subst (λ (x : Outcome P H). IfRefused (RefusalFewer v w a.plan first.asked) x) is ended.fewer);
+        fault = subst (λ (x : Outcome P H). IfRefused (IfFaulted (CellFaulted v w a.plan)) x) is ended.fault;
         keeps = keeps places a v w f ended.idle (Some o) (λ of. subst (λ (x : Outcome P H). count_granted of (Some x) ≡ 0) (sym is) refl) driven;
         bounds = asking asked asks kind;
         goes = goes_here;

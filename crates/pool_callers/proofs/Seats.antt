@@ -1,9 +1,10 @@
 -- Seats that are cut, joined, and made first.
-use Rattle.std.proofs.Common.{◌≡◌, ℕ, zero, suc, ◌==◌, List, refl, sym, ap, subst, arith, None}
+use Rattle.std.proofs.Common.{◌≡◌, ℕ, zero, suc, ◌==◌, List, ◌++◌, refl, sym, ap, ◌∙◌, subst, arith, None}
 use Rattle.pool_pages.specs.MakerTold.{MakerTold}
 use Rattle.pool_hall.specs.Rule.{first_view}
 use Rattle.pool_hall.specs.Step.{joined, left_with, newcomer}
 use Rattle.pool_hall.specs.Tally.{additions, all_portions, number, subtractions}
+use Rattle.pool_hall.specs.declared.unit_name.UnitName.{UnitName}
 use Rattle.pool_hall.specs.declared.view.View.{View}
 use Rattle.pool_hall.proofs.Moments.{beside_append}
 use Rattle.pool_hall.proofs.Totals.{total_append}
@@ -61,3 +62,23 @@ first_nothing v made limits is = subst (λ (w : View _). HasNothing w × (w.port
 -- An allocator is of the pool that its parts tell of.
 pub about_is : {P H M : Type 0} (told : M → MakerTold) (a : About) (p : Allocator P H M) → IsSharedOf told a p.pool → about_pool told p ≡ a
 about_is told a p of = λ i. record { maker = ap maker_in of.hall.made i; settings = of.settings i; plan = of.plan i }
+
+-- A seat that has nothing has nothing where it gives portions away, and neither has the new one; two that have nothing have nothing together.
+module _ {T : Type 0} (v : View T) where
+  pub nothing_left : (n : ℕ) → HasNothing v → HasNothing (left_with n v)
+  nothing_left n none = record { units = none.units; counted = none.counted }
+
+  pub nothing_new : (n : ℕ) → HasNothing (newcomer n v)
+  nothing_new n = record { units = refl; counted = λ k. refl }
+
+  pub nothing_joined : (w : View T) → HasNothing v → HasNothing w → HasNothing (joined v w)
+  nothing_joined w none other = record {
+    units = ap (λ (us : List UnitName). us ++ w.units) none.units ∙ other.units;
+    counted = λ k. omega (
+      arith,
+      none.counted k,
+      other.counted k,
+      total_append (λ m. one_if (counter_number (counter_of k) == m)) v.added w.added,
+      total_append (λ m. one_if (counter_number (counter_of k) == m)) v.subtracted w.subtracted,
+    );
+  }

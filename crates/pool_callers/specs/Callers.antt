@@ -27,6 +27,7 @@ use Rattle.pool_driver.specs.Calling.{CallKind, asks_for, components_of, gives_b
 use Rattle.pool_driver.specs.Driving.{Given, IsDriven, counter_number, counter_of}
 use Rattle.pool_driver.specs.Faults.{GrantKeeps}
 use Rattle.pool_driver.specs.Origins.{about_of}
+use Rattle.pool_driver.specs.PageFaults.{CellFaulted, IfFaulted}
 use Rattle.pool_driver.specs.Placed.{About, about_by, about_made}
 use Rattle.pool_driver.specs.Pools.{IsSharedOf}
 use Rattle.pool_driver.specs.Limits.{Names}
@@ -152,11 +153,13 @@ module _ {T : Type 0} where
   -- Who asked for that was refused, and nothing came or went. A refusal by a limit names the number that the pool has, and that for a memory
   -- the caller's stripe. Where it was refused for room, in this call each shard where it searched answered that it is full and each queue
   -- that it searches was taken, and fewer cold slots were picked than asked for; where by a counter, that was added on once, not low, and
-  -- subtracted from once.
+  -- subtracted from once; where for a failed page call, a memory's region came back to its cell with more faults, or with as many
+  -- as can be counted.
   pub record IsRefused (a : About) (home stripe : ℕ) (asked : Asked) (e : AllocError) (v w : View T) : Type 0 where
     pub names : Names a.settings a.plan stripe e
     pub told : RefusalTold v w (WasOver v w instance_counter) (WasOver v w component_counter) a.plan home e
     pub fewer : RefusalFewer v w a.plan asked e
+    pub fault : IfFaulted (CellFaulted v w a.plan) e
     pub keeps : Keeps v w
     pub bounds : IsBounded a.plan asks_for asked v w
     pub goes : Goes v w

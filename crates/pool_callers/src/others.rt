@@ -7,7 +7,9 @@ ghost use Rattle.pool_alloc.specs.declared.frame.Call.TheVariants as call;
 ghost use Rattle.pool_slots.specs.declared.errors.AllocError.TheVariants as refusal;
 ghost use Rattle.pool_driver.specs.Asking.{CallAsks, HasAsked};
 ghost use Rattle.pool_driver.specs.Calling.{draws_key, purges, releases};
+ghost use Rattle.pool_driver.specs.Purging.{HasMissed};
 ghost use Rattle.pool_driver.specs.Refusing.{HeapPasses, HeapRefused};
+ghost use Rattle.pool_driver.specs.Releasing.{HasTakenWarm};
 ghost use Rattle.pool_callers.specs.Callers.{Gives, IsAllocator, IsBounded, IsCaller, IsGivenBack, IsGranted, IsKept, IsRefused, about_pool, outcome_of};
 
 use crate::allocator::PoolingInstanceAllocator;
@@ -99,6 +101,7 @@ impl<P: Pages, H: GcHeap, M: PageMaker> PoolingInstanceAllocator<PoolHall<P, H, 
         ensures kept { IsKept (view seat.old.seat) (view seat.new.seat) }
         ensures stripe { seat.new.frame.stripe ≡ seat.old.frame.stripe }
         ensures bounds { IsBounded self.now.pool.plan purges asked.Nothing (view seat.old.seat) (view seat.new.seat) }
+        ensures missed { HasMissed (view seat.old.seat) (view seat.new.seat) self.now.pool.plan self.now.pool.settings.max_memories_per_module result }
     {
         match self.call(
             rt,
@@ -130,6 +133,7 @@ impl<P: Pages, H: GcHeap, M: PageMaker> PoolingInstanceAllocator<PoolHall<P, H, 
         ensures stripe { seat.new.frame.stripe ≡ seat.old.frame.stripe }
         ensures reason { IfErr result (λ e. e ≡ refusal.Memory) }
         ensures bounds { IsBounded self.now.pool.plan releases asked.Nothing (view seat.old.seat) (view seat.new.seat) }
+        ensures taken { IfOk result (λ bytes. HasTakenWarm (view seat.old.seat) (view seat.new.seat) self.now.pool.plan) }
     {
         match self.call(
             rt,

@@ -1,5 +1,5 @@
 -- A call that a seat drives: it begins, goes on, and ends.
-use Rattle.std.proofs.Common.{◌≡◌, ◌⊎◌, ⊎_elim, inl, inr, ℕ, ◌+◌, Bool, true, false, List, [], ◌∷◌, refl, sym, ap, subst, ◌∙◌, arith, true≢false, Option, Some, None}
+use Rattle.std.proofs.Common.{◌≡◌, ◌⊎◌, ⊎_elim, inl, inr, ℕ, ◌+◌, Bool, true, false, List, [], ◌∷◌, refl, sym, ap, subst, ◌∙◌, arith, true≢false, Option, Some, None, IfSome}
 use Rattle.std.specs.Prelude.{not, ◌&&◌, is_some}
 use Rattle.pool_hall.specs.declared.view.View.{View}
 use Rattle.pool_limits.specs.Exchanges.{Exchange}
@@ -36,13 +36,16 @@ use Rattle.pool_alloc.specs.declared.pool_core.Settings.{Settings}
 use Rattle.pool_alloc.proofs.BegunFrames.{begun_frame, begun_weight, call_has, idle_of}
 use Rattle.pool_alloc.proofs.SoundSteps.{sound_step}
 use Rattle.pool_alloc.proofs.Weights.{frame_counts, frame_units, grant_counts, grant_units}
-use Rattle.pool_driver.specs.Calling.{Becomes, CallKind, GoesOnSince, HasEnded, IsAsking, MayAnswer, asks_component, asks_for, brought, gives_back, is_refused, kind_at, kind_of}
+use Rattle.pool_driver.specs.Calling.{Becomes, CallKind, GoesOnSince, HasEnded, IsAsking, MayAnswer, asks_component, asks_for, brought, gives_back, is_refused, kind_at, kind_of, purges, releases}
 use Rattle.pool_driver.specs.Counts.{counter_limits}
 use Rattle.pool_driver.specs.Driving.{Change, Given, IsDriven, SeesStep, StandsOn, StandsFor, changed, counted, uncounted, unchanged, view_after}
-use Rattle.pool_driver.specs.Faults.{AnswerKeeps}
+use Rattle.pool_driver.specs.Faults.{AnswerKeeps, FrameKeeps}
+use Rattle.pool_driver.specs.PageFaults.{CellFaulted, IfFaulted}
 use Rattle.pool_driver.specs.Placed.{About}
 use Rattle.pool_driver.specs.Pools.{core_of}
 use Rattle.pool_driver.specs.Limits.{IfRefused, IfRefusing, Names}
+use Rattle.pool_driver.specs.Purging.{HasMissed, IfPurged}
+use Rattle.pool_driver.specs.Releasing.{HasTakenWarm, IfReleased}
 use Rattle.pool_driver.specs.Refusing.{AnswersCall, IsCallFor, MayEnd}
 use Rattle.pool_driver.specs.Spending.{AnswerSpends, RefusalFewer}
 use Rattle.pool_driver.specs.Telling.{HoldsMore, AnswerTold}
@@ -51,7 +54,12 @@ use Rattle.pool_driver.proofs.ColdPicks.{cold_begins, fewer_last, fewer_step, mo
 use Rattle.pool_driver.proofs.Driven.{stands_for}
 use Rattle.pool_driver.proofs.Holding.{holds_on, same_holds}
 use Rattle.pool_driver.proofs.Naming.{sees_more, sees_limits}
+use Rattle.pool_driver.proofs.PageFaultRows.{LeftFaulted}
+use Rattle.pool_driver.proofs.PageFaults.{faulted_begins, faulted_step}
+use Rattle.pool_driver.proofs.OtherKinds.{other_on}
+use Rattle.pool_driver.proofs.Purging.{LeftMissed, missed_begins, missed_step, none_missed_last, none_missed_on}
 use Rattle.pool_driver.proofs.Raising.{key_answered}
+use Rattle.pool_driver.proofs.Releasing.{LeftTaken, none_taken_last, none_taken_on, taken_begins, taken_step}
 use Rattle.pool_driver.proofs.Limits.{answer_named, begun_named, names_ended, next_named, stripe_ended}
 use Rattle.pool_driver.proofs.Refusing.{ends_before, ends_so, stays_for}
 use Rattle.pool_driver.proofs.Spending.{asked_stays, spends_begin, spends_step}
@@ -306,9 +314,9 @@ answers_call s plan call.Release f o kind may = absurd may
 
 -- A call that begins goes on since then.
 pub goes_begun : {T P H : Type 0} (a : About) (v : View T) (c : Call P H) (f : Frame P H) → v.limits ≡ counter_limits a.settings → GoesOnSince a v v (begun_call c f) (begun_call c f)
-goes_begun a v c f limits = record { busy = begun_busy c f; tells = tells_begin v a.plan c f; spends = spends_begin v a.plan (begun_call c f); cold = cold_begins a.plan v (begun_call c f); fewer = begun_named (RefusalFewer v v a.plan (begun_call c f).asked) c (stage_of (begun_call c f)) (begun_kind c f); more = same_holds v v refl; limits = limits; portions = refl; home = refl; asked = refl; kind = inl refl; instances = adds_begin v _ _; components = adds_begin v _ _; stripe = refl; names = begun_named (Names a.settings a.plan (begun_call c f).stripe) c (stage_of (begun_call c f)) (begun_kind c f); sort = begun_sort c f; ends = λ o may. may }
+goes_begun a v c f limits = record { busy = begun_busy c f; tells = tells_begin v a.plan c f; spends = spends_begin v a.plan (begun_call c f); cold = cold_begins a.plan v (begun_call c f); fewer = begun_named (RefusalFewer v v a.plan (begun_call c f).asked) c (stage_of (begun_call c f)) (begun_kind c f); fault = faulted_begins (CellFaulted v v a.plan) c f; warm = taken_begins v v a.plan c f (begun_kind c f); missed = missed_begins v a.plan a.settings.max_memories_per_module c f (begun_kind c f); more = same_holds v v refl; limits = limits; portions = refl; home = refl; asked = refl; kind = inl refl; instances = adds_begin v _ _; components = adds_begin v _ _; stripe = refl; names = begun_named (Names a.settings a.plan (begun_call c f).stripe) c (stage_of (begun_call c f)) (begun_kind c f); sort = begun_sort c f; ends = λ o may. may }
 
-module _ {T P H : Type 0} (about : T → About) (inner : T → PoolPart P H) (Passes : List Exchange → Type 0) (old new : PartyTold) (a : About) (base v w : View T) (first f next : Frame P H) (o : Option (Outcome P H)) (goes : GoesOnSince a base v first f) (sees : SeesStep about inner Passes old new a v w f next o) where
+module _ {T P H : Type 0} (about : T → About) (inner : T → PoolPart P H) (Passes : List Exchange → Type 0) (old new : PartyTold) (a : About) (base v w : View T) (first f next : Frame P H) (o : Option (Outcome P H)) (goes : GoesOnSince a base v first f) (sees : SeesStep about inner Passes old new a v w f next o) (keeps : FrameKeeps f) where
   sound_here : IsSoundStep a.maker old new sees.core f (record { core = sees.left; frame = next; outcome = o })
   sound_here = sound_step a.maker old new sees.core f (record { core = sees.left; frame = next; outcome = o }) sees.can (sees.row.0, sees.row.1.0)
 
@@ -364,6 +372,15 @@ module _ {T P H : Type 0} (about : T → About) (inner : T → PoolPart P H) (Pa
       let by_plan : IfRefused (Names a.settings a.plan f.stripe) answer = subst (λ (p : Plan). IfRefused (Names a.settings p f.stripe) answer) sees.plan by_settings in
       names_ended a.settings a.plan answer f.stripe next.stripe by_plan (stripe_here (Some answer) some)
 
+  fault_here : LeftFaulted {P = P} {H = H} (CellFaulted base w a.plan) (record { frame = next; outcome = o })
+  fault_here = faulted_step about inner Passes old new a base v w f next o goes.more keeps sees goes.busy goes.fault
+
+  warm_here : LeftTaken {P = P} {H = H} base w a.plan (record { frame = next; outcome = o }) ⊎ (kind_at (stage_of f) ≡ releases → ⊥)
+  warm_here = taken_step about inner Passes old new a base v w f next o goes.more sees goes.warm
+
+  missed_here : LeftMissed {P = P} {H = H} base w a.plan a.settings.max_memories_per_module (record { frame = next; outcome = o }) ⊎ (kind_at (stage_of f) ≡ purges → ⊥)
+  missed_here = missed_step about inner Passes old new a base v w f next o goes.more sees goes.missed
+
   -- After a step without an answer it goes on,
   pub goes_on : o ≡ None → GoesOnSince a base w first next
   goes_on none =
@@ -378,6 +395,15 @@ module _ {T P H : Type 0} (about : T → About) (inner : T → PoolPart P H) (Pa
         spends = (spends_step about inner Passes old new a base v w f next o sees goes.spends).0;
         cold = λ kind. record { most = most_step about inner Passes old new a base v w first f next o goes sees kind; now = λ on. now_step about inner Passes old new a base v w first f next o goes sees (asks_before on) on kind };
         fewer = fewer_step about inner Passes old new a base v w first f next o goes sees none;
+        fault = fault_here.frame;
+        warm = ⊎_elim
+            (λ (left : LeftTaken {P = P} {H = H} base w a.plan (record { frame = next; outcome = o })). left.frame)
+            (λ (other : kind_at (stage_of f) ≡ releases → ⊥). none_taken_on base w a.plan next (other_on releases (kind_at (stage_of f)) (kind_at (stage_of next)) (λ (is : releases ≡ is_refused). absurd cc) becomes other))
+            warm_here;
+        missed = ⊎_elim
+            (λ (left : LeftMissed {P = P} {H = H} base w a.plan a.settings.max_memories_per_module (record { frame = next; outcome = o })). left.frame)
+            (λ (other : kind_at (stage_of f) ≡ purges → ⊥). none_missed_on base w a.plan a.settings.max_memories_per_module next (other_on purges (kind_at (stage_of f)) (kind_at (stage_of next)) (λ (is : purges ≡ is_refused). absurd cc) becomes other))
+            missed_here;
         more = more_here;
         limits = sees_limits about inner Passes old new a v w f next o sees ∙ goes.limits;
         portions = portions_here;
@@ -414,6 +440,15 @@ module _ {T P H : Type 0} (about : T → About) (inner : T → PoolPart P H) (Pa
         spends = subst (λ (z : Option (Outcome P H)). AnswerSpends base w a.plan first.asked z) some (subst (λ (z : Asked). AnswerSpends base w a.plan z o) goes.asked spends);
         cold = most_step about inner Passes old new a base v w first f next o goes sees;
         fewer = fewer_last about inner Passes old new a base v w first f next o goes sees answer some;
+        fault = subst (λ (z : Option (Outcome P H)). IfSome z (IfRefused (IfFaulted (CellFaulted base w a.plan)))) some fault_here.answer;
+        warm = ⊎_elim
+            (λ (left : LeftTaken {P = P} {H = H} base w a.plan (record { frame = next; outcome = o })). subst (λ (z : Option (Outcome P H)). IfSome z (IfReleased (HasTakenWarm base w a.plan))) some left.answer)
+            (λ (other : kind_at (stage_of f) ≡ releases → ⊥). none_taken_last base w a.plan (kind_at (stage_of f)) answer (kind_answers a.maker old new sees.core f (stage_of f) (stage_of next) answer (way_here (Some answer) some)) other)
+            warm_here;
+        missed = ⊎_elim
+            (λ (left : LeftMissed {P = P} {H = H} base w a.plan a.settings.max_memories_per_module (record { frame = next; outcome = o })). subst (λ (z : Option (Outcome P H)). IfSome z (IfPurged (HasMissed base w a.plan a.settings.max_memories_per_module))) some left.answer)
+            (λ (other : kind_at (stage_of f) ≡ purges → ⊥). none_missed_last base w a.plan a.settings.max_memories_per_module (kind_at (stage_of f)) answer (kind_answers a.maker old new sees.core f (stage_of f) (stage_of next) answer (way_here (Some answer) some)) other)
+            missed_here;
         more = more_here;
         instances = instances_step about inner Passes old new a base v w first f next o goes sees;
         components = components_step about inner Passes old new a base v w first f next o goes sees;

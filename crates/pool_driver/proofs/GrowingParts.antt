@@ -56,11 +56,11 @@ frees_on plan [] s = record { cold = omega arith; capacity = refl }
 frees_on plan (x ∷ rest) s = let more = frees_on plan rest (after_free (home_of plan x.name).local x.bytes s) in record { cold = more.cold; capacity = more.capacity }
 
 -- a cell tells the numbers of what lies there, or those with which it went out
-numbers_out : (out : RegionNumbers) (kind : SlotKind) (held : Cell) → is_taken held ≡ true → numbers_by out kind held ≡ out
+pub numbers_out : (out : RegionNumbers) (kind : SlotKind) (held : Cell) → is_taken held ≡ true → numbers_by out kind held ≡ out
 numbers_out out kind taken e = refl
 numbers_out out kind held e = absurd cc
 
-faults_there : (out : RegionNumbers) (kind : SlotKind) (held : Cell) (name : SlotName) → IsRegionOf name held → (numbers_by out kind held).faults ≡ faults_in held
+pub faults_there : (out : RegionNumbers) (kind : SlotKind) (held : Cell) (name : SlotName) → IsRegionOf name held → (numbers_by out kind held).faults ≡ faults_in held
 faults_there out kind (unmapped region) name own = refl
 faults_there out kind (unknown slot) name own = refl
 faults_there out kind (previously_used slot) name own = refl

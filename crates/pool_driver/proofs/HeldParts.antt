@@ -153,6 +153,6 @@ module _ {T P H : Type 0} (about : T → About) (inner : T → PoolPart P H) (ma
       can = can_now;
       row = asking party;
       change = changed p x y;
-      of = (target, below, part_here, refl, told.stands.fits.small);
+      of = (target, below, part_here, refl, told.stands.fits.small, small);
       view = refl;
     }

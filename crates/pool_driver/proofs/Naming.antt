@@ -43,7 +43,8 @@ place_by (Part place) = place
 place_by _ = 0
 
 module _ {P H : Type 0} where
-  a_shard : (x : PoolPart P H) → IsShardPart x → x ≡ part.Shard (shard_in x)
+  -- A shard is told from its part.
+  pub a_shard : (x : PoolPart P H) → IsShardPart x → x ≡ part.Shard (shard_in x)
   a_shard (part.Shard s) is = refl
   a_shard (part.Memory cell) is = absurd is
   a_shard (part.Table cell) is = absurd is
@@ -88,15 +89,17 @@ module _ {T P H : Type 0} (about : T → About) (inner : T → PoolPart P H) (Pa
     pub was : part_at place c.parts ≡ inner before
     pub is : part_at place d.parts ≡ inner after
     pub small : IsSmall (inner before)
+    pub small_after : IsSmall (inner after)
 
-  put_named : (place p : ℕ) (x y : T) (c d : PoolCore P H) → p ≡ place → w ≡ put_view (pool_meaning about inner) p x y v → p < length c.parts → part_at p c.parts ≡ inner x → d ≡ with_part p (inner y) c → IsSmall (inner x) → PutAt place c d
-  put_named place p x y c d at put inside was is small = subst (λ (q : ℕ). PutAt q c d) at (record {
+  put_named : (place p : ℕ) (x y : T) (c d : PoolCore P H) → p ≡ place → w ≡ put_view (pool_meaning about inner) p x y v → p < length c.parts → part_at p c.parts ≡ inner x → d ≡ with_part p (inner y) c → IsSmall (inner x) → IsSmall (inner y) → PutAt place c d
+  put_named place p x y c d at put inside was is small small_after = subst (λ (q : ℕ). PutAt q c d) at (record {
     before = x;
     after = y;
     put = put;
     was = was;
     is = ap (λ (z : PoolCore P H). part_at p z.parts) is ∙ part_same p (inner y) c inside;
     small = small;
+    small_after = small_after;
   })
 
   -- a step changes what the phase names in the core
@@ -144,17 +147,17 @@ module _ {T P H : Type 0} (about : T → About) (inner : T → PoolPart P H) (Pa
         go unchanged of view = absurd (let e = of.0 in cc)
 
     -- or a part at its place.
-    placed_at : (p : Phase P H) (place : ℕ) → f.phase ≡ p → next_target s.core.settings s.core.plan p f ≡ Part place → PutAt place s.core s.left
+    pub placed_at : (p : Phase P H) (place : ℕ) → f.phase ≡ p → next_target s.core.settings s.core.plan p f ≡ Part place → PutAt place s.core s.left
     placed_at p place is at = go s.change (of_target p (Part place) is at) s.view
       where
         go : (ch : Change T) → Of (Part place) ch → w ≡ view_after about inner ch v → PutAt place s.core s.left
-        go (changed p x y) of view = put_named place p x y s.core s.left (sym (ap place_by of.0)) view of.1 of.2 of.3 of.4
+        go (changed p x y) of view = put_named place p x y s.core s.left (sym (ap place_by of.0)) view of.1 of.2 of.3 of.4 of.5
         go (counted name found) of view = absurd (let e = of.0 in cc)
         go (uncounted name) of view = absurd (let e = of.0 in cc)
         go unchanged of view = absurd (let e = of.0 in cc)
 
     -- what the step leaves of the core is what its row leaves
-    left_is : (p : Phase P H) → f.phase ≡ p → s.left ≡ (row_of s.row.0 p s.core (resting f)).part
+    pub left_is : (p : Phase P H) → f.phase ≡ p → s.left ≡ (row_of s.row.0 p s.core (resting f)).part
     left_is p is = ap (λ (z : After P H). z.core) s.row.1.0.is ∙ ap (λ (q : Phase P H). (row_of s.row.0 q s.core (resting f)).part) is
 
     -- The shard that is tried was put as the pick left it.

@@ -70,7 +70,7 @@ use Rattle.pool_driver.proofs.RegionFaults.{decommits_keep, empties_faulted, emp
 use Rattle.pool_driver.proofs.TurnFaults.{HandKeeps, PhaseTells, TurnKeeps, after_keeps, answer_keeps}
 
 -- The call isn't refused for a failed page call.
-abbrev NeverFaults : AllocError → Type 0
+abbrev pub NeverFaults : AllocError → Type 0
 NeverFaults e = refused e ≡ refused refusal.PageFault → ⊥
 
 -- What a limiter answers is no such cause,
@@ -87,7 +87,7 @@ limits_never (Ok true) ty =
     (λ is. cc)
 
 -- the memory that is made in a slot lies in that slot,
-abbrev MadeKeeps : ℕ → Result MemoryState AllocError → Type 0
+abbrev pub MadeKeeps : ℕ → Result MemoryState AllocError → Type 0
 MadeKeeps told (Ok memory) = KeepsFaults told (slot_of memory).region.faults
 MadeKeeps told (Err e) = NeverFaults e
 
@@ -96,12 +96,12 @@ limits_keep told (Err e) ty room held never k = never
 limits_keep told (Ok limits) ty room held never k =
     by_choice (λ r. MadeKeeps told (made_of ty r)) (nat_le limits.0 room) (Ok (record { slot = held; size = limits.0; capacity = static_capacity room limits.1 })) (Err (held, InitialSize)) k (λ is. cc)
 
-made_keeps : (told room : ℕ) (answer : Result Bool LimiterError) (held : Slot) (o : Option MemoryDecl) → KeepsFaults told held.region.faults → MadeKeeps told (made_for room answer held o)
+pub made_keeps : (told room : ℕ) (answer : Result Bool LimiterError) (held : Slot) (o : Option MemoryDecl) → KeepsFaults told held.region.faults → MadeKeeps told (made_for room answer held o)
 made_keeps told room answer held None k = λ is. cc
 made_keeps told room answer held (Some decl) k = limits_keep told (limits_answer answer decl.ty) decl.ty room held (limits_never answer decl.ty) k
 
 -- and a table in its region.
-abbrev MadeTableKeeps : Result LeasedTable AllocError → Type 0
+abbrev pub MadeTableKeeps : Result LeasedTable AllocError → Type 0
 MadeTableKeeps (Ok lease) = TableKeeps lease
 MadeTableKeeps (Err e) = NeverFaults e
 
@@ -118,7 +118,7 @@ unless_keeps : (o : Option AllocError) (lease : LeasedTable) → RefusedNever o 
 unless_keeps None lease never k = k
 unless_keeps (Some e) lease never k = never
 
-made_table_keeps : (s : Settings) (answer : Result Bool LimiterError) (at : TakenSlot) (region : Told) (o : Option TableType) → KeepsFaults at.numbers.faults region.faults → MadeTableKeeps (made_table s answer at region o)
+pub made_table_keeps : (s : Settings) (answer : Result Bool LimiterError) (at : TakenSlot) (region : Told) (o : Option TableType) → KeepsFaults at.numbers.faults region.faults → MadeTableKeeps (made_table s answer at region o)
 made_table_keeps s answer at region None k = λ is. cc
 made_table_keeps s answer at region (Some ty) k =
     let room : ℕ = room_of ty (table_bytes s ty) in

@@ -132,10 +132,10 @@ module _ {T P H : Type 0} (about : T → About) (inner : T → PoolPart P H) whe
   view_after (uncounted name) v = subtract_view (counter_number name) v
   view_after unchanged v = v
 
-  -- The step changed this in the core, as its target says: the part at the target's place, whose counts fit 64 bits; the counter with
-  -- its name; or nothing.
+  -- The step changed this in the core, as its target says: the part at the target's place, whose counts fit 64 bits before and after; the
+  -- counter with its name; or nothing.
   abbrev pub IsChangeOf : Change T → Target → PoolCore P H → PoolCore P H → Type 0
-  IsChangeOf (changed p x y) target c d = (target ≡ Part p) × (p < length c.parts) × (part_at p c.parts ≡ inner x) × (d ≡ with_part p (inner y) c) × IsSmall (inner x)
+  IsChangeOf (changed p x y) target c d = (target ≡ Part p) × (p < length c.parts) × (part_at p c.parts ≡ inner x) × (d ≡ with_part p (inner y) c) × IsSmall (inner x) × IsSmall (inner y)
   IsChangeOf (counted name found) target c d = (target ≡ Up name) × Decides name found (number_at name c.counters) × (d ≡ counting name (counted_up name (number_at name c.counters)) c)
   IsChangeOf (uncounted name) target c d = (target ≡ Down name) × (d ≡ counting name (number_at name c.counters - 1) c)
   IsChangeOf unchanged target c d = (target ≡ Alone) × (d ≡ c)

@@ -10,8 +10,11 @@ pub mod Growing
 pub mod Laws
 pub mod Limits
 pub mod Origins
+pub mod PageFaults
 pub mod Placed
 pub mod Pools
+pub mod Purging
 pub mod Refusing
+pub mod Releasing
 pub mod Spending
 pub mod Telling

@@ -13,9 +13,42 @@ use pool_index::ShardId;
 use pool_limits::{ResourceLimiter, Trap};
 use pool_pages::{PageMaker, Pages};
 use pool_slots::{AllocError, GcHeap};
-use pool_types::{CompiledModuleId, ModuleInfo, PageSize};
+use pool_types::{
+    CompiledModuleId, ImageDecl, IndexType, Limits, MemoryDecl, MemoryType, ModuleInfo, PageSize,
+    PlainList,
+};
 use std::alloc::Global;
 use std::sync::{Arc, Wait};
+
+/// A module with one memory of one WebAssembly page, which begins with these bytes, if any.
+pub fn module_with(alloc: Global, bytes: &[u8]) -> Result<ModuleInfo, std::alloc::AllocError>
+    ensures module { IfOk result IsModule }
+    ensures some { IfOk result (λ m. 0 < length m.memories) }
+{
+    let mut image = None;
+    if !bytes.is_empty() {
+        let mut list = Vec::with_capacity(alloc, bytes.len())?;
+        list.extend_from_slice(bytes)?;
+        image = Some(ImageDecl {
+            offset: 0,
+            bytes: PlainList::from_vec(list),
+        });
+    }
+    let ty = MemoryType {
+        idx_type: IndexType::I32,
+        limits: Limits { min: 1, max: None },
+        shared: false,
+        page_size_log2: 16,
+    };
+    let mut memories = Vec::with_capacity(alloc, 1)?;
+    memories.push_reserved(MemoryDecl { ty, image });
+    Ok(ModuleInfo {
+        memories: PlainList::from_vec(memories),
+        tables: PlainList::new(alloc),
+        state_bytes: 0,
+        parts: PlainList::new(alloc),
+    })
+}
 
 /// What a caller asks with for instances of a module: the module, and the images of its memories, which are made here.
 pub fn module_call<M: PageMaker>(

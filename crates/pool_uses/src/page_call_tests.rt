@@ -1,53 +1,15 @@
 //! How many page calls the commands of one caller make, over regions that count theirs.
-ghost use Rattle.std.specs.Prelude.{◌<◌, length, IfOk};
-ghost use Rattle.pool_alloc.specs.Requests.{IsModule};
-
 use crate::counted_pages::{CallTotals, CountedPages};
-use crate::instances::{module_call, once_more, two_at_once, write_and_drop};
+use crate::instances::{module_call, module_with, once_more, two_at_once, write_and_drop};
 use pool_callers::PoolingInstanceAllocator;
 use pool_index::ShardId;
 use pool_limits::Unlimited;
 use pool_pages::MemoryPages;
 use pool_slots::PlainHeap;
-use pool_types::{
-    ByteList, CompiledModuleId, ImageDecl, IndexType, Limits, MemoryDecl, MemoryType, ModuleInfo,
-    Offered, PageSize, PlainList, PoolingAllocationConfig, Tunables,
-};
-use std::alloc::{AllocError, Global};
-use std::sync::Arc;
+use pool_types::{CompiledModuleId, Offered, PageSize, PoolingAllocationConfig, Tunables};
 use std::test::*;
 
 const HOME: ShardId = ShardId(0);
-
-// A module with one memory of one page, which begins with these bytes, if any.
-fn module_with(alloc: Global, bytes: &[u8]) -> Result<ModuleInfo, AllocError>
-    ensures module { IfOk result IsModule }
-    ensures some { IfOk result (λ m. 0 < length m.memories) }
-{
-    let mut image = None;
-    if !bytes.is_empty() {
-        let mut list = Vec::with_capacity(alloc, bytes.len())?;
-        list.extend_from_slice(bytes)?;
-        image = Some(ImageDecl {
-            offset: 0,
-            bytes: PlainList::from_vec(list),
-        });
-    }
-    let ty = MemoryType {
-        idx_type: IndexType::I32,
-        limits: Limits { min: 1, max: None },
-        shared: false,
-        page_size_log2: 16,
-    };
-    let mut memories = Vec::with_capacity(alloc, 1)?;
-    memories.push_reserved(MemoryDecl { ty, image });
-    Ok(ModuleInfo {
-        memories: PlainList::from_vec(memories),
-        tables: PlainList::new(alloc),
-        state_bytes: 0,
-        parts: PlainList::new(alloc),
-    })
-}
 
 // A slot that comes back keeps its image: the module's next instance finds it mapped, and the bytes that were written over are the image's again.
 #[test]

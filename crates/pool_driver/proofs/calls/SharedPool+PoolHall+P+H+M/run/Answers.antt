@@ -22,7 +22,7 @@ step-requires-send-L g c κs within =
 
 pub returns-in-Some-take-clause-ended : goal.returns-in-Some-take-clause-ended
 returns-in-Some-take-clause-ended g c =
-    has_ended (about_of g.M.PageMaker.told) inner_of _ _ _ g.given.about (view c.args.seat.now) (view c.loop.seat) (view c.step.new.seat) c.args.frame.now c.loop.frame c.step.new.frame c.step.new.outcome c.loop.invariant.goes c.step.ensures.sees c.in-Some-take.answer (sym c.take.ensures.value ∙ c.in-Some-take.is)
+    has_ended (about_of g.M.PageMaker.told) inner_of _ _ _ g.given.about (view c.args.seat.now) (view c.loop.seat) (view c.step.new.seat) c.args.frame.now c.loop.frame c.step.new.frame c.step.new.outcome c.loop.invariant.goes c.step.ensures.sees c.loop.invariant.driven.keeps c.in-Some-take.answer (sym c.take.ensures.value ∙ c.in-Some-take.is)
 
 pub returns-in-Some-take-clause-asked : goal.returns-in-Some-take-clause-asked
 returns-in-Some-take-clause-asked g c =
@@ -36,7 +36,7 @@ loop-preserved g c =
     let before : PartyTold = record { limiter = g.L.ResourceLimiter.told c.loop.limiter; heaps = g.K.HeapMaker.told c.loop.heaps } in
     let after : PartyTold = record { limiter = g.L.ResourceLimiter.told c.step.new.limiter; heaps = g.K.HeapMaker.told c.step.new.heaps } in
     let goes : GoesOnSince g.given.about (view c.args.seat.now) (view c.step.new.seat) c.args.frame.now c.step.new.frame =
-    goes_on (about_of g.M.PageMaker.told) inner_of (λ passed. Exchanged g.L.ResourceLimiter.leads passed c.loop.limiter c.step.new.limiter) before after g.given.about (view c.args.seat.now) (view c.loop.seat) (view c.step.new.seat) c.args.frame.now c.loop.frame c.step.new.frame c.step.new.outcome c.loop.invariant.goes c.step.ensures.sees left in
+    goes_on (about_of g.M.PageMaker.told) inner_of (λ passed. Exchanged g.L.ResourceLimiter.leads passed c.loop.limiter c.step.new.limiter) before after g.given.about (view c.args.seat.now) (view c.loop.seat) (view c.step.new.seat) c.args.frame.now c.loop.frame c.step.new.frame c.step.new.outcome c.loop.invariant.goes c.step.ensures.sees c.loop.invariant.driven.keeps left in
     record {
       own = c.step.ensures.own;
       free = c.step.ensures.free;
