@@ -17,8 +17,8 @@ use Rattle.pool_alloc.specs.declared.frame.Object.TheVariants.{Memory, Table}
 use Rattle.pool_alloc.specs.declared.leases.instance.InstanceLease.{InstanceLease}
 use Rattle.pool_alloc.specs.Searches.{AreFull, AreEmpty, IsSearchedBy, IsSearchedAt, IsSearched}
 use Rattle.pool_alloc.specs.BetweenSteps.{queue_room, AreSupported, AreTablesSupported, IsLocal, IsLeaseOf, IsObjectOf, AreLeasesOf, AreOfOneKind, IsCore, IsFrame, IsToGrant, Aims, HasNoneWaiting, IsAtRest, IsAiming, IsAllocating, IsReturning, IsShapedAt, AreBegun, IsFreedOf}
-use Rattle.pool_alloc.specs.CallStages.{Progress, untested, uncounted, admitted, seeks_stack, tests_heap, seeks_heap, counts_heap, Stage, no_call, keys, asks, returning, refusing, progress_by, stage_by, stage_at, stage_of, Follows, Goes, tests_component, counts_component, purging, reserving, releasing}
-use Rattle.pool_alloc.specs.StepReads.{memories_wanted, images_wanted, tables_wanted, stacks_wanted, IsForInstance, kind_next, allocator_for, queues_searched, queues_next}
+use Rattle.pool_alloc.specs.CallStages.{Progress, untested, uncounted, admitted, seeks_single, seeks_stack, tests_heap, seeks_heap, counts_heap, Stage, no_call, keys, asks, returning, refusing, progress_by, stage_by, stage_at, stage_of, Follows, Goes, tests_component, counts_component, purging, reserving, releasing}
+use Rattle.pool_alloc.specs.StepReads.{memories_wanted, images_wanted, tables_wanted, stacks_wanted, singles_wanted, memories_kept, tables_kept, IsForObjects, IsForInstance, kind_next, allocator_for, queues_searched, queues_next}
 use Rattle.pool_alloc.specs.Stepping.{Conserves, RiseByOne, count_granted, grant_weight, is_idle}
 use Rattle.pool_alloc.specs.Turns.{Turn, goes, ends, next, flush, search, Row, Left, After, is_granting, failing, returned_next, all_returned, answer_of, next_by, is_flushed, after, finished, stepped, gone_to, stays, ends_with}
 use Rattle.pool_alloc.specs.declared.pool_core.PoolCore.{PoolCore}
@@ -30,7 +30,7 @@ use Rattle.pool_alloc.specs.declared.frame.FreedSlot.{FreedSlot}
 use Rattle.pool_alloc.specs.declared.frame.Grant.{Grant}
 use Rattle.pool_alloc.specs.declared.frame.Grant.TheVariants.{Instance}
 use Rattle.pool_alloc.specs.declared.frame.Asked.{Asked}
-use Rattle.pool_alloc.specs.declared.frame.Asked.TheVariants.{Stack as stack_asked, Heap as heap_asked}
+use Rattle.pool_alloc.specs.declared.frame.Asked.TheVariants.{Memory as memory_asked, Table as table_asked, Stack as stack_asked, Heap as heap_asked}
 use Rattle.pool_alloc.specs.declared.frame.Outcome.{Outcome}
 use Rattle.pool_alloc.specs.declared.frame.Outcome.TheVariants as answer
 use Rattle.pool_alloc.specs.declared.frame.Phase.{Phase}
@@ -94,25 +94,42 @@ stage_still asked granted m n e = absurd cc
 stage_still asked returned m n e = refl
 stage_still asked (refused x) m n e = refl
 
--- a call that is for neither a stack nor a heap counts its instance, and is admitted with it
+-- what a call keeps of its objects is what it asks for, but for an object by itself
+pub record IsKept (asked : Asked) : Type 0 where
+  pub memories : memories_kept asked ≤ length (memories_wanted asked)
+  pub tables : tables_kept asked ≤ length (tables_wanted asked)
+  pub all : memories_kept asked + tables_kept asked + singles_wanted asked ≡ length (memories_wanted asked) + length (tables_wanted asked)
+  pub single : singles_wanted asked ≡ 1 → memories_kept asked + tables_kept asked ≡ 0
+
+pub kept_of : (asked : Asked) → IsKept asked
+kept_of (memory_asked m) = record { memories = omega arith; tables = omega arith; all = omega arith; single = λ one. omega arith }
+kept_of (table_asked ty) = record { memories = omega arith; tables = omega arith; all = omega arith; single = λ one. omega arith }
+kept_of asked = record { memories = omega arith; tables = omega arith; all = omega arith; single = λ one. omega (arith, one) }
+
+-- a call that is for no object by itself counts its instance, and is admitted with it
 pub counts_one : (asked : Asked) → IsForInstance asked → instances_for asked ≡ 1
+counts_one (memory_asked m) one = absurd (omega (arith, one.no_single))
+counts_one (table_asked ty) one = absurd (omega (arith, one.no_single))
 counts_one stack_asked one = absurd (omega (arith, one.no_stack))
 counts_one (heap_asked ty) one = absurd (omega (arith, one.no_heap))
 counts_one asked one = refl
 
 pub is_admitted : (asked : Asked) (n : ℕ) → IsForInstance asked → progress_by asked n ≡ admitted n
+is_admitted (memory_asked m) n one = absurd (omega (arith, one.no_single))
+is_admitted (table_asked ty) n one = absurd (omega (arith, one.no_single))
 is_admitted stack_asked n one = absurd (omega (arith, one.no_stack))
 is_admitted (heap_asked ty) n one = absurd (omega (arith, one.no_heap))
 is_admitted asked n one = refl
 
--- A call that counts no instance is for a stack or a heap. It may end at a stage of such a call, with no object left; one for
--- a heap that is refused has no memory for it yet.
+-- A call that counts no instance is for an object by itself. It may end at a stage of such a call, with no object left; one that
+-- is refused has none made yet.
 abbrev pub CountsNone : Asked → Type 0
 CountsNone asked = instances_for asked ≡ 0
 
 abbrev pub MayEnd : ℕ → Stage → Type 0
 MayEnd objects (asks uncounted) = ⊥
 MayEnd objects (asks (admitted n)) = ⊥
+MayEnd objects (asks (seeks_single n)) = objects ≡ 0 → n ≡ 0
 MayEnd objects (asks (seeks_heap n)) = objects ≡ 0 → n ≡ 0
 MayEnd objects counts_component = ⊥
 MayEnd objects _ = Unit {0}
@@ -120,8 +137,8 @@ MayEnd objects _ = Unit {0}
 -- nothing is granted yet of a request for a stack
 pub none_for_stack : {P : Type 0} (s : Settings) (plan : Plan) (asked : Asked) (queues : ℕ) (objects : InstanceLease P) → IsToGrant s plan asked queues objects → asked ≡ stack_asked → objects_in objects ≡ 0
 none_for_stack s plan asked queues objects to_grant is =
-    let no_memory : length (memories_wanted asked) ≡ 0 = rw is refl in
-    let no_table : length (tables_wanted asked) ≡ 0 = rw is refl in
+    let no_memory : memories_kept asked ≡ 0 = rw is refl in
+    let no_table : tables_kept asked ≡ 0 = rw is refl in
     omega (arith, to_grant.few, to_grant.few_tables, no_memory, no_table)
 
 -- what a request gives back where it is refused is within what is left of it
@@ -354,6 +371,7 @@ module _ {P H : Type 0} (maker : MakerTold) (old new : PartyTold) (d : PoolCore 
   ends_all (asks untested) asked (refused x) n back none may way = way
   ends_all (asks uncounted) asked (refused x) n back none may way = absurd may
   ends_all (asks (admitted m)) asked (refused x) n back none may way = absurd may
+  ends_all (asks (seeks_single m)) asked (refused x) n back none may way = (way, may none)
   ends_all (asks seeks_stack) asked (refused x) n back none may way = way
   ends_all (asks tests_heap) asked (refused x) n back none may way = way
   ends_all (asks (seeks_heap m)) asked (refused x) n back none may way = (way, may none)
@@ -378,10 +396,12 @@ module _ {P H : Type 0} (maker : MakerTold) (old new : PartyTold) (d : PoolCore 
       })
 
   all_ok : (asked : Asked) (c : PoolCore P H) (f : Frame P H) → f.asked ≡ asked → IsAtRest f → GoesBack c f → (CountsNone e.asked → MayEnd (objects_in f.objects) (stage_of e)) → RowOk (finished c (all_returned asked f))
+  all_ok (memory_asked m) c f is rest back may = none_left_ok (memory_asked m) c f is refl rest back may
+  all_ok (table_asked ty) c f is rest back may = none_left_ok (table_asked ty) c f is refl rest back may
   all_ok stack_asked c f is rest back may = none_left_ok stack_asked c f is refl rest back may
   all_ok (heap_asked ty) c f is rest back may = none_left_ok (heap_asked ty) c f is refl rest back may
   all_ok asked c f is rest back may =
-      goes_ok c f UncountInstance (record { kept = back.0; shape = (refl, (rest, back.2, rw is (record { no_stack = refl; no_heap = refl }))); even = λ w. omega (arith, back.3 w); fewer = omega (arith, back.4); way = back.5; searched = λ s. tt })
+      goes_ok c f UncountInstance (record { kept = back.0; shape = (refl, (rest, back.2, rw is (record { no_stack = refl; no_heap = refl; no_single = refl }))); even = λ w. omega (arith, back.3 w); fewer = omega (arith, back.4); way = back.5; searched = λ s. tt })
 
   back_ok : (c : PoolCore P H) (f : Frame P H) (memories : List Lease) (tables : List LeasedTable) → f.objects.memories.items ≡ memories → f.objects.tables.items ≡ tables → GoesBack c f → (CountsNone e.asked → MayEnd (objects_in f.objects) (stage_of e)) → RowOk (finished c (returned_next memories tables f))
   back_ok c f [] [] none none_more back may =
@@ -421,12 +441,13 @@ module _ {P H : Type 0} (maker : MakerTold) (old new : PartyTold) (d : PoolCore 
       let B : Asked → Type 0 = λ a. AreBegun c.settings a f.objects in
       let A : Settings → Asked → Type 0 = λ s a. AreSupported s (memories_wanted a) (images_wanted a) in
       let supported : A d.settings e.asked = subst (A d.settings) kept.asked (subst (λ (s : Settings). A s f.asked) kept.settings to_grant.supported) in
+      let of = kept_of f.asked in
+      let one : IsForInstance f.asked = record { no_stack = omega (arith, all, to_grant.few, to_grant.few_tables, of.all); no_heap = omega (arith, all, to_grant.few, to_grant.few_tables, of.all); no_single = omega (arith, all, to_grant.few, to_grant.few_tables, of.all) } in
       let T : Settings → Plan → Asked → Type 0 = λ s p a. AreTablesSupported s p.totals.table (tables_wanted a) in
-      let tables : T d.settings d.plan e.asked = subst (T d.settings d.plan) kept.asked (subst (λ (p : Plan). T d.settings p f.asked) kept.plan (subst (λ (s : Settings). T s c.plan f.asked) kept.settings to_grant.tables)) in
-      let one : IsForInstance f.asked = record { no_stack = omega (arith, all, to_grant.few, to_grant.few_tables); no_heap = omega (arith, all, to_grant.few, to_grant.few_tables) } in
+      let tables : T d.settings d.plan e.asked = subst (T d.settings d.plan) kept.asked (subst (λ (p : Plan). T d.settings p f.asked) kept.plan (subst (λ (s : Settings). T s c.plan f.asked) kept.settings (to_grant.tables one.no_single))) in
       let here : IsForInstance e.asked = subst (λ (a : Asked). IsForInstance a) kept.asked one in
       let G : Progress → Type 0 = λ p. GoesNow (asks p) None in
-      let long : W e.asked = subst W kept.asked (omega (arith, all, to_grant.few, to_grant.few_tables), omega (arith, all, to_grant.few, to_grant.few_tables)) in
+      let long : W e.asked = subst W kept.asked (omega (arith, all, to_grant.few, to_grant.few_tables, of.all, of.memories, of.tables), omega (arith, all, to_grant.few, to_grant.few_tables, of.all, of.memories, of.tables)) in
       record {
         kept = record {
           core = kept.core;

@@ -1,12 +1,12 @@
 -- A party's frame as it is made, and as a call begins in it.
-use Rattle.std.proofs.Common.{◌≡◌, ℕ, ◌+◌, ◌≤◌, false, List, [], ◌∷◌, length, refl, subst, ap, ◌∙◌, arith, ◌*◌, inl, Bool, true, ◌<◌, nat_lt}
-use Rattle.pool_alloc.proofs.Imports.{Plan, All-nil, All-head, All-tail, MakerTold, ltb-true, and_parts, CompiledModuleId, memory_kind, table_kind}
-use Rattle.pool_alloc.specs.StepBounds.{PoolSizes, return_bound, give_back_bound, bound_of, sizes_of, steps_at, steps_left, purge_left, purge_bound}
+use Rattle.std.proofs.Common.{◌≡◌, ℕ, ◌+◌, ◌≤◌, false, List, [], ◌∷◌, length, refl, subst, ap, ◌∙◌, arith, ◌*◌, ◌-◌, inl, Bool, true, ◌<◌, nat_lt, None, IfSome, slice_get, slice_index_or, zero, suc, sym}
+use Rattle.pool_alloc.proofs.Imports.{Plan, All-nil, All-head, All-tail, MakerTold, ltb-true, and_parts, CompiledModuleId, TableType, memory_kind, table_kind, refused_limits}
+use Rattle.pool_alloc.specs.StepBounds.{PoolSizes, return_bound, give_back_bound, returns_left, allocation_bound, flush_bound, bound_of, sizes_of, steps_at, steps_left, purge_left, purge_bound}
 use Rattle.pool_alloc.specs.Leases.{Lease}
 use Rattle.pool_alloc.specs.PoolTables.{IsTableLease}
 use Rattle.pool_alloc.specs.TableLeases.{LeasedTable}
 use Rattle.pool_alloc.specs.Places.{leased_count, tables_count, queued_count, freed_count, phase_count, phase_instances, frame_instances, instances_for, Weight, counted_instance, counted_object, instance_counted, phase_counted, frame_weight, instance_count}
-use Rattle.pool_alloc.specs.BetweenSteps.{NothingWaits, IsCore, IsFrame, IsLeaseOf, IsQueuedOf, MayBeRanged, IsAtRest, IsShapedAt}
+use Rattle.pool_alloc.specs.BetweenSteps.{NothingWaits, IsCore, IsFrame, IsLeaseOf, IsQueuedOf, MayBeRanged, IsAtRest, IsShapedAt, IsSupported, AreLimited, AreBegun}
 use Rattle.pool_alloc.specs.Stepping.{IsSameSize, grant_weight}
 use Rattle.pool_alloc.specs.Calls.{frame_made, IsIdle, MayBegin, begun_call}
 use Rattle.pool_alloc.specs.Turns.{is_granting, returned_next}
@@ -14,17 +14,19 @@ use Rattle.pool_alloc.specs.declared.pool_core.PoolCore.{PoolCore}
 use Rattle.pool_alloc.specs.declared.pool_core.Settings.{Settings}
 use Rattle.pool_alloc.specs.declared.frame.Ending.TheVariants.{Returned as returned}
 use Rattle.pool_alloc.specs.Objects.{objects_in}
-use Rattle.pool_alloc.specs.declared.frame.Asked.TheVariants.{Nothing as nothing_asked}
+use Rattle.pool_alloc.specs.declared.frame.Asked.TheVariants.{Nothing as nothing_asked, Memory as memory_asked, Table as table_asked}
 use Rattle.pool_alloc.specs.declared.frame.Frame.{Frame}
 use Rattle.pool_alloc.specs.declared.frame.Phase.{Phase}
 use Rattle.pool_alloc.specs.declared.frame.Phase.TheVariants.{Key}
 use Rattle.pool_alloc.specs.declared.frame.Grant.{Grant}
-use Rattle.pool_alloc.specs.declared.frame.Grant.TheVariants.{Instance, Stack, Component, Heap}
+use Rattle.pool_alloc.specs.declared.frame.Grant.TheVariants.{Instance, Memory, Table, Stack, Component, Heap}
 use Rattle.pool_alloc.specs.declared.frame.Call.{Call}
 use Rattle.pool_alloc.specs.declared.frame.Call.TheVariants as call
 use Rattle.pool_alloc.proofs.BeforeTheTurn.{Held, held_of, frame_of, one_more, none_weighs}
 use Rattle.pool_alloc.proofs.FlushFinds.{none_waits}
 use Rattle.pool_alloc.proofs.QueueCounts.{leased_first, tables_first}
+use Rattle.pool_alloc.specs.PlainModules.{MemoryAsked}
+use Rattle.pool_alloc.specs.StepReads.{allocator_of, kind_by, plain_decl}
 use Rattle.pool_alloc.specs.Purges.{has_turns, purge_begun}
 use Rattle.pool_alloc.specs.declared.purge.PurgeStep.TheVariants as purging_step
 use Rattle.pool_alloc.proofs.PurgeBounds.{picks_of, purge_begins}
@@ -33,6 +35,27 @@ use Rattle.pool_alloc.specs.declared.leases.instance.InstanceLease.{InstanceLeas
 -- The frame as made has nothing.
 pub made_weight : (P H : Type 0) (w : Weight) (home : ℕ) (s : Settings) → frame_weight {P = P} {H = H} w (frame_made home s) ≡ 0
 made_weight P H w home s = omega arith
+
+-- one memory that is supported is all that a call for it wants, and one table
+one_supported : (s : Settings) (m : MemoryAsked) → IsSupported s (plain_decl m.ty) m.image → (k : ℕ) → IfSome (slice_get (plain_decl m.ty ∷ []) k) (λ decl. IsSupported s decl (slice_index_or (m.image ∷ []) k None))
+one_supported s m is zero = is
+one_supported s m is (suc k) = tt
+
+one_limited : (ty : TableType) → refused_limits ty.limits ≡ None → AreLimited (ty ∷ [])
+one_limited ty is zero = is
+one_limited ty is (suc k) = tt
+
+-- nothing is left of what a call was granted that was granted nothing
+none_bounded : {P : Type 0} (z : PoolSizes) (objects : InstanceLease P) → objects.memories.items ≡ [] → objects.tables.items ≡ [] → give_back_bound z + returns_left z objects ≤ return_bound z 1
+none_bounded z objects no_memories no_tables =
+    let none : objects_in objects ≡ 0 = omega (arith, ap (length {A = Lease}) no_memories, ap (length {A = LeasedTable}) no_tables) in
+    let no : objects_in objects * give_back_bound z ≡ 0 * give_back_bound z = ap (λ (n : ℕ). n * give_back_bound z) none in
+    omega (arith, no)
+
+single_bounded : {P : Type 0} (z : PoolSizes) (objects : InstanceLease P) → objects.memories.items ≡ [] → objects.tables.items ≡ [] → (z.shards - 0) + ((z.queues - 0) * (flush_bound z + z.shards) + (6 + returns_left z objects)) ≤ allocation_bound z
+single_bounded z objects no_memories no_tables =
+    let all : z.queues - 0 ≡ z.queues = omega arith in
+    omega (arith, none_bounded z objects no_memories no_tables, ap (λ (n : ℕ). n * (flush_bound z + z.shards)) all)
 
 module _ {P H : Type 0} where
   -- The frame as made is sound over a pool whose parts are.
@@ -60,6 +83,8 @@ module _ {P H : Type 0} where
   abbrev pub call_has : (Grant P H → ℕ) → Call P H → ℕ
   call_has of call.Key = 0
   call_has of (call.Module m) = 0
+  call_has of (call.Memory m) = 0
+  call_has of (call.Table ty) = 0
   call_has of call.Stack = 0
   call_has of (call.Heap ty) = 0
   call_has of (call.Component info) = 0
@@ -74,6 +99,8 @@ module _ {P H : Type 0} where
   pub idle_of : (maker : MakerTold) (s : Settings) (plan : Plan) (asks : Call P H) (f : Frame P H) → MayBegin maker s plan asks f → IsIdle f
   idle_of maker s plan call.Key f may = may
   idle_of maker s plan (call.Module m) f may = may.0
+  idle_of maker s plan (call.Memory m) f may = may.0
+  idle_of maker s plan (call.Table ty) f may = may.0
   idle_of maker s plan call.Stack f may = may
   idle_of maker s plan (call.Heap ty) f may = may.0
   idle_of maker s plan (call.Component info) f may = may
@@ -86,7 +113,7 @@ module _ {P H : Type 0} where
   giving leases tables f = record f { asked = nothing_asked; objects = record { memories = record f.objects.memories { items = leases }; tables = record f.objects.tables { items = tables } } }
 
   begun_back : (maker : MakerTold) (leases : List Lease) (tables : List LeasedTable) (s : Settings) (plan : Plan) (f : Frame P H) → Held maker s plan (giving leases tables f) → NothingWaits f.local f.freed → is_granting f.ending ≡ false → IsFrame maker s plan (record (returned_next leases tables (giving leases tables f)).frame { step_count = 0 })
-  begun_back maker [] [] s plan f held rest is = frame_of maker s plan (record (returned_next [] [] (giving [] [] f)).frame { step_count = 0 }) held (record { settled = rest; no_memories = refl; no_tables = refl }, is, record { no_stack = refl; no_heap = refl })
+  begun_back maker [] [] s plan f held rest is = frame_of maker s plan (record (returned_next [] [] (giving [] [] f)).frame { step_count = 0 }) held (record { settled = rest; no_memories = refl; no_tables = refl }, is, record { no_stack = refl; no_heap = refl; no_single = refl })
   begun_back maker (lease ∷ leases) tables s plan f held rest is =
       frame_of maker s plan (record (returned_next (lease ∷ leases) tables (giving (lease ∷ leases) tables f)).frame { step_count = 0 })
       (record { stripe = held.stripe; queue = held.queue; freed_room = held.freed_room; freed_each = held.freed_each; freed_order = held.freed_order; objects = (All-tail (IsLeaseOf maker s plan) lease leases held.objects.0, held.objects.1) })
@@ -99,9 +126,67 @@ module _ {P H : Type 0} where
   begun_at : (maker : MakerTold) (asks : Call P H) (s : Settings) (plan : Plan) (f : Frame P H) → Held maker s plan f → IsAtRest f → MayBegin maker s plan asks f → IsFrame maker s plan (begun_call asks f)
   begun_at maker call.Key s plan f held rest may = frame_of maker s plan (record f { phase = Key; step_count = 0 }) held rest
   begun_at maker (call.Module m) s plan f held rest may = frame_of maker s plan (begun_call (call.Module m) f) held (rest, record { ending = refl; none_taken = refl; asked_for = tt; images = may.2 }, may.1)
+  begun_at maker (call.Memory m) s plan f held rest may =
+      let none : length f.objects.memories.items ≡ 0 = ap (length {A = Lease}) rest.no_memories in
+      let none_more : length f.objects.tables.items ≡ 0 = ap (length {A = LeasedTable}) rest.no_tables in
+      let g : Frame P H = begun_call (call.Memory m) f in
+      let S : ℕ → Type 0 = λ n. 0 < (allocator_of plan (kind_by (memory_asked m) n) f.stripe).shards in
+      let B : List Lease → List LeasedTable → Type 0 = λ ls ts. AreBegun {P = P} s (memory_asked m) (record { memories = record f.objects.memories { items = ls }; tables = record f.objects.tables { items = ts } }) in
+      frame_of maker s plan g held (
+        rest.settled,
+        record {
+          ending = refl;
+          to_grant = record {
+            supported = record { few = omega arith; each = one_supported s m may.2 };
+            tables = λ none. absurd (omega (arith, none));
+            limits = λ k. tt;
+            enabled = tt;
+            images = tt;
+            room = omega arith;
+            table_room = omega arith;
+            few = omega (arith, none);
+            few_tables = omega (arith, none_more);
+            order = λ less. rest.no_tables;
+            begun = subst (λ ts. B f.objects.memories.items ts) (sym rest.no_tables) (subst (λ ls. B ls []) (sym rest.no_memories) (λ k. tt, λ k. tt));
+            taken = omega arith;
+          };
+          more = omega (arith, none, none_more);
+        },
+        subst S (sym none) may.1,
+      )
+  begun_at maker (call.Table ty) s plan f held rest may =
+      let none : length f.objects.memories.items ≡ 0 = ap (length {A = Lease}) rest.no_memories in
+      let none_more : length f.objects.tables.items ≡ 0 = ap (length {A = LeasedTable}) rest.no_tables in
+      let g : Frame P H = begun_call (call.Table ty) f in
+      let S : ℕ → Type 0 = λ n. 0 < (allocator_of plan (kind_by (table_asked ty) n) f.stripe).shards in
+      let B : List Lease → List LeasedTable → Type 0 = λ ls ts. AreBegun {P = P} s (table_asked ty) (record { memories = record f.objects.memories { items = ls }; tables = record f.objects.tables { items = ts } }) in
+      frame_of maker s plan g held (
+        rest.settled,
+        record {
+          ending = refl;
+          to_grant = record {
+            supported = record { few = omega arith; each = λ k. tt };
+            tables = λ none. absurd (omega (arith, none));
+            limits = one_limited ty may.2;
+            enabled = tt;
+            images = tt;
+            room = omega arith;
+            table_room = omega arith;
+            few = omega (arith, none);
+            few_tables = omega (arith, none_more);
+            order = λ less. rest.no_tables;
+            begun = subst (λ ts. B f.objects.memories.items ts) (sym rest.no_tables) (subst (λ ls. B ls []) (sym rest.no_memories) (λ k. tt, λ k. tt));
+            taken = omega arith;
+          };
+          more = omega (arith, none, none_more);
+        },
+        subst S (sym none) may.1,
+      )
   begun_at maker call.Stack s plan f held rest may = frame_of maker s plan (begun_call call.Stack f) held (rest, (refl, refl, refl))
   begun_at maker (call.Heap ty) s plan f held rest may = frame_of maker s plan (begun_call (call.Heap ty) f) held (rest, (refl, refl, may.1))
   begun_at maker (call.GiveBack (Heap lease memory)) s plan f held rest may = frame_of maker s plan (begun_call (call.GiveBack (Heap lease memory)) f) held (rest.settled, refl, may.1.0, may.1.1)
+  begun_at maker (call.GiveBack (Memory lease)) s plan f held rest may = frame_of maker s plan (begun_call (call.GiveBack (Memory lease)) f) held (rest.settled, refl, may.1)
+  begun_at maker (call.GiveBack (Table lease)) s plan f held rest may = frame_of maker s plan (begun_call (call.GiveBack (Table lease)) f) held (rest.settled, refl, may.1)
   begun_at maker (call.GiveBack (Stack lease)) s plan f held rest may = frame_of maker s plan (begun_call (call.GiveBack (Stack lease)) f) held (rest.settled, refl, may.1)
   begun_at maker (call.Component info) s plan f held rest may = frame_of maker s plan (begun_call (call.Component info) f) held rest
   begun_at maker (call.GiveBack Component) s plan f held rest may = frame_of maker s plan (begun_call (call.GiveBack Component) f) held (rest, refl)
@@ -146,6 +231,10 @@ module _ {P H : Type 0} where
   weight_at : (w : Weight) (asks : Call P H) (f : Frame P H) → IsIdle f → IsAtRest f → frame_weight w (begun_call asks f) ≡ frame_weight w f + call_has (grant_weight w) asks
   weight_at w call.Key f idle rest = omega (arith, idle_nothing w f idle)
   weight_at w (call.Module m) f idle rest = omega (arith, idle_nothing w f idle)
+  weight_at w (call.Memory m) f idle rest = omega (arith, idle_nothing w f idle)
+  weight_at w (call.Table ty) f idle rest = omega (arith, idle_nothing w f idle)
+  weight_at w (call.GiveBack (Memory lease)) f idle rest = omega (arith, idle_nothing w f idle)
+  weight_at w (call.GiveBack (Table lease)) f idle rest = omega (arith, idle_nothing w f idle)
   weight_at w call.Stack f idle rest = omega (arith, idle_nothing w f idle)
   weight_at w (call.GiveBack (Stack lease)) f idle rest = omega (arith, idle_nothing w f idle)
   weight_at w (call.Heap ty) f idle rest = omega (arith, idle_nothing w f idle)
@@ -188,14 +277,12 @@ module _ {P H : Type 0} where
   begun_bounded c call.Key f rest stripes = omega arith
   begun_bounded c (call.Module m) f rest stripes = omega arith
   begun_bounded c call.Stack f rest stripes = omega arith
-  begun_bounded c (call.GiveBack (Stack lease)) f rest stripes =
-      let none : objects_in f.objects ≡ 0 = omega (arith, ap (length {A = Lease}) rest.no_memories, ap (length {A = LeasedTable}) rest.no_tables) in
-      let no : objects_in f.objects * give_back_bound (sizes_of c.settings c.plan) ≡ 0 * give_back_bound (sizes_of c.settings c.plan) = ap (λ (n : ℕ). n * give_back_bound (sizes_of c.settings c.plan)) none in
-      omega (arith, no)
-  begun_bounded c (call.GiveBack (Heap lease memory)) f rest stripes =
-      let none : objects_in f.objects ≡ 0 = omega (arith, ap (length {A = Lease}) rest.no_memories, ap (length {A = LeasedTable}) rest.no_tables) in
-      let no : objects_in f.objects * give_back_bound (sizes_of c.settings c.plan) ≡ 0 * give_back_bound (sizes_of c.settings c.plan) = ap (λ (n : ℕ). n * give_back_bound (sizes_of c.settings c.plan)) none in
-      omega (arith, no)
+  begun_bounded c (call.Memory m) f rest stripes = single_bounded (sizes_of c.settings c.plan) f.objects rest.no_memories rest.no_tables
+  begun_bounded c (call.Table ty) f rest stripes = single_bounded (sizes_of c.settings c.plan) f.objects rest.no_memories rest.no_tables
+  begun_bounded c (call.GiveBack (Memory lease)) f rest stripes = none_bounded (sizes_of c.settings c.plan) f.objects rest.no_memories rest.no_tables
+  begun_bounded c (call.GiveBack (Table lease)) f rest stripes = none_bounded (sizes_of c.settings c.plan) f.objects rest.no_memories rest.no_tables
+  begun_bounded c (call.GiveBack (Stack lease)) f rest stripes = none_bounded (sizes_of c.settings c.plan) f.objects rest.no_memories rest.no_tables
+  begun_bounded c (call.GiveBack (Heap lease memory)) f rest stripes = omega (arith, none_bounded (sizes_of c.settings c.plan) f.objects rest.no_memories rest.no_tables)
   begun_bounded c (call.Heap ty) f rest stripes = omega arith
   begun_bounded c (call.GiveBack (Instance lease)) f rest stripes = returned_bounded (sizes_of c.settings c.plan) lease.memories.items lease.tables.items (record f { objects = lease; ending = returned })
   begun_bounded c (call.Component info) f rest stripes = omega arith

@@ -18,7 +18,7 @@ use Rattle.pool_alloc.specs.PoolAndHolders.{Holding, HasSlots, held_by, IsUntouc
 use Rattle.pool_alloc.specs.declared.pool_core.PoolCore.{PoolCore}
 use Rattle.pool_alloc.specs.declared.pool_core.Settings.{Settings}
 use Rattle.pool_alloc.specs.declared.frame.Asked.{Asked}
-use Rattle.pool_alloc.specs.declared.frame.Asked.TheVariants.{Nothing as nothing_asked, Module as module_asked, Stack as stack_asked, Heap as heap_asked}
+use Rattle.pool_alloc.specs.declared.frame.Asked.TheVariants.{Nothing as nothing_asked, Module as module_asked, Memory as memory_asked, Table as table_asked, Stack as stack_asked, Heap as heap_asked}
 use Rattle.pool_alloc.specs.declared.frame.Ending.{Ending}
 use Rattle.pool_alloc.specs.declared.frame.Ending.TheVariants.{Granted as granted, Returned as returned, Refused as refused}
 use Rattle.pool_alloc.specs.declared.frame.Frame.{Frame}
@@ -94,6 +94,8 @@ module _ {P H : Type 0} where
   all_leaves : (asked : Asked) (f : Frame P H) → asked ≡ nothing_asked → Bare f → Leaves (all_returned asked f)
   all_leaves nothing_asked f none bare = record { flushing = (tt, bare); nothing = λ of. refl }
   all_leaves (module_asked m) f none bare = record { flushing = (tt, bare); nothing = λ of. refl }
+  all_leaves (memory_asked m) f none bare = absurd cc
+  all_leaves (table_asked ty) f none bare = absurd cc
   all_leaves stack_asked f none bare = absurd cc
   all_leaves (heap_asked ty) f none bare = absurd cc
 

@@ -8,10 +8,11 @@ use Rattle.pool_alloc.specs.Turns.{After}
 use Rattle.pool_alloc.specs.Stepping.{Conserves, IsSameSize, count_granted, grant_count}
 use Rattle.pool_alloc.specs.declared.pool_core.PoolCore.{PoolCore}
 use Rattle.pool_alloc.specs.declared.frame.Frame.{Frame}
-use Rattle.pool_alloc.specs.declared.frame.Grant.TheVariants.{Instance, Stack, Heap, Component}
+use Rattle.pool_alloc.specs.declared.frame.Grant.TheVariants.{Instance, Memory, Table, Stack, Heap, Component}
 use Rattle.pool_alloc.specs.declared.frame.Outcome.{Outcome}
 use Rattle.pool_alloc.specs.declared.frame.Outcome.TheVariants as answer
 use Rattle.pool_alloc.specs.StackLeases.{stack_slot}
+use Rattle.pool_alloc.specs.TableLeases.{table_slot}
 use Rattle.pool_alloc.proofs.SlotCounts.{both_regions}
 use Rattle.pool_alloc.proofs.QueueCounts.{leased_regions, tables_regions}
 use Rattle.pool_alloc.proofs.Weights.{conserves_units}
@@ -22,6 +23,8 @@ module _ {P H : Type 0} where
   granted_regions k None = refl
   granted_regions k (Some answer.Key) = refl
   granted_regions k (Some (answer.Granted (Instance lease))) = omega (arith, leased_regions k lease.memories.items, tables_regions k lease.tables.items)
+  granted_regions k (Some (answer.Granted (Memory lease))) = both_regions k (memory_slot lease.index) lease.numbers
+  granted_regions k (Some (answer.Granted (Table lease))) = both_regions k (table_slot lease.index) lease.numbers
   granted_regions k (Some (answer.Granted (Stack lease))) = both_regions k (stack_slot lease.stack.index) lease.numbers
   granted_regions k (Some (answer.Granted (Heap lease memory))) = omega (arith, both_regions k (heap_slot lease.index) lease.numbers, both_regions k (memory_slot memory.index) memory.numbers)
   granted_regions k (Some (answer.Granted Component)) = refl

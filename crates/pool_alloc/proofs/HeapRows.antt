@@ -16,7 +16,7 @@ use Rattle.pool_alloc.specs.Refusals.{heap_refused}
 use Rattle.pool_alloc.specs.StepTable.{heaps_tested, test_heap_row, validated, reserved, take_heap_on, heap_next, put_heap_on, make_heap_row, heap_granted, count_heap_row, uncount_heap_row, free_heap_on, in_heaps, in_shard, refused_at_once}
 use Rattle.pool_alloc.specs.BetweenSteps.{IsCore, IsHeapName, IsLeaseOf, IsEnabled, IsToGrant, IsNew}
 use Rattle.pool_alloc.specs.CallStages.{Stage, asks, tests_heap, seeks_heap, progress_by, stage_by, IsUntested, IsHeapUntested, Goes, Progress, counts_heap, refusing}
-use Rattle.pool_alloc.specs.StepReads.{memories_wanted, images_wanted, tables_wanted, heaps_wanted, kind_next, shard_at, with_shard, heaps_at, with_heaps, stacks_wanted}
+use Rattle.pool_alloc.specs.StepReads.{memories_wanted, images_wanted, tables_wanted, tables_kept, heaps_wanted, kind_next, shard_at, with_shard, heaps_at, with_heaps, stacks_wanted}
 use Rattle.pool_alloc.specs.Turns.{Row}
 use Rattle.pool_alloc.specs.declared.frame.Asked.{Asked}
 use Rattle.pool_alloc.specs.declared.frame.Asked.TheVariants.{Heap as heap_asked}
@@ -27,7 +27,7 @@ use Rattle.pool_alloc.specs.declared.frame.Phase.TheVariants.{Idle, TestHeap, Pi
 use Rattle.pool_alloc.specs.declared.frame.TakenSlot.{TakenSlot}
 use Rattle.pool_alloc.specs.declared.leases.instance.InstanceLease.{InstanceLease}
 use Rattle.pool_alloc.specs.declared.pool_core.PoolCore.{PoolCore}
-use Rattle.pool_alloc.proofs.BeforeTheTurn.{in_phase, held_of, returns_less, Kept, Ready, IsReadyRow, CountsNone, one_less, only_one, none_weighs}
+use Rattle.pool_alloc.proofs.BeforeTheTurn.{kept_of, in_phase, held_of, returns_less, Kept, Ready, IsReadyRow, CountsNone, one_less, only_one, none_weighs}
 use Rattle.pool_alloc.proofs.CoreChanges.{core_with_heaps, core_with_shard, core_with_counters}
 use Rattle.pool_alloc.proofs.HeapSlots.{heap_name, heap_inside, has_memory, IsHeapFor, heap_for, taken_is_home, no_heap_is_away, heap_back_is_away}
 use Rattle.pool_alloc.proofs.KeptCounts.{away_shard, kept_shard, heap_leaves, heap_comes_back}
@@ -88,11 +88,12 @@ module _ {P H : Type 0} (maker : MakerTold) (old new : PartyTold) where
       let R : Asked → Type 0 = λ a. heap_refused c.settings a ≡ None in
       let to_grant : S (heap_asked for.ty) = record {
         supported = heap_supported c.settings for.ty for.log2 (subst R for.is passes);
-        tables = record { few = omega arith; each = λ k. tt };
+        tables = λ none. record { few = omega arith; each = λ k. tt };
+        limits = λ k. tt;
         enabled = enabled;
         images = tt;
-        room = refl;
-        table_room = refl;
+        room = omega arith;
+        table_room = omega arith;
         few = omega arith;
         few_tables = omega arith;
         order = λ less. refl;
@@ -215,10 +216,10 @@ module _ {P H : Type 0} (maker : MakerTold) (old new : PartyTold) where
       let was = allocating.to_grant in
       let of = heap_wanted f.asked can.frame.shape.4.1 in
       let long : length f.objects.memories.items ≡ 1 + length rest = ap (length {A = Lease}) is ∙ omega arith in
-      let none : length rest ≡ 0 = omega (arith, long, was.few, has_memory f.asked can.frame.shape.4.1) in
+      let none : length rest ≡ 0 = omega (arith, long, was.few, (kept_of f.asked).memories, has_memory f.asked can.frame.shape.4.1) in
       let last : rest ≡ [] = nil_from_length rest (omega (arith, none)) in
       let one_memory : length f.objects.memories.items ≡ 1 = omega (arith, long, none) in
-      let no_table : length f.objects.tables.items ≡ 0 = omega (arith, was.few_tables, ap (λ (a : Asked). length (tables_wanted a)) of.1) in
+      let no_table : length f.objects.tables.items ≡ 0 = omega (arith, was.few_tables, ap tables_kept of.1) in
       let no_tables : f.objects.tables.items ≡ [] = nil_from_length f.objects.tables.items (omega (arith, no_table)) in
       let L : List Lease → Type 0 = λ ls. All (IsLeaseOf maker c.settings c.plan) ls in
       let B : Asked → List Lease → Type 0 = λ a ls. IfSome (slice_get ls 0) (λ l. IfSome (slice_get (memories_wanted a) 0) (IsNew c.settings.max_memory_size (slice_index_or (images_wanted a) 0 None) l.memory)) in

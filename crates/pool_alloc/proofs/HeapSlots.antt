@@ -6,9 +6,9 @@ use Rattle.pool_alloc.specs.Leases.{Lease}
 use Rattle.pool_alloc.specs.Objects.{objects_in}
 use Rattle.pool_alloc.specs.Places.{right_to, region_of, frame_count}
 use Rattle.pool_alloc.specs.BetweenSteps.{HasCells, IsCore, FitsCore, IsHeapName, IsAllocating}
-use Rattle.pool_alloc.specs.StepReads.{memories_wanted, heaps_wanted, heaps_at, kind_by, kind_next, IsHeapAsked}
+use Rattle.pool_alloc.specs.StepReads.{memories_wanted, memories_kept, heaps_wanted, heaps_at, kind_by, kind_next, IsHeapAsked}
 use Rattle.pool_alloc.specs.declared.frame.Asked.{Asked}
-use Rattle.pool_alloc.specs.declared.frame.Asked.TheVariants.{Stack as stack_asked, Heap as heap_asked}
+use Rattle.pool_alloc.specs.declared.frame.Asked.TheVariants.{Memory as memory_asked, Table as table_asked, Stack as stack_asked, Heap as heap_asked}
 use Rattle.pool_alloc.specs.declared.frame.Frame.{Frame}
 use Rattle.pool_alloc.specs.declared.frame.Phase.{Phase}
 use Rattle.pool_alloc.specs.declared.frame.Phase.TheVariants.{Idle, TakeHeap, PutNoHeap, PutHeap}
@@ -45,7 +45,9 @@ cells_if : (b : Bool) → HasCells (if b then memory_kind else heap_kind) → b 
 cells_if true cells = refl
 cells_if false cells = absurd cells
 
-kind_first : (asked : Asked) (n : ℕ) → HasCells (kind_by asked n) → CountsNone asked → n ≤ length (memories_wanted asked) → n ≡ 0
+kind_first : (asked : Asked) (n : ℕ) → HasCells (kind_by asked n) → CountsNone asked → n ≤ memories_kept asked → n ≡ 0
+kind_first (memory_asked m) n cells none few = omega (arith, few)
+kind_first (table_asked ty) n cells none few = omega (arith, few)
 kind_first stack_asked n cells none few = omega (arith, few)
 kind_first (heap_asked ty) n cells none few = omega (arith, ltb-true n 1 (cells_if (nat_lt n 1) cells))
 kind_first asked n cells none few = absurd (omega (arith, none))

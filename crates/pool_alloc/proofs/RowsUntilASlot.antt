@@ -1,6 +1,6 @@
 -- The rows of a request until it has a slot.
-use Rattle.std.proofs.Common.{◌≡◌, ℕ, ◌+◌, ◌-◌, ◌<◌, ◌≤◌, Bool, true, false, List, [], length, refl, sym, ap, subst, inl, arith, Option, Some, None, ◌==◌, ◌%◌, nat_lt, IfSome, ◌*◌}
-use Rattle.pool_alloc.proofs.Imports.{told_weaker, of_kind, memory_kind, table_kind, stack_kind, heap_kind, Allocator, SlotName, SlotKind, pick_unit, ltb-true, ltb-false, eqb-true, eqb-false, All-nil, mod-lt, MakerTold, Unsupported, ShardState, slot_number, after_pick, pick_answer, SlotId, Queue, after_take, taken_into, AllocError, no_slots}
+use Rattle.std.proofs.Common.{slice_get, ◌≡◌, ℕ, ◌+◌, ◌-◌, ◌<◌, ◌≤◌, Bool, true, false, List, [], length, refl, sym, ap, subst, inl, arith, Option, Some, None, ◌==◌, ◌%◌, nat_lt, IfSome, ◌*◌}
+use Rattle.pool_alloc.proofs.Imports.{told_weaker, refused_limits, of_kind, memory_kind, table_kind, stack_kind, heap_kind, Allocator, SlotName, SlotKind, pick_unit, ltb-true, ltb-false, eqb-true, eqb-false, All-nil, mod-lt, MakerTold, Unsupported, ShardState, slot_number, after_pick, pick_answer, SlotId, Queue, after_take, taken_into, AllocError, no_slots}
 use Rattle.pool_alloc.specs.declared.frame.Outcome.TheVariants as answer
 use Rattle.pool_alloc.proofs.RowsWithASlot.{heap_is_next}
 use Rattle.pool_alloc.proofs.PlanPlaces.{allocator_is, IsShardPlace, IsQueuePlace, apart_places, tried_role, tried_is_shard, tried_is_queue, allocator_most, allocator_holds}
@@ -24,7 +24,7 @@ use Rattle.pool_alloc.specs.Refusals.{module_refused}
 use Rattle.pool_alloc.specs.StepTable.{stacks_tested, test_stack_row, key_row, refused_at_once, reserved, validated, validate_row, counted, count_instance_row, picked, pick_on, in_shard, take_queue_on, in_queue, taken_next}
 use Rattle.pool_alloc.specs.Searches.{AreFull, AreEmpty, IsSearchedBy}
 use Rattle.pool_alloc.specs.Objects.{objects_in, no_objects}
-use Rattle.pool_alloc.specs.BetweenSteps.{IsCore, IsSlotName, IsShared, IsLeaseOf, IsToGrant, AreBegun, IsEnabled, IsAtRest}
+use Rattle.pool_alloc.specs.BetweenSteps.{IsTableSupported, IsCore, IsSlotName, IsShared, IsLeaseOf, IsToGrant, AreBegun, IsEnabled, IsAtRest}
 use Rattle.pool_alloc.specs.CallStages.{Progress, uncounted, seeks_stack, asks, stage_by, IsUntested, Follows, Goes, stage_of, no_call}
 use Rattle.pool_alloc.specs.StepReads.{memories_wanted, tables_wanted, stacks_wanted, IsModule, kind_next, wanted, shard_at, queue_at, with_shard, with_queue, counting_instances, shard_tried, queue_tried, allocator_for, info_wanted, IsForInstance}
 use Rattle.pool_alloc.specs.Turns.{goes, next, flush, Row, failing, no_slot_left, slot_search}
@@ -32,7 +32,7 @@ use Rattle.pool_alloc.proofs.CoreChanges.{core_with_shard, core_with_queue, core
 use Rattle.pool_alloc.proofs.FlushFinds.{none_waits}
 use Rattle.pool_alloc.proofs.FlushSteps.{few_in_queue, flush_few}
 use Rattle.pool_alloc.proofs.FullShards.{nothing_left}
-use Rattle.pool_alloc.proofs.BeforeTheTurn.{empty_length, counts_one, is_admitted, none_for_stack, Hand, in_phase, hand, held_of, Even, Kept, Ready, IsReadyRow, either_ready, only_one, none_weighs}
+use Rattle.pool_alloc.proofs.BeforeTheTurn.{kept_of, empty_length, counts_one, is_admitted, none_for_stack, Hand, in_phase, hand, held_of, Even, Kept, Ready, IsReadyRow, either_ready, only_one, none_weighs}
 use Rattle.pool_alloc.proofs.KeptCounts.{kept_shard, kept_queue, away_shard, away_queue}
 use Rattle.pool_alloc.proofs.LocalQueues.{taken_shared, taken_local, local_of_shared}
 use Rattle.pool_alloc.proofs.Picks.{picked_sound, picked_same, picked_inside}
@@ -58,9 +58,9 @@ picked_as : (t : Thing) (a : Allocator) (s : ShardState) (o : Option (SlotId × 
 picked_as t a s None kind = refl
 picked_as t a s (Some p) kind = ap (λ (k : SlotKind). t (pick_unit k (slot_number s p.0.0))) kind
 
--- a module's call is for neither a stack nor a heap
+-- a module's call is for no object by itself
 module_is_one : (asked : Asked) → IsModule asked → IsForInstance asked
-module_is_one (module_asked m) is = record { no_stack = refl; no_heap = refl }
+module_is_one (module_asked m) is = record { no_stack = refl; no_heap = refl; no_single = refl }
 module_is_one asked is = absurd is
 
 module_enabled : (s : Settings) (asked : Asked) → IsModule asked → IsEnabled s asked
@@ -142,14 +142,16 @@ module _ {P H : Type 0} (maker : MakerTold) (old new : PartyTold) where
       let nothing : objects_in f.objects ≡ 0 = omega (arith, ap (length {A = Lease}) none, ap (length {A = LeasedTable}) none_more) in
       let now : PoolCore P H = counting_instances (c.counters.core_instances + 1) c in
       let one : IsForInstance f.asked = module_is_one f.asked asking.asked_for in
+      let of = kept_of f.asked in
       let B : List Lease → List LeasedTable → Type 0 = λ ls ts. AreBegun {P = P} c.settings f.asked (record { memories = record f.objects.memories { items = ls }; tables = record f.objects.tables { items = ts } }) in
       let to_grant : IsToGrant c.settings c.plan f.asked f.queues f.objects = record {
         supported = can.frame.shape.2;
-        tables = can.frame.shape.5;
+        tables = λ none. can.frame.shape.5;
+        limits = λ k. told_weaker (IsTableSupported c.settings) (λ ty. refused_limits ty.limits ≡ None) (slice_get (tables_wanted f.asked) k) (λ ty is. is.limits) (can.frame.shape.5.each k);
         enabled = module_enabled c.settings f.asked asking.asked_for;
         images = asking.images;
-        room = can.frame.shape.3;
-        table_room = can.frame.shape.4;
+        room = omega (arith, can.frame.shape.3, of.memories);
+        table_room = omega (arith, can.frame.shape.4, of.tables);
         few = omega (arith, ap (length {A = Lease}) none);
         few_tables = omega (arith, ap (length {A = LeasedTable}) none_more);
         order = λ less. none_more;
@@ -163,7 +165,7 @@ module _ {P H : Type 0} (maker : MakerTold) (old new : PartyTold) where
         kept = record { core = core_with_counters maker (record c.counters { core_instances = c.counters.core_instances + 1 }) c can.core; held = held_of maker c.settings c.plan (in_phase CountInstance f) can.frame; asked = refl; settings = refl; plan = refl; by_one = λ k. omega (arith, only_one k counted_instance) };
         shape = (rest.settled, aims_grant c.settings c.plan f.ending f.asked f.queues f.objects asking.ending to_grant);
         even = λ w. omega (arith, ap (λ (n : ℕ). n * w.counts counted_instance) (counts_one f.asked one));
-        fewer = first_object (sizes_of c.settings c.plan) f.ending f.queues f.asked f.objects asking.ending asking.none_taken nothing one.no_stack;
+        fewer = first_object (sizes_of c.settings c.plan) f.ending f.queues f.asked f.objects asking.ending asking.none_taken nothing (omega (arith, one.no_stack, one.no_single));
         way = subst W (sym asking.ending) (subst F (sym (is_admitted f.asked (objects_in f.objects) one)) (nothing, ltb-true _ _ is));
         searched = λ s. subst S (sym asking.ending) (λ j below. absurd (omega (arith, below, asking.none_taken)));
       }
@@ -194,11 +196,12 @@ module _ {P H : Type 0} (maker : MakerTold) (old new : PartyTold) where
       let some : 0 < c.settings.stack_size = omega (arith, eqb-false c.settings.stack_size 0 is) in
       let to_grant : S stack_asked = record {
         supported = record { few = omega arith; each = λ k. tt };
-        tables = record { few = omega arith; each = λ k. tt };
+        tables = λ none. record { few = omega arith; each = λ k. tt };
+        limits = λ k. tt;
         enabled = some;
         images = tt;
-        room = refl;
-        table_room = refl;
+        room = omega arith;
+        table_room = omega arith;
         few = omega arith;
         few_tables = omega arith;
         order = λ less. refl;
@@ -334,6 +337,7 @@ module _ {P H : Type 0} (maker : MakerTold) (old new : PartyTold) where
       let to_grant : IsToGrant c.settings c.plan f.asked (f.queues + 1) f.objects = record {
         supported = was.supported;
         tables = was.tables;
+        limits = was.limits;
         enabled = was.enabled;
         images = was.images;
         room = was.room;

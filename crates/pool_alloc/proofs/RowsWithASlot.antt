@@ -1,6 +1,6 @@
 -- The rows of a request that has a slot.
 use Rattle.std.proofs.Common.{◌≡◌, ℕ, ◌+◌, ◌<◌, ◌≤◌, Bool, true, false, List, [], ◌∷◌, ◌++◌, length, refl, sym, ap, subst, inl, inr, arith, Option, Some, None, Result, Ok, Err, ◌∙◌, ◌⊎◌, ◌^◌, nat_le, nat_lt, if◌then◌else◌, IfSome, IsSome, IfOk, slice_get, slice_index_or, is_some, ◌*◌}
-use Rattle.pool_alloc.proofs.Imports.{told_both, told_weaker, TableType, ltb-true, ltb-false, kind_number, Plan, length_push, nil_from_length, All-push, Told, minimum_byte_size, allow_growth_to, MemoryDecl, Image, Slot, forgotten, hides, IsClean, IsLeft, ShardState, after_free, InitialSize, AddressSpace, MemoryMinimum, LimiterError, MemoryState, slot_of, static_capacity, maximum_asked, Cell, unmapped, unknown, previously_used, taken, is_taken, CellState, cell_numbers, cell_emptied, cell_filled, AllocError, least_most, MakerTold, SlotName, SlotKind, ImageSlot, home_of, cell_of, memory_kind, table_kind, stack_kind, heap_kind, of_kind}
+use Rattle.pool_alloc.proofs.Imports.{told_both, told_weaker, refused_limits, TableType, ltb-true, ltb-false, kind_number, Plan, length_push, nil_from_length, All-push, Told, minimum_byte_size, allow_growth_to, MemoryDecl, Image, Slot, forgotten, hides, IsClean, IsLeft, ShardState, after_free, InitialSize, AddressSpace, MemoryMinimum, LimiterError, MemoryState, slot_of, static_capacity, maximum_asked, Cell, unmapped, unknown, previously_used, taken, is_taken, CellState, cell_numbers, cell_emptied, cell_filled, AllocError, least_most, MakerTold, SlotName, SlotKind, ImageSlot, home_of, cell_of, memory_kind, table_kind, stack_kind, heap_kind, of_kind}
 use Rattle.pool_alloc.specs.declared.pool_core.Counters.{Counters}
 use Rattle.pool_alloc.specs.PoolStacks.{stack_made}
 use Rattle.pool_alloc.specs.StackLeases.{stack_taken}
@@ -20,24 +20,28 @@ use Rattle.pool_alloc.specs.declared.pool_core.PoolCore.{PoolCore}
 use Rattle.pool_alloc.specs.declared.pool_core.Settings.{Settings}
 use Rattle.pool_alloc.specs.declared.frame.Ending.{Ending}
 use Rattle.pool_alloc.specs.declared.frame.Asked.{Asked}
-use Rattle.pool_alloc.specs.declared.frame.Asked.TheVariants.{Stack as stack_asked, Heap as heap_asked}
+use Rattle.pool_alloc.specs.declared.frame.Asked.TheVariants.{Memory as memory_asked, Table as table_asked, Stack as stack_asked, Heap as heap_asked}
 use Rattle.pool_alloc.specs.declared.frame.Frame.{Frame}
 use Rattle.pool_alloc.specs.declared.frame.Phase.{Phase}
 use Rattle.pool_alloc.specs.declared.frame.TakenSlot.{TakenSlot}
 use Rattle.pool_alloc.specs.declared.frame.Phase.TheVariants.{Idle, TakeRegion, Empty, Instantiate, MakeMemory, MakeTable, CountObject, PutBack, FreeOne}
 use Rattle.pool_alloc.specs.StepBounds.{sizes_of, objects_left, steps_at, steps_left}
-use Rattle.pool_alloc.specs.Leases.{IsUsable, memory_slot}
+use Rattle.pool_alloc.specs.Leases.{Lease, IsUsable, memory_slot}
 use Rattle.pool_alloc.specs.MemorySteps.{made_of, made_of_limits, made_for, memory_made, image_made}
 use Rattle.pool_alloc.specs.Places.{Thing, right_to, both_count, phase_count, phase_instances, region_count, taken_count, instances_for, Counts, counted_instance, counted_object, phase_counted}
-use Rattle.pool_alloc.specs.StepTable.{in_cell, in_shard, region_next, take_region_on, paged, empty_row, instantiate_row, was_made, make_memory_row, count_object_row, put_back_on, free_one_on, unmapped_next, was_made_table, make_table_row}
+use Rattle.pool_alloc.specs.StepTable.{in_cell, in_shard, region_next, take_region_on, paged, empty_row, instantiate_row, was_made, make_memory_row, count_object_row, put_back_on, free_one_on, unmapped_next, was_made_table, make_table_row, memory_kept, memory_turn, table_kept, table_turn}
 use Rattle.pool_alloc.specs.Searches.{AreEmpty, IsSearchedBy, IsSearchedAt, IsSearched}
-use Rattle.pool_alloc.specs.BetweenSteps.{IsCore, IsLeaseOf, IsToGrant, IsAllocating, HasNoneWaiting, IsShapedAt, IsSupported, HasSlot, HasBegun, IsMadeOf, IsNew, IsPoolSlot, MayHold, HasRegion, HasCells, IsSlotName, IsTableSupported, HasTable, IsMemoryNext, IsTableNext, IsStackNext, IsEnabled, AreLeasesOf, IsHeapNext}
-use Rattle.pool_alloc.specs.CallStages.{Stage, refusing, stage_by, stage_at, Goes, stage_of}
+use Rattle.pool_alloc.specs.BetweenSteps.{IsCore, IsLeaseOf, IsToGrant, IsAllocating, HasNoneWaiting, IsShapedAt, IsSupported, HasSlot, HasBegun, IsMadeOf, IsNew, IsPoolSlot, MayHold, HasRegion, HasCells, IsSlotName, HasTable, IsMemoryNext, IsTableNext, IsStackNext, IsEnabled, AreLeasesOf, IsHeapNext}
+use Rattle.pool_alloc.specs.CallStages.{Stage, no_call, refusing, stage_by, stage_at, Goes, stage_of}
 use Rattle.pool_alloc.specs.Stepping.{is_idle, RiseByOne}
-use Rattle.pool_alloc.specs.StepReads.{memories_wanted, images_wanted, image_wanted, shard_at, with_shard, with_cell, memory_slots, cell_named, tables_wanted, stacks_wanted, heaps_wanted, IsForInstance, kind_next, kind_by, kind_last}
-use Rattle.pool_alloc.specs.Turns.{Row, gone_to, next}
+use Rattle.pool_alloc.specs.StepReads.{memories_wanted, images_wanted, image_wanted, shard_at, with_shard, with_cell, memory_slots, cell_named, tables_wanted, stacks_wanted, singles_wanted, heaps_wanted, IsForObjects, counting_memories, counting_tables, kind_next, kind_by, kind_last}
+use Rattle.pool_alloc.specs.Turns.{Row, gone_to, next, ends}
+use Rattle.pool_alloc.specs.Calls.{IsGrantOf}
+use Rattle.pool_alloc.specs.declared.frame.Grant.{Grant}
+use Rattle.pool_alloc.specs.declared.frame.Grant.TheVariants.{Memory as memory_granted, Table as table_granted, Stack as stack_granted}
+use Rattle.pool_alloc.specs.declared.frame.Outcome.TheVariants as answer
 use Rattle.pool_alloc.proofs.CoreChanges.{core_with_shard, core_with_cell, core_with_counters}
-use Rattle.pool_alloc.proofs.BeforeTheTurn.{returns_less, none_for_stack, in_phase, held_of, Even, Kept, Ready, IsReadyRow, hand, only_one, one_more}
+use Rattle.pool_alloc.proofs.BeforeTheTurn.{kept_of, returns_less, none_for_stack, in_phase, held_of, Even, Kept, Ready, IsReadyRow, hand, only_one, one_more}
 use Rattle.pool_alloc.proofs.PoolParts.{place_of, sound_shard, sound_cell, shard_part}
 use Rattle.pool_alloc.proofs.KeptCounts.{kept_shard, away_shard, region_leaves, region_returns}
 use Rattle.pool_alloc.proofs.QueueCounts.{leased_last, tables_last}
@@ -47,7 +51,7 @@ use Rattle.pool_alloc.proofs.SlotIdentity.{IsOneSlot, one_wiped, slot_of_one, sl
 use Rattle.pool_alloc.proofs.ShardFrees.{IsShardOf, freed_shard}
 use Rattle.pool_alloc.proofs.PhaseFacts.{picked_is_home, back_is_away, back_is_used}
 use Rattle.pool_alloc.proofs.ToldElements.{told_there}
-use Rattle.pool_alloc.proofs.SharedByRows.{Can, searched_back, push_at, aims_grant, aims_back, next_returns, kept_part, same_way, sought_way, granted_stack_way, memory_fails_way, memory_made_way, admitted_way, made_way, next_object}
+use Rattle.pool_alloc.proofs.SharedByRows.{Can, searched_back, push_at, aims_grant, aims_back, next_returns, kept_part, same_way, sought_way, granted_stack_way, single_way, memory_fails_way, memory_made_way, object_fails_way, object_made_way, next_object}
 use Rattle.pool_alloc.specs.Objects.{objects_in}
 use Rattle.pool_alloc.specs.declared.frame.Object.{Object}
 use Rattle.pool_alloc.specs.declared.frame.Object.TheVariants.{Memory, Table, Stack}
@@ -169,7 +173,7 @@ memory_by : (asked : Asked) (n : ℕ) → kind_by asked n ≡ memory_kind → n 
 memory_by stack_asked n is = let no : ◌≡◌ {A = ℕ} 2 0 = ap kind_number is in absurd (omega arith)
 memory_by asked n is = ltb-true n (length (memories_wanted asked)) (memory_if (nat_lt n (length (memories_wanted asked))) (kind_last asked) (omega arith) is)
 
-table_by : (asked : Asked) (n : ℕ) → kind_by asked n ≡ table_kind → (length (memories_wanted asked) ≤ n) × IsForInstance asked
+table_by : (asked : Asked) (n : ℕ) → kind_by asked n ≡ table_kind → (length (memories_wanted asked) ≤ n) × IsForObjects asked
 table_by stack_asked n is = let no : ◌≡◌ {A = ℕ} 2 1 = ap kind_number is in absurd (omega arith)
 table_by (heap_asked ty) n is = absurd (never_if (nat_lt n 1) heap_kind table_kind (omega arith) (λ same. omega (arith, same)) is)
 table_by asked n is = (ltb-false n (length (memories_wanted asked)) (last_if (nat_lt n (length (memories_wanted asked))) table_kind (omega arith) is), record { no_stack = refl; no_heap = refl })
@@ -189,6 +193,10 @@ no_stack_by stack_asked n more = absurd (omega (arith, more))
 no_stack_by asked n more = refl
 
 module _ {P H : Type 0} where
+  -- nothing is granted yet where one object is asked for by itself
+  single_first : (s : Settings) (plan : Plan) (f : Frame P H) → IsAllocating s plan f → singles_wanted f.asked ≡ 1 → objects_in f.objects ≡ 0
+  single_first s plan f allocating one = omega (arith, allocating.to_grant.few, allocating.to_grant.few_tables, (kept_of f.asked).single one)
+
   pub memory_next : (f : Frame P H) → kind_next f ≡ memory_kind → IsMemoryNext f
   memory_next f is = memory_by f.asked (length f.objects.memories.items) is
 
@@ -485,10 +493,10 @@ module _ {P H : Type 0} (maker : MakerTold) (old new : PartyTold) where
       let k : ℕ = length f.objects.tables.items in
       let has = can.frame.shape.2 in
       let allocating = can.frame.shape.1 in
-      let more : k < length (tables_wanted f.asked) = omega (arith, allocating.more, can.frame.shape.3.0, can.frame.shape.3.1, allocating.to_grant.few) in
+      let more : k < length (tables_wanted f.asked) = omega (arith, allocating.more, can.frame.shape.3.0, can.frame.shape.3.1, allocating.to_grant.few, (kept_of f.asked).memories) in
       let B : TableType → Type 0 = λ ty. (IsTableLease maker c.settings c.plan lease × IsBegunTable c.settings lease ty) × IsMadeTable c.settings at region lease ty in
-      let begun : IfTable f B = told_both (IsTableSupported c.settings) (IsMadeTable c.settings at region lease) B (slice_get (tables_wanted f.asked) k)
-      (λ ty supports of. (begun_table maker c.settings c.plan at region lease ty can.core.page can.core.settings has.inside has.region supports of, of)) (allocating.to_grant.tables.each k) made in
+      let begun : IfTable f B = told_both (λ ty. refused_limits ty.limits ≡ None) (IsMadeTable c.settings at region lease) B (slice_get (tables_wanted f.asked) k)
+      (λ ty supports of. (begun_table maker c.settings c.plan at region lease ty can.core.page can.core.settings has.inside has.region supports of, of)) (allocating.to_grant.limits k) made in
       let leased : IsTableLease maker c.settings c.plan lease = told_there (IsTableLease maker c.settings c.plan lease) (tables_wanted f.asked) k more (told_weaker B (λ ty. IsTableLease maker c.settings c.plan lease) (slice_get (tables_wanted f.asked) k) (λ ty b. b.0.0) begun) in
       let slot : table_taken lease ≡ record { name = table_slot at.name.slot; numbers = at.numbers } = told_there _ (tables_wanted f.asked) k more (told_weaker B (λ ty. table_taken lease ≡ record { name = table_slot at.name.slot; numbers = at.numbers }) (slice_get (tables_wanted f.asked) k) (λ ty b. ap table_taken b.1.is) begun) in
       let named : record { name = table_slot at.name.slot; numbers = at.numbers } ≡ at = (λ i. record { name = record { kind = sym has.kind i; slot = at.name.slot }; numbers = at.numbers }) in
@@ -497,7 +505,7 @@ module _ {P H : Type 0} (maker : MakerTold) (old new : PartyTold) where
         shape = (refl, (can.frame.shape.0, allocating, leased, told_weaker B (IsBegunTable c.settings lease) (slice_get (tables_wanted f.asked) k) (λ ty b. b.0.1) begun, can.frame.shape.3));
         even = λ w. omega (arith, ap (taken_count w.unit) (slot ∙ named));
         fewer = omega arith;
-        way = made_way maker old new c e f.asked f.ending (objects_in f.objects) allocating.ending can.frame.shape.3.1 (inr (refl, inr (lease, record { number = refl; allocating = allocating; next = can.frame.shape.3; given = given; at = at; region = region; asked = asked; is = is })));
+        way = object_made_way maker old new c e f.asked f.ending (objects_in f.objects) allocating.ending can.frame.shape.3.1 (inr (refl, inr (lease, record { number = refl; allocating = allocating; next = can.frame.shape.3; given = given; at = at; region = region; asked = asked; is = is })));
         searched = λ s. tt;
       }
   made_table_ready at region given (Err x) c f can asked is made =
@@ -507,7 +515,7 @@ module _ {P H : Type 0} (maker : MakerTold) (old new : PartyTold) where
         shape = (refl, (can.frame.shape.0, refl, table_goes_back at region c can.frame.shape.2));
         even = λ w. omega arith;
         fewer = omega (arith, returns_less f.asked (sizes_of c.settings c.plan) f.objects can.frame.shape.3.1.no_stack);
-        way = admitted_way maker old new c e f.asked f.ending (objects_in f.objects) x can.frame.shape.1.ending can.frame.shape.3.1 (inr (inr (inr (record { number = refl; allocating = can.frame.shape.1; next = can.frame.shape.3; given = given; at = at; region = region; asked = asked; is = is }))));
+        way = object_fails_way maker old new c e f.asked f.ending (objects_in f.objects) x can.frame.shape.1.ending can.frame.shape.3.1 (inr (inr (inr (record { number = refl; allocating = can.frame.shape.1; next = can.frame.shape.3; given = given; at = at; region = region; asked = asked; is = is }))));
         searched = λ s. tt;
       }
 
@@ -530,7 +538,7 @@ module _ {P H : Type 0} (maker : MakerTold) (old new : PartyTold) where
       Even maker old new c e (hand {P = P} {H = H} f.asked next) d has →
       1 + objects_left (sizes_of c.settings c.plan) f.asked f.objects ≤ steps_left c e →
       RiseByOne c.counters counters →
-      stacks_wanted f.asked ≡ 0 →
+      stacks_wanted f.asked + singles_wanted f.asked ≡ 0 →
       stage_of e ≡ stage_by f.asked f.ending (objects_in f.objects + 1) →
       Ready maker old new c e d has next)
   counted_object_ready object counters objects c f can settled allocating leases to_grant long even steps by_one unstacked stage =
@@ -554,9 +562,12 @@ module _ {P H : Type 0} (maker : MakerTold) (old new : PartyTold) where
         searched = λ s. subst S (sym allocating.ending) (λ j below. absurd (omega (arith, below)));
       }
 
-  -- The object is granted.
-  pub count_object_ready : (object : Object P) (c : PoolCore P H) (f : Frame P H) → Can maker (CountObject object) c f → Shows (CountObject object) c f (count_object_row object c (in_phase Idle f))
-  count_object_ready (Memory lease) c f can =
+  -- The object is kept with those that were granted before.
+  memory_kept_ready : (lease : Lease) (c : PoolCore P H) (f : Frame P H) → Can maker (CountObject (Memory lease)) c f → singles_wanted f.asked ≡ 0 →
+      (let has : Frame P H = record f { phase = Idle; objects = record f.objects { memories = with_item lease f.objects.memories }; queues = 0 } in
+      Ready maker old new c (in_phase (CountObject (Memory lease)) f) (counting_memories (c.counters.memories + 1) c) has next)
+  memory_kept_ready lease c f can many =
+      let of = kept_of f.asked in
       let allocating = can.frame.shape.1 in
       let was = allocating.to_grant in
       let objects : InstanceLease P = record f.objects { memories = with_item lease f.objects.memories } in
@@ -566,18 +577,24 @@ module _ {P H : Type 0} (maker : MakerTold) (old new : PartyTold) where
       (record {
         supported = was.supported;
         tables = was.tables;
+        limits = was.limits;
         enabled = was.enabled;
         images = was.images;
         room = was.room;
         table_room = was.table_room;
-        few = omega (arith, can.frame.shape.4, long);
+        few = omega (arith, can.frame.shape.4, long, of.memories, of.tables, of.all, many);
         few_tables = was.few_tables;
         order = λ less. was.order can.frame.shape.4;
         begun = (push_at (λ k l. IfSome (slice_get (memories_wanted f.asked) k) (IsNew c.settings.max_memory_size (slice_index_or (images_wanted f.asked) k None) l.memory)) f.objects.memories.items lease was.begun.0 can.frame.shape.3, was.begun.1);
         taken = omega arith;
       })
-      (omega (arith, long)) (λ w. omega (arith, leased_last w.unit f.objects.memories.items lease, one_more (length objects.memories.items) (length f.objects.memories.items) (w.counts (counted_object memory_kind)) long)) (omega arith) (λ k. omega (arith, only_one k (counted_object memory_kind))) (no_stack f can.frame.shape.4) refl
-  count_object_ready (Table lease) c f can =
+      (omega (arith, long)) (λ w. omega (arith, leased_last w.unit f.objects.memories.items lease, one_more (length objects.memories.items) (length f.objects.memories.items) (w.counts (counted_object memory_kind)) long)) (omega arith) (λ k. omega (arith, only_one k (counted_object memory_kind))) (omega (arith, no_stack f can.frame.shape.4, many)) refl
+
+  table_kept_ready : (lease : LeasedTable) (c : PoolCore P H) (f : Frame P H) → Can maker (CountObject (Table lease)) c f → singles_wanted f.asked ≡ 0 →
+      (let has : Frame P H = record f { phase = Idle; objects = record f.objects { tables = with_item lease f.objects.tables }; queues = 0 } in
+      Ready maker old new c (in_phase (CountObject (Table lease)) f) (counting_tables (c.counters.tables + 1) c) has next)
+  table_kept_ready lease c f can many =
+      let of = kept_of f.asked in
       let allocating = can.frame.shape.1 in
       let was = allocating.to_grant in
       let objects : InstanceLease P = record f.objects { tables = with_item lease f.objects.tables } in
@@ -587,41 +604,87 @@ module _ {P H : Type 0} (maker : MakerTold) (old new : PartyTold) where
       (record {
         supported = was.supported;
         tables = was.tables;
+        limits = was.limits;
         enabled = was.enabled;
         images = was.images;
         room = was.room;
         table_room = was.table_room;
         few = was.few;
-        few_tables = omega (arith, allocating.more, can.frame.shape.4.0, can.frame.shape.4.1.no_stack, can.frame.shape.4.1.no_heap, was.few, long);
+        few_tables = omega (arith, allocating.more, can.frame.shape.4.0, can.frame.shape.4.1.no_stack, can.frame.shape.4.1.no_heap, was.few, long, of.memories, of.tables, of.all, many);
         order = λ less. absurd (omega (arith, less, can.frame.shape.4.0));
         begun = (was.begun.0, push_at (λ k l. IfSome (slice_get (tables_wanted f.asked) k) (IsBegunTable c.settings l)) f.objects.tables.items lease was.begun.1 can.frame.shape.3);
         taken = omega arith;
       })
-      (omega (arith, long)) (λ w. omega (arith, tables_last w.unit f.objects.tables.items lease, one_more (length objects.tables.items) (length f.objects.tables.items) (w.counts (counted_object table_kind)) long)) (omega arith) (λ k. omega (arith, only_one k (counted_object table_kind))) can.frame.shape.4.1.no_stack refl
+      (omega (arith, long)) (λ w. omega (arith, tables_last w.unit f.objects.tables.items lease, one_more (length objects.tables.items) (length f.objects.tables.items) (w.counts (counted_object table_kind)) long)) (omega arith) (λ k. omega (arith, only_one k (counted_object table_kind))) (omega (arith, can.frame.shape.4.1.no_stack, many)) refl
+
+  -- An object that was asked for by itself is all that its call asks for.
+  alone_ready : (object : Object P) (counters : Counters) (grant : Grant P H) (c : PoolCore P H) (f : Frame P H) →
+      (let d : PoolCore P H = record c { counters = counters } in
+      let e : Frame P H = in_phase (CountObject object) f in
+      Can maker (CountObject object) c f →
+      HasNoneWaiting f →
+      objects_in f.objects ≡ 0 →
+      IsGrantOf maker c.settings c.plan f.asked grant →
+      Even maker old new c e (hand {P = P} {H = H} f.asked (ends (answer.Granted grant))) d (in_phase Idle f) →
+      RiseByOne c.counters counters →
+      Goes maker old new c e (stage_of e) no_call (Some (answer.Granted grant)) →
+      Ready maker old new c e d (in_phase Idle f) (ends (answer.Granted grant)))
+  alone_ready object counters grant c f can settled none is even by_one way = record {
+    kept = record {
+      core = core_with_counters maker counters c can.core;
+      held = held_of maker c.settings c.plan (in_phase (CountObject object) f) can.frame;
+      asked = refl;
+      settings = refl;
+      plan = refl;
+      by_one = by_one;
+    };
+    shape = (record { settled = settled; no_memories = nil_from_length f.objects.memories.items (omega (arith, none)); no_tables = nil_from_length f.objects.tables.items (omega (arith, none)) }, is);
+    even = even;
+    fewer = omega arith;
+    way = way;
+    searched = λ s. tt;
+  }
+
+  -- A memory is granted: it is kept, or was asked for by itself.
+  memory_ready : (asked : Asked) (lease : Lease) (c : PoolCore P H) (f : Frame P H) → f.asked ≡ asked → Can maker (CountObject (Memory lease)) c f → Ready maker old new c (in_phase (CountObject (Memory lease)) f) (counting_memories (c.counters.memories + 1) c) (memory_kept asked lease (in_phase Idle f)) (memory_turn asked lease)
+  memory_ready (memory_asked m) lease c f is can =
+      let allocating = can.frame.shape.1 in
+      let none : objects_in f.objects ≡ 0 = single_first c.settings c.plan f allocating (ap singles_wanted is) in
+      let B : Asked → ℕ → Type 0 = λ a n. IfSome (slice_get (memories_wanted a) n) (IsNew c.settings.max_memory_size (slice_index_or (images_wanted a) n None) lease.memory) in
+      let first : length f.objects.memories.items ≡ 0 = omega (arith, none) in
+      let begins : B (memory_asked m) 0 = subst (B (memory_asked m)) first (subst (λ (a : Asked). B a (length f.objects.memories.items)) is can.frame.shape.3) in
+      alone_ready (Memory lease) (record c.counters { memories = c.counters.memories + 1 }) (memory_granted lease) c f can can.frame.shape.0 none (record { memory_is = can.frame.shape.2; call = m; asked_for = is; begins = begins })
+      (λ w. omega (arith, ap (λ (a : Asked). instances_for a * w.counts counted_instance) is)) (λ k. omega (arith, only_one k (counted_object memory_kind)))
+      (single_way maker old new c (in_phase (CountObject (Memory lease)) f) f.asked f.ending (objects_in f.objects) (memory_granted lease) (ap singles_wanted is) allocating.ending (inl (omega (arith, none))))
+  memory_ready (table_asked ty) lease c f is can = absurd (omega (arith, can.frame.shape.4, ap (λ (a : Asked). length (memories_wanted a)) is))
+  memory_ready asked lease c f is can = memory_kept_ready lease c f can (ap singles_wanted is)
+
+  -- A table is granted, likewise.
+  table_ready : (asked : Asked) (lease : LeasedTable) (c : PoolCore P H) (f : Frame P H) → f.asked ≡ asked → Can maker (CountObject (Table lease)) c f → Ready maker old new c (in_phase (CountObject (Table lease)) f) (counting_tables (c.counters.tables + 1) c) (table_kept asked lease (in_phase Idle f)) (table_turn asked lease)
+  table_ready (table_asked ty) lease c f is can =
+      let allocating = can.frame.shape.1 in
+      let none : objects_in f.objects ≡ 0 = single_first c.settings c.plan f allocating (ap singles_wanted is) in
+      let B : Asked → ℕ → Type 0 = λ a n. IfSome (slice_get (tables_wanted a) n) (IsBegunTable c.settings lease) in
+      let first : length f.objects.tables.items ≡ 0 = omega (arith, none) in
+      let begins : B (table_asked ty) 0 = subst (B (table_asked ty)) first (subst (λ (a : Asked). B a (length f.objects.tables.items)) is can.frame.shape.3) in
+      alone_ready (Table lease) (record c.counters { tables = c.counters.tables + 1 }) (table_granted lease) c f can can.frame.shape.0 none (record { table_is = can.frame.shape.2; ty = ty; asked_for = is; begins = begins })
+      (λ w. omega (arith, ap (λ (a : Asked). instances_for a * w.counts counted_instance) is)) (λ k. omega (arith, only_one k (counted_object table_kind)))
+      (single_way maker old new c (in_phase (CountObject (Table lease)) f) f.asked f.ending (objects_in f.objects) (table_granted lease) (ap singles_wanted is) allocating.ending (inl (omega (arith, none))))
+  table_ready (memory_asked m) lease c f is can = absurd (omega (arith, single_first c.settings c.plan f can.frame.shape.1 (ap singles_wanted is), can.frame.shape.4.0, ap (λ (a : Asked). length (memories_wanted a)) is))
+  table_ready asked lease c f is can = table_kept_ready lease c f can (ap singles_wanted is)
+
+  -- The object is granted.
+  pub count_object_ready : (object : Object P) (c : PoolCore P H) (f : Frame P H) → Can maker (CountObject object) c f → Shows (CountObject object) c f (count_object_row object c (in_phase Idle f))
+  count_object_ready (Memory lease) c f can = memory_ready f.asked lease c f refl can
+  count_object_ready (Table lease) c f can = table_ready f.asked lease c f refl can
   count_object_ready (Stack lease) c f can =
-      let e : Frame P H = in_phase (CountObject (Stack lease)) f in
       let allocating = can.frame.shape.1 in
       let stack : f.asked ≡ stack_asked = can.frame.shape.4 in
-      let none : objects_in f.objects ≡ 0 = none_for_stack c.settings c.plan f.asked f.queues f.objects allocating.to_grant stack in
-      let no_memories : f.objects.memories.items ≡ [] = nil_from_length f.objects.memories.items (omega (arith, none)) in
-      let no_tables : f.objects.tables.items ≡ [] = nil_from_length f.objects.tables.items (omega (arith, none)) in
       let E : Asked → Type 0 = λ a. IsEnabled c.settings a in
       let enabled : 0 < c.settings.stack_size = subst E stack allocating.to_grant.enabled in
-      record {
-        kept = record {
-          core = core_with_counters maker (record c.counters { stacks = c.counters.stacks + 1 }) c can.core;
-          held = held_of maker c.settings c.plan e can.frame;
-          asked = refl;
-          settings = refl;
-          plan = refl;
-          by_one = λ k. omega (arith, only_one k (counted_object stack_kind));
-        };
-        shape = (record { settled = can.frame.shape.0; no_memories = no_memories; no_tables = no_tables }, (can.frame.shape.2, can.frame.shape.3, stack));
-        even = λ w. omega (arith, ap (λ (a : Asked). instances_for a * w.counts counted_instance) stack);
-        fewer = omega arith;
-        way = granted_stack_way maker old new c e f.asked f.ending (objects_in f.objects) lease stack allocating.ending enabled;
-        searched = λ s. tt;
-      }
+      alone_ready (Stack lease) (record c.counters { stacks = c.counters.stacks + 1 }) (stack_granted lease) c f can can.frame.shape.0 (none_for_stack c.settings c.plan f.asked f.queues f.objects allocating.to_grant stack) (can.frame.shape.2, can.frame.shape.3, stack)
+      (λ w. omega (arith, ap (λ (a : Asked). instances_for a * w.counts counted_instance) stack)) (λ k. omega (arith, only_one k (counted_object stack_kind)))
+      (granted_stack_way maker old new c (in_phase (CountObject (Stack lease)) f) f.asked f.ending (objects_in f.objects) lease stack allocating.ending enabled)
 
   -- The region of a slot is put back,
   pub put_back_ready : (at : TakenSlot) (held : ImageSlot P) (c : PoolCore P H) (f : Frame P H) → Can maker (PutBack at held) c f → Shows (PutBack at held) c f (in_cell at.name c (put_back_on at.name (cell_of held) (cell_named at.name c) (in_phase Idle f)))

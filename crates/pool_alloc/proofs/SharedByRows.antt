@@ -8,8 +8,8 @@ use Rattle.pool_alloc.specs.Objects.{objects_in, objects_wanted}
 use Rattle.pool_alloc.specs.declared.leases.instance.InstanceLease.{InstanceLease}
 use Rattle.pool_alloc.specs.Searches.{IsSearchedBy}
 use Rattle.pool_alloc.specs.BetweenSteps.{IsCore, Aims, IsToGrant}
-use Rattle.pool_alloc.specs.CallStages.{Progress, admitted, no_call, refusing, progress_by, stage_by, FindsNone, IsPageFaulted, Makes, Follows, Raises, Goes}
-use Rattle.pool_alloc.specs.StepReads.{stacks_wanted, IsForInstance}
+use Rattle.pool_alloc.specs.CallStages.{Progress, asks, seeks_single, FailsObject, HasObject, no_call, refusing, progress_by, stage_by, FindsNone, IsPageFaulted, Makes, Follows, Raises, Goes}
+use Rattle.pool_alloc.specs.StepReads.{stacks_wanted, singles_wanted, IsForObjects}
 use Rattle.pool_alloc.specs.Stepping.{CanStep}
 use Rattle.pool_alloc.specs.Turns.{is_granting, answer_of}
 use Rattle.pool_alloc.specs.declared.pool_core.Counters.{Counters}
@@ -18,13 +18,14 @@ use Rattle.pool_alloc.specs.declared.pool_core.Settings.{Settings}
 use Rattle.pool_alloc.specs.declared.frame.Ending.{Ending}
 use Rattle.pool_alloc.specs.declared.frame.Ending.TheVariants.{Granted as granted, Returned as returned, Refused as refused}
 use Rattle.pool_alloc.specs.StackLeases.{LeasedStack}
+use Rattle.pool_alloc.specs.declared.frame.Grant.{Grant}
 use Rattle.pool_alloc.specs.declared.frame.Grant.TheVariants.{Stack}
 use Rattle.pool_alloc.specs.declared.frame.Outcome.TheVariants as answer
 use Rattle.pool_alloc.specs.declared.frame.Frame.{Frame}
 use Rattle.pool_alloc.specs.declared.frame.Asked.{Asked}
-use Rattle.pool_alloc.specs.declared.frame.Asked.TheVariants.{Stack as stack_asked, Heap as heap_asked}
+use Rattle.pool_alloc.specs.declared.frame.Asked.TheVariants.{Memory as memory_asked, Table as table_asked, Stack as stack_asked, Heap as heap_asked}
 use Rattle.pool_alloc.specs.declared.frame.Phase.{Phase}
-use Rattle.pool_alloc.proofs.BeforeTheTurn.{one_more, in_phase, is_admitted, Held, Kept}
+use Rattle.pool_alloc.proofs.BeforeTheTurn.{one_more, in_phase, Held, Kept}
 use Rattle.pool_alloc.specs.Places.{number_counted}
 
 -- what holds of each element by its place, with one more at the end
@@ -86,7 +87,9 @@ at_most_if true m n most = most refl
 at_most_if false m n most = omega arith
 
 -- another object is granted, and there is a next one, or none
-pub next_object : {P : Type 0} (z : PoolSizes) (e : Ending) (asked : Asked) (before after : InstanceLease P) → e ≡ granted → objects_in after ≡ objects_in before + 1 → stacks_wanted asked ≡ 0 → next_left z e 0 asked after ≤ objects_left z asked before
+pub next_object : {P : Type 0} (z : PoolSizes) (e : Ending) (asked : Asked) (before after : InstanceLease P) → e ≡ granted → objects_in after ≡ objects_in before + 1 → stacks_wanted asked + singles_wanted asked ≡ 0 → next_left z e 0 asked after ≤ objects_left z asked before
+next_object z e (memory_asked m) before after is long none = absurd (omega (arith, none))
+next_object z e (table_asked ty) before after is long none = absurd (omega (arith, none))
 next_object z e stack_asked before after is long none = absurd (omega (arith, none))
 next_object z e asked before after is long none =
     let k : ℕ = objects_wanted asked in
@@ -98,7 +101,9 @@ next_object z e asked before after is long none =
     (λ more. let there : M (objects_in after) = subst M (sym long) (following_left z k n (omega (arith, ltb-true _ _ more, long))) in omega (arith, there)))
 
 -- the first object is allocated, or there is none
-pub first_object : {P : Type 0} (z : PoolSizes) (e : Ending) (queues : ℕ) (asked : Asked) (objects : InstanceLease P) → e ≡ granted → queues ≡ 0 → objects_in objects ≡ 0 → stacks_wanted asked ≡ 0 → next_left z e queues asked objects + 1 ≤ 2 + objects_wanted asked * (allocation_bound z + give_back_bound z)
+pub first_object : {P : Type 0} (z : PoolSizes) (e : Ending) (queues : ℕ) (asked : Asked) (objects : InstanceLease P) → e ≡ granted → queues ≡ 0 → objects_in objects ≡ 0 → stacks_wanted asked + singles_wanted asked ≡ 0 → next_left z e queues asked objects + 1 ≤ 2 + objects_wanted asked * (allocation_bound z + give_back_bound z)
+first_object z e queues (memory_asked m) objects is none_taken none unstacked = absurd (omega (arith, unstacked))
+first_object z e queues (table_asked ty) objects is none_taken none unstacked = absurd (omega (arith, unstacked))
 first_object z e queues stack_asked objects is none_taken none unstacked = absurd (omega (arith, unstacked))
 first_object z e queues asked objects is none_taken none unstacked =
     let k : ℕ = objects_wanted asked in
@@ -127,6 +132,11 @@ next_returns z (refused x) queues asked objects back = refl
 pub next_queue : (z : PoolSizes) (queues flush more : ℕ) → queues < z.queues → flush ≤ 3 * z.slots + all_shards (flushed_allocators z.plan) → flush + (z.shards - 0 + ((z.queues - (queues + 1)) * (flush_bound z + z.shards) + more)) + 1 ≤ (z.queues - queues) * (flush_bound z + z.shards) + more
 next_queue z queues flush more below few = omega (arith, one_more (z.queues - queues) (z.queues - (queues + 1)) (flush_bound z + z.shards) (omega arith))
 
+single_progress : (asked : Asked) (n : ℕ) → singles_wanted asked ≡ 1 → progress_by asked n ≡ seeks_single n
+single_progress (memory_asked m) n one = refl
+single_progress (table_asked ty) n one = refl
+single_progress asked n one = absurd (omega (arith, one))
+
 module _ {P H : Type 0} where
   -- the frame of a step may make it
   abbrev pub Can : MakerTold → Phase P H → PoolCore P H → Frame P H → Type 0
@@ -147,6 +157,8 @@ module _ {P H : Type 0} (maker : MakerTold) (old new : PartyTold) (d : PoolCore 
   -- a call stays at its stage,
   pub same_way : (asked : Asked) (ending : Ending) (n : ℕ) → Goes maker old new d e (stage_by asked ending n) (stage_by asked ending n) None
   same_way stack_asked granted n = tt
+  same_way (memory_asked m) granted n = inl refl
+  same_way (table_asked ty) granted n = inl refl
   same_way (heap_asked ty) granted n = inl refl
   same_way asked granted n = inl refl
   same_way asked returned n = tt
@@ -170,9 +182,11 @@ module _ {P H : Type 0} (maker : MakerTold) (old new : PartyTold) (d : PoolCore 
         | inr made ↦ inr (inr (inl made))
       ])
 
-  -- as one for a module that is tested,
-  pub admitted_way : (asked : Asked) (ending : Ending) (n : ℕ) (x : AllocError) → ending ≡ granted → IsForInstance asked → Raises maker old new d e (admitted n) x → Goes maker old new d e (stage_by asked ending n) (refusing x) None
-  admitted_way asked ending n x is none raised = fails_way asked ending n x is (let R : Progress → Type 0 = λ p. Raises maker old new d e p x in subst R (sym (is_admitted asked n none)) raised)
+  -- as one for a memory or a table, of an instance or by itself,
+  pub object_fails_way : (asked : Asked) (ending : Ending) (n : ℕ) (x : AllocError) → ending ≡ granted → IsForObjects asked → FailsObject maker old new d e n x → Goes maker old new d e (stage_by asked ending n) (refusing x) None
+  object_fails_way stack_asked ending n x is none raised = absurd (omega (arith, none.no_stack))
+  object_fails_way (heap_asked ty) ending n x is none raised = absurd (omega (arith, none.no_heap))
+  object_fails_way asked ending n x is none raised = fails_way asked ending n x is raised
 
   -- or for want of a slot,
   pub full_way : (asked : Asked) (ending : Ending) (n : ℕ) (x : AllocError) → ending ≡ granted → (asked ≡ stack_asked → n ≡ 0) → FindsNone d e n x → Goes maker old new d e (stage_by asked ending n) (refusing x) None
@@ -185,11 +199,10 @@ module _ {P H : Type 0} (maker : MakerTold) (old new : PartyTold) (d : PoolCore 
   memory_made_way (heap_asked ty) ending n memory is none made = let W : Ending → Type 0 = λ y. Goes maker old new d e (stage_by (heap_asked ty) y n) (stage_by (heap_asked ty) y (n + 1)) None in subst W (sym is) (inr (refl, (memory, made)))
   memory_made_way asked ending n memory is none made = let W : Ending → Type 0 = λ y. Goes maker old new d e (stage_by asked y n) (stage_by asked y (n + 1)) None in subst W (sym is) (inr (refl, inl (memory, made)))
 
-  pub made_way : (asked : Asked) (ending : Ending) (n : ℕ) → ending ≡ granted → IsForInstance asked → Follows old new d e (admitted n) (admitted (n + 1)) → Goes maker old new d e (stage_by asked ending n) (stage_by asked ending (n + 1)) None
-  made_way asked ending n is none follows =
-      let W : Ending → Type 0 = λ y. Goes maker old new d e (stage_by asked y n) (stage_by asked y (n + 1)) None in
-      let F : Progress → Progress → Type 0 = λ p q. Follows old new d e p q in
-      subst W (sym is) (subst (λ (p : Progress). F p (progress_by asked (n + 1))) (sym (is_admitted asked n none)) (subst (F (admitted n)) (sym (is_admitted asked (n + 1) none)) follows))
+  pub object_made_way : (asked : Asked) (ending : Ending) (n : ℕ) → ending ≡ granted → IsForObjects asked → HasObject old new d e n (n + 1) → Goes maker old new d e (stage_by asked ending n) (stage_by asked ending (n + 1)) None
+  object_made_way stack_asked ending n is none made = absurd (omega (arith, none.no_stack))
+  object_made_way (heap_asked ty) ending n is none made = absurd (omega (arith, none.no_heap))
+  object_made_way asked ending n is none made = let W : Ending → Type 0 = λ y. Goes maker old new d e (stage_by asked y n) (stage_by asked y (n + 1)) None in subst W (sym is) made
 
   -- and one that gives back ends as it is to end.
   pub ends_way : (asked : Asked) (ending : Ending) (n : ℕ) → is_granting ending ≡ false → Goes maker old new d e (stage_by asked ending n) no_call (Some (answer_of ending))
@@ -205,6 +218,13 @@ module _ {P H : Type 0} (maker : MakerTold) (old new : PartyTold) (d : PoolCore 
       stays_so granted = tt
       stays_so returned = tt
       stays_so (refused y) = refl
+
+  -- A call for an object by itself ends with it.
+  pub single_way : (asked : Asked) (ending : Ending) (n : ℕ) (grant : Grant P H) → singles_wanted asked ≡ 1 → ending ≡ granted → Goes maker old new d e (asks (seeks_single (n + 1))) no_call (Some (answer.Granted grant)) → Goes maker old new d e (stage_by asked ending (n + 1)) no_call (Some (answer.Granted grant))
+  single_way asked ending n grant one is goes =
+      let W : Progress → Type 0 = λ p. Goes maker old new d e (asks p) no_call (Some (answer.Granted grant)) in
+      let E : Ending → Type 0 = λ x. Goes maker old new d e (stage_by asked x (n + 1)) no_call (Some (answer.Granted grant)) in
+      subst E (sym is) (subst W (sym (single_progress asked (n + 1) one)) goes)
 
   pub granted_stack_way : (asked : Asked) (ending : Ending) (n : ℕ) (lease : LeasedStack) → asked ≡ stack_asked → ending ≡ granted → 0 < d.settings.stack_size → Goes maker old new d e (stage_by asked ending (n + 1)) no_call (Some (answer.Granted (Stack lease)))
   granted_stack_way asked ending n lease is aim enabled =

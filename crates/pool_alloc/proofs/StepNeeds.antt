@@ -1,8 +1,10 @@
 -- What the code of a step needs follows of what holds between steps, and what a step leaves is as its row shows.
 use Rattle.std.proofs.Common.{◌≡◌, ℕ, ◌+◌, ◌<◌, ◌≤◌, true, false, length, get_or, refl, sym, ap, subst, ◌∙◌, arith, Option, Some, None, List, Result, Ok, Err, Bool, IfSome, IsSome, is_some, nat_lt, slice_get}
-use Rattle.pool_alloc.proofs.Imports.{length_push, told_both, told_weaker, rounded_same, HeapMakeFault, of_kind, heap_slot, IsHere, IsOut, heap_in, Queued, Queue, first_of_kind, others_of_kind, QueuedRange, Told, SlotKind, memory_kind, table_kind, stack_kind, heap_kind, cell_of, Cell, unmapped, unknown, previously_used, taken, IsCleanOnceUsed, home_of, SlotName, Plan, MakerTold, minimum_byte_size, Image, Slot, SlotIdentity, FitsInto, image_slot_of, All-weaker}
+use Rattle.pool_alloc.proofs.Imports.{refused_limits, length_push, told_both, told_weaker, rounded_same, HeapMakeFault, of_kind, heap_slot, IsHere, IsOut, heap_in, Queued, Queue, first_of_kind, others_of_kind, QueuedRange, Told, SlotKind, memory_kind, table_kind, stack_kind, heap_kind, cell_of, Cell, unmapped, unknown, previously_used, taken, IsCleanOnceUsed, home_of, SlotName, Plan, MakerTold, minimum_byte_size, Image, Slot, SlotIdentity, FitsInto, image_slot_of, All-weaker}
 use Rattle.pool_alloc.specs.declared.frame.Object.{Object}
 use Rattle.pool_alloc.specs.declared.frame.TakenSlot.{TakenSlot}
+use Rattle.pool_alloc.specs.Leases.{Lease}
+use Rattle.pool_alloc.specs.TableLeases.{LeasedTable}
 use Rattle.pool_alloc.specs.declared.leases.instance.InstanceLease.{InstanceLease}
 use Rattle.pool_alloc.proofs.SumsBelow.{queued_cells}
 use Rattle.pool_alloc.proofs.SlotCounts.{slot_once}
@@ -19,24 +21,24 @@ use Rattle.pool_alloc.specs.PartyTold.{PartyTold}
 use Rattle.pool_alloc.specs.PageCallAnswers.{MayBeTold, AsksOf, MakesOf}
 use Rattle.pool_alloc.specs.StepBounds.{sizes_of, steps_at, steps_left}
 use Rattle.pool_alloc.specs.Calls.{IsGrantOf, IfGranted}
-use Rattle.pool_alloc.specs.CanStep.{CanStepAt, CanFlush, HasNext, CanBegin, CanMake, CanPlace, CanTryQueue, HasTableNext, CanMakeTable}
-use Rattle.pool_alloc.specs.StepTable.{FlushStep, run, zero, put, free, flush_step, component_counted, row_of, heap_next, make_heap_row, flush_row, put_first, count_object_row}
+use Rattle.pool_alloc.specs.CanStep.{CanKeepMemory, CanKeepTable, CanStepAt, CanFlush, HasNext, CanBegin, CanMake, CanPlace, CanTryQueue, HasTableNext, CanMakeTable}
+use Rattle.pool_alloc.specs.StepTable.{FlushStep, run, zero, put, free, flush_step, component_counted, row_of, heap_next, make_heap_row, flush_row, put_first, count_object_row, memory_kept, memory_turn, table_kept, table_turn}
 use Rattle.pool_alloc.specs.Searches.{IsSearched}
-use Rattle.pool_alloc.specs.BetweenSteps.{IsPoolSlot, HasCells, IsSlotName, MayHold, IsCore, IsFrame, IsSettings, IsAllocating, IsSupported, HasSlot, HasBegun, IsFreedOf, IsTableSupported, HasTable, IsMemoryNext, IsTableNext, IsShapedAt, IsHeapName, IsQueuedOf}
+use Rattle.pool_alloc.specs.BetweenSteps.{IsPoolSlot, HasCells, IsSlotName, MayHold, IsCore, IsFrame, IsSettings, IsAllocating, IsSupported, HasSlot, HasBegun, IsFreedOf, HasTable, IsMemoryNext, IsTableNext, IsShapedAt, IsHeapName, IsQueuedOf}
 use Rattle.pool_alloc.specs.Objects.{objects_in}
 use Rattle.pool_alloc.specs.declared.frame.Ending.{Ending}
 use Rattle.pool_alloc.specs.declared.frame.Ending.TheVariants.{Granted as granted, Returned as returned, Refused as refused}
 use Rattle.pool_alloc.specs.CallStages.{GoesOn, stage_by, stage_back, stage_of_release, stage_at}
 use Rattle.pool_alloc.specs.declared.release.ReleaseStep.{ReleaseStep}
 use Rattle.pool_alloc.specs.declared.release.ReleaseStep.TheVariants as releasing_step
-use Rattle.pool_alloc.specs.StepReads.{StepGiven, memories_wanted, images_wanted, image_wanted, queue_tried, first_shard, shard_tried, tables_wanted, kind_next, IsModule, HasMemories, IsForInstance, heaps_at}
+use Rattle.pool_alloc.specs.StepReads.{StepGiven, memories_wanted, images_wanted, image_wanted, queue_tried, first_shard, shard_tried, tables_wanted, singles_wanted, memories_kept, tables_kept, kind_next, IsModule, HasMemories, HasTables, IsForObjects, heaps_at}
 use Rattle.pool_alloc.specs.Stepping.{CanStep, CanCount, StepsTo, Conserves, EndsWith, IsSameSize, is_idle}
-use Rattle.pool_alloc.specs.Turns.{After, stepped, finished, after, is_granting}
+use Rattle.pool_alloc.specs.Turns.{next, After, stepped, finished, after, is_granting}
 use Rattle.pool_alloc.specs.declared.pool_core.PoolCore.{PoolCore}
 use Rattle.pool_alloc.specs.declared.pool_core.Settings.{Settings}
 use Rattle.pool_alloc.specs.declared.frame.Frame.{Frame}
 use Rattle.pool_alloc.specs.declared.frame.Asked.{Asked}
-use Rattle.pool_alloc.specs.declared.frame.Asked.TheVariants.{Module as module_asked, Stack as stack_asked, Heap as heap_asked}
+use Rattle.pool_alloc.specs.declared.frame.Asked.TheVariants.{Module as module_asked, Memory as memory_asked, Table as table_asked, Stack as stack_asked, Heap as heap_asked}
 use Rattle.pool_alloc.specs.PoolStacks.{IsStackLease}
 use Rattle.pool_alloc.proofs.StackRegions.{stack_page, stack_small}
 use Rattle.pool_alloc.specs.declared.frame.Phase.{Phase}
@@ -44,7 +46,7 @@ use Rattle.pool_alloc.specs.declared.frame.Phase.TheVariants.{Idle, Key, Validat
 use Rattle.pool_alloc.proofs.RowsUntilASlot.{key_ready, validate_ready, test_stack_ready, count_instance_ready, pick_ready, take_queue_ready}
 use Rattle.pool_alloc.proofs.ComponentRows.{validate_component_ready, count_component_ready, uncount_component_ready}
 use Rattle.pool_alloc.proofs.FramesStayFit.{fits_after}
-use Rattle.pool_alloc.proofs.BeforeTheTurn.{MayEnd, counts_one, in_phase, IsReadyRow, RowOk, goes_ok, ends_ok, row_ok, CountsNone, Ready}
+use Rattle.pool_alloc.proofs.BeforeTheTurn.{MayEnd, counts_one, in_phase, IsReadyRow, RowOk, goes_ok, ends_ok, row_ok, CountsNone, Ready, kept_of}
 use Rattle.pool_alloc.proofs.SlotIdentity.{region_page}
 use Rattle.pool_alloc.proofs.RowsWithASlot.{region_is_fresh, take_region_ready, empty_ready, instantiate_ready, make_memory_ready, count_object_ready, put_back_ready, free_one_ready, make_table_ready}
 use Rattle.pool_alloc.proofs.FlushFinds.{Finds, finds, put_some}
@@ -66,12 +68,23 @@ some_of (Some x) e = refl
 
 some_asked : (o : Asked) (n : ℕ) → n < length (memories_wanted o) → HasMemories o
 some_asked (module_asked m) n below = tt
+some_asked (memory_asked m) n below = tt
 some_asked (heap_asked ty) n below = tt
 some_asked o n below = absurd (omega (arith, below))
 
-some_table : (o : Asked) (n : ℕ) → n < length (tables_wanted o) → IsModule o
+some_table : (o : Asked) (n : ℕ) → n < length (tables_wanted o) → HasTables o
 some_table (module_asked m) n below = tt
+some_table (table_asked ty) n below = tt
 some_table o n below = absurd (omega (arith, below))
+
+-- there is room for a memory that is next, unless it is granted at once; and for a table
+can_keep_memory : {P : Type 0} (o : Asked) (objects : InstanceLease P) → length objects.memories.items < length (memories_wanted o) → memories_kept o ≤ objects.memories.room → CanKeepMemory o objects
+can_keep_memory (memory_asked m) objects more room = tt
+can_keep_memory o objects more room = omega (arith, more, room)
+
+can_keep_table : {P : Type 0} (o : Asked) (objects : InstanceLease P) → length objects.tables.items < length (tables_wanted o) → tables_kept o ≤ objects.tables.room → CanKeepTable o objects
+can_keep_table (table_asked ty) objects more room = tt
+can_keep_table o objects more room = omega (arith, more, room)
 
 fits_region : (page other initial : ℕ) (o : Option Image) → other ≡ page → IfSome o (FitsInto page initial) → IfSome o (FitsInto other initial)
 fits_region page other initial o e fits =
@@ -122,16 +135,16 @@ module _ {P H : Type 0} where
 
   has_table_next : (s : Settings) (plan : Plan) (f : Frame P H) → IsAllocating s plan f → IsTableNext f → HasTableNext f.asked (length f.objects.tables.items)
   has_table_next s plan f allocating table =
-      let more : length f.objects.tables.items < length (tables_wanted f.asked) = omega (arith, allocating.more, allocating.to_grant.few, table.0, table.1) in
+      let more : length f.objects.tables.items < length (tables_wanted f.asked) = omega (arith, allocating.more, allocating.to_grant.few, (kept_of f.asked).memories, table.0, table.1) in
       record { asked = some_table f.asked (length f.objects.tables.items) more; more = more }
 
   can_make_table : (maker : MakerTold) (s : Settings) (plan : Plan) (name : SlotName) (region : Told) (f : Frame P H) → IsSettings s → IsAllocating s plan f → HasTable maker s plan name region → IfTable f (CanMakeTable s region)
   can_make_table maker s plan name region f settings allocating has =
-      told_weaker (IsTableSupported s) (CanMakeTable s region) (slice_get (tables_wanted f.asked) (length f.objects.tables.items))
+      told_weaker (λ ty. refused_limits ty.limits ≡ None) (CanMakeTable s region) (slice_get (tables_wanted f.asked) (length f.objects.tables.items))
       (λ ty is.
       let within : table_bytes s ty ≤ region.len = omega (arith, bytes_within s ty, its_len maker s name.slot region has.region.slot) in
       record { limits = type_enough s ty settings is; inside = within; zeros = table_room maker s name.slot (table_bytes s ty) region has.region within })
-      (allocating.to_grant.tables.each (length f.objects.tables.items))
+      (allocating.to_grant.limits (length f.objects.tables.items))
 
   can_begin : (maker : MakerTold) (s : Settings) (plan : Plan) (name : SlotName) (held : Slot) (f : Frame P H) → s.page ≡ maker.page → IsSettings s → IsAllocating s plan f → HasSlot maker s plan name held → IfSome (slice_get (memories_wanted f.asked) (length f.objects.memories.items)) (CanBegin held (image_wanted f))
   can_begin maker s plan name held f page settings allocating has =
@@ -221,7 +234,7 @@ module _ {P H : Type 0} where
   can_at maker (PutHeap lease memory) c f can counts = record { list = heaps_part maker c can.core (omega (arith, can.frame.shape.2)); out = (heap_back_is_away maker lease memory c f can.core can.fits).out }
   can_at maker (FreeHeap name memory) c f can counts = can_free_of maker name (FreeHeap name memory) c f can (heap_inside c.plan name can.frame.shape.2) (omega (arith, slot_once name))
   can_at maker CountInstance c f can counts = omega (arith, counts counted_instance)
-  can_at maker (Pick tried) c f can counts = (record { memories = can.frame.stripe; tables = can.core.plan.tables; stacks = can.core.plan.stacks; heaps = can.core.plan.heaps }, record { inside = can.frame.shape.2; placed = (allocator_is c.plan (length c.parts) (kind_next f) f.stripe can.core.plan can.frame.stripe).placed }, shard_part maker (shard_tried tried c.plan f) c can.core (tried_is_shard tried c.plan (length c.parts) f can.core.plan can.frame.stripe), omega (arith, can.frame.shape.1.to_grant.few, can.frame.shape.1.to_grant.supported.few))
+  can_at maker (Pick tried) c f can counts = (record { memories = can.frame.stripe; tables = can.core.plan.tables; stacks = can.core.plan.stacks; heaps = can.core.plan.heaps }, record { inside = can.frame.shape.2; placed = (allocator_is c.plan (length c.parts) (kind_next f) f.stripe can.core.plan can.frame.stripe).placed }, shard_part maker (shard_tried tried c.plan f) c can.core (tried_is_shard tried c.plan (length c.parts) f can.core.plan can.frame.stripe), omega (arith, can.frame.shape.1.to_grant.few, (kept_of f.asked).memories, can.frame.shape.1.to_grant.supported.few))
   can_at maker TakeQueue c f can counts =
       let settled = can.frame.shape.0 in
       let i : ℕ = queue_tried f.queues c.plan f in
@@ -236,8 +249,11 @@ module _ {P H : Type 0} where
       (has_next c.settings c.plan (in_phase (MakeMemory slot held) f) can.frame.shape.1 can.frame.shape.4, can_make maker c.settings c.plan slot.name held (in_phase (MakeMemory slot held) f) can.core.page can.core.settings can.frame.shape.1 can.frame.shape.2 can.frame.shape.3)
   can_at maker (MakeTable slot region) c f can counts =
       (has_table_next c.settings c.plan (in_phase (MakeTable slot region) f) can.frame.shape.1 can.frame.shape.3, can_make_table maker c.settings c.plan slot.name region (in_phase (MakeTable slot region) f) can.core.settings can.frame.shape.1 can.frame.shape.2)
-  can_at maker (CountObject (Memory lease)) c f can counts = (omega (arith, counts (counted_object memory_kind)), omega (arith, can.frame.shape.4, can.frame.shape.1.to_grant.room))
-  can_at maker (CountObject (Table lease)) c f can counts = (omega (arith, counts (counted_object table_kind)), omega (arith, can.frame.shape.1.more, can.frame.shape.4.0, can.frame.shape.4.1, can.frame.shape.1.to_grant.few, can.frame.shape.1.to_grant.table_room))
+  can_at maker (CountObject (Memory lease)) c f can counts = (omega (arith, counts (counted_object memory_kind)), can_keep_memory f.asked f.objects can.frame.shape.4 can.frame.shape.1.to_grant.room)
+  can_at maker (CountObject (Table lease)) c f can counts = (
+    omega (arith, counts (counted_object table_kind)),
+    can_keep_table f.asked f.objects (omega (arith, can.frame.shape.1.more, can.frame.shape.4.0, can.frame.shape.4.1, can.frame.shape.1.to_grant.few, (kept_of f.asked).memories)) can.frame.shape.1.to_grant.table_room,
+  )
   can_at maker (CountObject (Stack lease)) c f can counts = omega (arith, counts (counted_object stack_kind))
   can_at maker (PutBack at held) c f can counts =
       let region = can.frame.shape.2 in
@@ -320,12 +336,14 @@ module _ {P H : Type 0} where
   pub can_step_at : (maker : MakerTold) (c : PoolCore P H) (f : Frame P H) → CanStep maker c f → CanCount c → CanStepAt f.phase c f
   can_step_at maker c f can counts = can_at maker f.phase c f can counts
 
--- A call for a stack may end wherever it stands, and so may one for a heap that has nothing.
+-- A call for a stack may end wherever it stands, and so may one for another object by itself that has nothing.
 no_instance : (asked : Asked) → CountsNone asked → IsModule asked → ⊥
 no_instance (module_asked m) none is = omega (arith, none)
 no_instance asked none is = absurd is
 
 may_by : (asked : Asked) (ending : Ending) (objects n : ℕ) → CountsNone asked → (objects ≡ 0 → n ≡ 0) → MayEnd objects (stage_by asked ending n)
+may_by (memory_asked m) granted objects n none empty = empty
+may_by (table_asked ty) granted objects n none empty = empty
 may_by stack_asked granted objects n none empty = tt
 may_by (heap_asked ty) granted objects n none empty = empty
 may_by asked granted objects n none empty = absurd (omega (arith, none))
@@ -342,21 +360,28 @@ may_back asked granted objects n back = absurd cc
 may_back asked returned objects n back = tt
 may_back asked (refused e) objects n back = tt
 
--- a call that counts no instance has no tables
-no_tables_for : (asked : Asked) → CountsNone asked → length (tables_wanted asked) ≡ 0
+-- a call that counts no instance keeps no tables
+no_tables_for : (asked : Asked) → CountsNone asked → tables_kept asked ≡ 0
+no_tables_for (memory_asked m) none = refl
+no_tables_for (table_asked ty) none = refl
 no_tables_for stack_asked none = refl
 no_tables_for (heap_asked ty) none = refl
 no_tables_for asked none = absurd (omega (arith, none))
 
 few_memories_for : (asked : Asked) → CountsNone asked → length (memories_wanted asked) ≤ 1
+few_memories_for (memory_asked m) none = omega arith
+few_memories_for (table_asked ty) none = omega arith
 few_memories_for stack_asked none = omega arith
 few_memories_for (heap_asked ty) none = omega arith
 few_memories_for asked none = absurd (omega (arith, none))
 
-no_instance_next : (asked : Asked) → CountsNone asked → IsForInstance asked → ⊥
-no_instance_next stack_asked none one = omega (arith, one.no_stack)
-no_instance_next (heap_asked ty) none one = omega (arith, one.no_heap)
-no_instance_next asked none one = omega (arith, none)
+-- one for neither a stack nor a heap is for one object
+single_next : (asked : Asked) → CountsNone asked → IsForObjects asked → singles_wanted asked ≡ 1
+single_next (memory_asked m) none one = refl
+single_next (table_asked ty) none one = refl
+single_next stack_asked none one = absurd (omega (arith, one.no_stack))
+single_next (heap_asked ty) none one = absurd (omega (arith, one.no_heap))
+single_next asked none one = absurd (omega (arith, none))
 
 module _ {P H : Type 0} where
   -- The objects of the frame are those of the row where its turn may end the call.
@@ -374,11 +399,12 @@ module _ {P H : Type 0} where
   memory_first : (s : Settings) (plan : Plan) (f : Frame P H) → IsAllocating s plan f → IsMemoryNext f → CountsNone f.asked → objects_in f.objects ≡ 0
   memory_first s plan f allocating more none = omega (arith, more, few_memories_for f.asked none, allocating.to_grant.few_tables, no_tables_for f.asked none)
 
-  -- (no row of the counting of a component ends a call that way, nor does one that goes on with a heap)
+  -- (no row of the counting of an object or a component ends a call that way, nor does one that goes on with a heap)
   abbrev MayEndAt : Phase P H → Frame P H → ℕ → Type 0
   MayEndAt CountComponent f objects = Unit {0}
   MayEndAt (TakeHeap name) f objects = Unit {0}
   MayEndAt (MakeHeap at) f objects = Unit {0}
+  MayEndAt (CountObject object) f objects = Unit {0}
   MayEndAt p f objects = MayEnd objects (stage_at p f.asked f.ending (objects_in f.objects))
 
   -- the objects of the row, where there may be fewer than the frame's
@@ -386,8 +412,6 @@ module _ {P H : Type 0} where
   HasObjects (Pick tried) f objects = objects ≡ objects_in f.objects
   HasObjects TakeQueue f objects = objects ≡ objects_in f.objects
   HasObjects Flush f objects = objects ≡ objects_in f.objects
-  HasObjects (CountObject (Memory lease)) f objects = objects ≡ objects_in f.objects + 1
-  HasObjects (CountObject (Table lease)) f objects = objects ≡ objects_in f.objects + 1
   HasObjects p f objects = Unit {0}
 
   may_end : (maker : MakerTold) (s : Settings) (plan : Plan) (p : Phase P H) (f : Frame P H) (objects : ℕ) → IsShapedAt maker s plan p (in_phase p f) → HasObjects p f objects → CountsNone f.asked → MayEndAt p f objects
@@ -404,10 +428,8 @@ module _ {P H : Type 0} where
   may_end maker s plan (Empty at held) f objects shape has none = may_by f.asked f.ending objects (objects_in f.objects) none (λ empty. memory_first s plan f shape.1 shape.3 none)
   may_end maker s plan (Instantiate at held) f objects shape has none = may_by f.asked f.ending objects (objects_in f.objects) none (λ empty. memory_first s plan f shape.1 shape.4 none)
   may_end maker s plan (MakeMemory at held) f objects shape has none = may_by f.asked f.ending objects (objects_in f.objects) none (λ empty. memory_first s plan f shape.1 shape.4 none)
-  may_end maker s plan (MakeTable at region) f objects shape has none = absurd (no_instance_next f.asked none shape.3.1)
-  may_end maker s plan (CountObject (Memory lease)) f objects shape has none = may_by f.asked f.ending objects (objects_in f.objects + 1) none (λ empty. omega (arith, empty, has))
-  may_end maker s plan (CountObject (Table lease)) f objects shape has none = may_by f.asked f.ending objects (objects_in f.objects + 1) none (λ empty. omega (arith, empty, has))
-  may_end maker s plan (CountObject (Stack lease)) f objects shape has none = (let M : Asked → Type 0 = λ a. MayEnd objects (stage_by a f.ending (objects_in f.objects + 1)) in subst M (sym shape.4) (may_stack f.ending objects (objects_in f.objects + 1)))
+  may_end maker s plan (MakeTable at region) f objects shape has none = may_by f.asked f.ending objects (objects_in f.objects) none (λ empty. omega (arith, shape.1.to_grant.few, shape.1.to_grant.few_tables, (kept_of f.asked).single (single_next f.asked none shape.3.1)))
+  may_end maker s plan (CountObject object) f objects shape has none = tt
   may_end maker s plan (TakeHeap name) f objects shape has none = tt
   may_end maker s plan (MakeHeap at) f objects shape has none = tt
   may_end maker s plan (CountHeap lease) f objects shape has none = tt
@@ -455,10 +477,19 @@ module _ {P H : Type 0} (maker : MakerTold) (old new : PartyTold) where
   made_ok at d e (Ok heap) c f ready = goes_ok maker old new d e _ _ _ ready
   made_ok at d e (Err fault) c f ready = goes_ok maker old new d e _ _ _ ready
 
-  counted_has : (object : Object P) (c : PoolCore P H) (f : Frame P H) → HasObjects (CountObject object) f (objects_in (count_object_row object c (in_phase Idle f)).frame.objects)
-  counted_has (Memory lease) c f = omega (arith, length_push f.objects.memories.items lease)
-  counted_has (Table lease) c f = omega (arith, length_push f.objects.tables.items lease)
-  counted_has (Stack lease) c f = tt
+  -- a row that counts an object ends the call with it, or goes on with one object more
+  memory_ok : (asked : Asked) (lease : Lease) (c d : PoolCore P H) (f : Frame P H) → Ready maker old new c (in_phase (CountObject (Memory lease)) f) d (memory_kept asked lease (in_phase Idle f)) (memory_turn asked lease) → RowOk maker old new c (in_phase (CountObject (Memory lease)) f) (finished d (after (memory_kept asked lease (in_phase Idle f)) (memory_turn asked lease)))
+  memory_ok (memory_asked m) lease c d f ready = ends_ok maker old new c _ d _ _ ready
+  memory_ok asked lease c d f ready = row_ok maker old new c _ (record { part = d; frame = memory_kept asked lease (in_phase Idle f); turn = next }) ready (λ none. may_by f.asked f.ending _ (objects_in f.objects + 1) none (λ empty. omega (arith, empty, length_push f.objects.memories.items lease)))
+
+  table_ok : (asked : Asked) (lease : LeasedTable) (c d : PoolCore P H) (f : Frame P H) → Ready maker old new c (in_phase (CountObject (Table lease)) f) d (table_kept asked lease (in_phase Idle f)) (table_turn asked lease) → RowOk maker old new c (in_phase (CountObject (Table lease)) f) (finished d (after (table_kept asked lease (in_phase Idle f)) (table_turn asked lease)))
+  table_ok (table_asked ty) lease c d f ready = ends_ok maker old new c _ d _ _ ready
+  table_ok asked lease c d f ready = row_ok maker old new c _ (record { part = d; frame = table_kept asked lease (in_phase Idle f); turn = next }) ready (λ none. may_by f.asked f.ending _ (objects_in f.objects + 1) none (λ empty. omega (arith, empty, length_push f.objects.tables.items lease)))
+
+  object_ok : (object : Object P) (c : PoolCore P H) (f : Frame P H) → IsReadyRow maker old new c (in_phase (CountObject object) f) (count_object_row object c (in_phase Idle f)) → RowOk maker old new c (in_phase (CountObject object) f) (stepped (count_object_row object c (in_phase Idle f)))
+  object_ok (Memory lease) c f ready = memory_ok f.asked lease c _ f ready
+  object_ok (Table lease) c f ready = table_ok f.asked lease c _ f ready
+  object_ok (Stack lease) c f ready = ends_ok maker old new c _ _ _ _ ready
 
   -- how many objects a row leaves in the frame
   abbrev objects_of : StepGiven H → Phase P H → PoolCore P H → Frame P H → ℕ
@@ -478,7 +509,7 @@ module _ {P H : Type 0} (maker : MakerTold) (old new : PartyTold) where
   rows_ok g (Instantiate slot had) c f on can told asks makes = row_ok maker old new c _ _ (instantiate_ready maker old new g.fault g.slot slot had c f can told) (may_end maker c.settings c.plan (Instantiate slot had) f (objects_of g (Instantiate slot had) c f) (can.frame.shape) tt)
   rows_ok g (MakeMemory slot had) c f on can told asks makes = row_ok maker old new c _ _ (make_memory_ready maker old new g.limiter slot had c f can asks) (may_end maker c.settings c.plan (MakeMemory slot had) f (objects_of g (MakeMemory slot had) c f) (can.frame.shape) tt)
   rows_ok g (MakeTable slot region) c f on can told asks makes = row_ok maker old new c _ _ (make_table_ready maker old new g.limiter slot region c f can asks) (may_end maker c.settings c.plan (MakeTable slot region) f (objects_of g (MakeTable slot region) c f) (can.frame.shape) tt)
-  rows_ok g (CountObject object) c f on can told asks makes = row_ok maker old new c _ _ (count_object_ready maker old new object c f can) (may_end maker c.settings c.plan (CountObject object) f (objects_of g (CountObject object) c f) (can.frame.shape) (counted_has object c f))
+  rows_ok g (CountObject object) c f on can told asks makes = object_ok object c f (count_object_ready maker old new object c f can)
   rows_ok g TestHeap c f on can told asks makes = row_ok maker old new c _ _ (test_heap_ready maker old new g.wants c f can) (may_end maker c.settings c.plan TestHeap f (objects_of g TestHeap c f) (can.frame.shape) tt)
   rows_ok g (TakeHeap name) c f on can told asks makes = taken_ok c (in_phase (TakeHeap name) f) _ (heap_in name.slot (heaps_at c)) (take_heap_ready maker old new name c f can makes)
   rows_ok g (MakeHeap at) c f on can told asks makes = made_ok at c (in_phase (MakeHeap at) f) g.heap c (in_phase Idle f) (make_heap_ready maker old new g.heap at c f can makes)

@@ -1,11 +1,11 @@
 -- Regions of tables: as they are made, with a table in them, and back again.
 use Rattle.std.proofs.Common.{◌≡◌, ℕ, ◌+◌, ◌-◌, ◌*◌, ◌/◌, ◌%◌, ◌^◌, ◌<◌, ◌≤◌, Bool, true, false, List, length, get_or, replicate, slice_range, refl, sym, ap, ◌∙◌, subst, arith, min, Option, Some, None, IfSome, if◌then◌else◌, Result, Ok, Err, IfOk, slice_get, nat_lt, option_map}
-use Rattle.pool_alloc.proofs.Imports.{mul-le-mul_right, div-mul-le_self, ltb-false, get_or-replicate, told_weaker, rounded_same, range_within, same_at, IsPageSize, count, rounded_up, Contents, IsShaped, MakerTold, fresh, Told, TellsShaped, TableType, Slot, SlotIdentity, IsSlot, IsSound, IsReady, IsClean, IsFresh, Holds, HasColour, identity, size_of, fresh_keeps, fresh_clean, IsGood, good, followed, IsPlain, IsUnusedFrom, Queued, plain_slot, CanBeZeroed, Plan, RegionNumbers, width, element_size, empty, kind_of, room_of, IsRoom, type_maximum, greatest_of, greatest_index, TableView, fresh_room, made_inside, empty_by, made_is_table, zeros_from, above, IndexType, I32, I64, TableElementType, Func, GcRef, Cont, Unsupported, TableSize, data_size, LimiterError}
+use Rattle.pool_alloc.proofs.Imports.{refused_limits, mul-le-mul_right, div-mul-le_self, ltb-false, get_or-replicate, told_weaker, rounded_same, range_within, same_at, IsPageSize, count, rounded_up, Contents, IsShaped, MakerTold, fresh, Told, TellsShaped, TableType, Slot, SlotIdentity, IsSlot, IsSound, IsReady, IsClean, IsFresh, Holds, HasColour, identity, size_of, fresh_keeps, fresh_clean, IsGood, good, followed, IsPlain, IsUnusedFrom, Queued, plain_slot, CanBeZeroed, Plan, RegionNumbers, width, element_size, empty, kind_of, room_of, IsRoom, type_maximum, greatest_of, greatest_index, TableView, fresh_room, made_inside, empty_by, made_is_table, zeros_from, above, IndexType, I32, I64, TableElementType, Func, GcRef, Cont, Unsupported, TableSize, data_size, LimiterError}
 use Rattle.pool_slots.proofs.Layouts.{rounded_within}
 use Rattle.pool_slots.specs.declared.errors.AllocError.TheVariants as alloc
 use Rattle.pool_alloc.specs.declared.frame.TakenSlot.{TakenSlot}
 use Rattle.pool_alloc.specs.PoolTables.{table_region, IsPoolTable, IsTableRegion, IsTableLease, IsBegunTable}
-use Rattle.pool_alloc.specs.BetweenSteps.{IsSettings, IsTableSupported}
+use Rattle.pool_alloc.specs.BetweenSteps.{IsSettings}
 use Rattle.pool_alloc.specs.TableLeases.{LeasedTable, LiesInRegion}
 use Rattle.pool_alloc.specs.TableSteps.{IsNewLease, bytes_used, table_bytes, table_in, table_refused, made_unless, made_table, table_made}
 use Rattle.pool_alloc.specs.declared.pool_core.Settings.{Settings}
@@ -197,11 +197,11 @@ type_allows : (o : Option ℕ) (ty : IndexType) (n : ℕ) → above n o ≡ None
 type_allows None ty n e small = greatest_small ty n small
 type_allows (Some most) ty n e small = ltb-false most n (not_above (nat_lt most n) _ e)
 
-pub type_enough : (s : Settings) (ty : TableType) → IsSettings s → IsTableSupported s ty → ty.limits.min ≤ room_of ty (table_bytes s ty) → ty.limits.min ≤ type_maximum ty
-type_enough s ty sound supports fits = type_allows ty.limits.max ty.idx_type ty.limits.min supports.limits (omega (arith, fits, room_small (table_bytes s ty) ty.element (omega (arith, bytes_within s ty, sound.table_few))))
+pub type_enough : (s : Settings) (ty : TableType) → IsSettings s → refused_limits ty.limits ≡ None → ty.limits.min ≤ room_of ty (table_bytes s ty) → ty.limits.min ≤ type_maximum ty
+type_enough s ty sound supports fits = type_allows ty.limits.max ty.idx_type ty.limits.min supports (omega (arith, fits, room_small (table_bytes s ty) ty.element (omega (arith, bytes_within s ty, sound.table_few))))
 
 -- So it is a lease of the pool, and begins as asked.
-pub begun_table : (maker : MakerTold) (s : Settings) (plan : Plan) (at : TakenSlot) (region : Told) (l : LeasedTable) (ty : TableType) → s.page ≡ maker.page → IsSettings s → at.name.slot < plan.totals.table → IsTableRegion maker s at.name.slot region → IsTableSupported s ty → IsMadeTable s at region l ty → IsTableLease maker s plan l × IsBegunTable s l ty
+pub begun_table : (maker : MakerTold) (s : Settings) (plan : Plan) (at : TakenSlot) (region : Told) (l : LeasedTable) (ty : TableType) → s.page ≡ maker.page → IsSettings s → at.name.slot < plan.totals.table → IsTableRegion maker s at.name.slot region → refused_limits ty.limits ≡ None → IsMadeTable s at region l ty → IsTableLease maker s plan l × IsBegunTable s l ty
 begun_table maker s plan at region l ty paged sound inside of supports made =
     let lazy : Bool = s.tunables.tunables.table_lazy_init in
     let kind = kind_of ty.element lazy in

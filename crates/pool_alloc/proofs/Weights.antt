@@ -8,7 +8,7 @@ use Rattle.pool_alloc.specs.Turns.{After}
 use Rattle.pool_alloc.specs.PoolAndHolders.{IsPartitioned, held_by_grant}
 use Rattle.pool_alloc.specs.declared.frame.Frame.{Frame}
 use Rattle.pool_alloc.specs.declared.frame.Grant.{Grant}
-use Rattle.pool_alloc.specs.declared.frame.Grant.TheVariants.{Instance, Stack, Heap, Component}
+use Rattle.pool_alloc.specs.declared.frame.Grant.TheVariants.{Instance, Memory, Table, Stack, Heap, Component}
 use Rattle.pool_alloc.specs.declared.frame.Outcome.{Outcome}
 use Rattle.pool_alloc.specs.declared.frame.Outcome.TheVariants as answer
 use Rattle.pool_alloc.specs.declared.frame.Phase.{Phase}
@@ -71,6 +71,8 @@ module _ {P H : Type 0} where
   pub grant_units : (t : Thing) (g : Grant P H) → grant_weight (of_units t) g ≡ grant_count t g
   grant_units t (Instance lease) = omega arith
   grant_units t Component = omega arith
+  grant_units t (Memory lease) = omega arith
+  grant_units t (Table lease) = omega arith
   grant_units t (Stack lease) = omega arith
   grant_units t (Heap lease memory) = omega arith
 
@@ -99,6 +101,8 @@ module _ {P H : Type 0} where
   pub grant_counts : (n : Counts) (g : Grant P H) → grant_weight (of_counts n) g ≡ grant_counted n g
   grant_counts n (Instance lease) = omega (arith, no_sum lease.memories.items, no_sum lease.tables.items)
   grant_counts n Component = omega arith
+  grant_counts n (Memory lease) = omega arith
+  grant_counts n (Table lease) = omega arith
   grant_counts n (Stack lease) = omega arith
   grant_counts n (Heap lease memory) = omega arith
 

@@ -14,7 +14,7 @@ use Rattle.pool_alloc.specs.PoolTables.{IsPoolTable, IsInTableCell, IsTableRegio
 use Rattle.pool_alloc.specs.Modules.{HasImages, IfAllocated, IfTable}
 use Rattle.pool_alloc.specs.RangeRuns.{IsGrouped}
 use Rattle.pool_alloc.specs.Turns.{is_granting, is_flushed}
-use Rattle.pool_alloc.specs.StepReads.{memories_wanted, images_wanted, image_wanted, memory_slots, queues_searched, allocator_for, tables_wanted, heaps_wanted, IsForInstance, IsHeapAsked, kind_next, IsModule}
+use Rattle.pool_alloc.specs.StepReads.{memories_wanted, images_wanted, image_wanted, memory_slots, queues_searched, allocator_for, tables_wanted, heaps_wanted, singles_wanted, memories_kept, tables_kept, IsForObjects, IsForInstance, IsHeapAsked, kind_next, IsModule}
 use Rattle.pool_alloc.specs.Places.{right_to, region_of, Weight, kept_count, away_count, away_weight, frame_count, frame_weight}
 use Rattle.pool_alloc.specs.declared.pool_core.PoolCore.{PoolCore}
 use Rattle.pool_alloc.specs.declared.pool_core.Settings.{Settings}
@@ -241,6 +241,10 @@ pub record AreTablesSupported (s : Settings) (total : ℕ) (tables : List TableT
   pub few : length tables ≤ total
   pub each : (k : ℕ) → IfSome (slice_get tables k) (IsTableSupported s)
 
+-- no table of these begins with more elements than it may have
+abbrev pub AreLimited : List TableType → Type 0
+AreLimited tables = (k : ℕ) → IfSome (slice_get tables k) (λ ty. refused_limits ty.limits ≡ None)
+
 -- an image that is given is one of its memory: it ends within the memory's minimum
 pub record AreImagesOf (s : Settings) (memories : List MemoryDecl) (images : List (Option Image)) : Type 0 where
   pub each : (k : ℕ) → IfSome (slice_get memories k) (λ decl. (decl.ty.page_size_log2 < 64) × IfSome (slice_index_or images k None) (FitsInto s.page (minimum_byte_size decl.ty)))
@@ -304,17 +308,19 @@ IsEnabled s stack_asked = 0 < s.stack_size
 IsEnabled s (heap_asked ty) = s.tunables.tunables.collector ≡ true
 IsEnabled s _ = Unit {0}
 
--- A call that is to be granted an instance, a stack or a heap: its module, or the heap's memory, is supported, what it was
--- granted so far begins as asked, memories first, and it has taken no more queues than there are.
+-- A call that is to be granted what it asks for: its module, its memory, or the heap's memory is supported; of a table by
+-- itself only the limits are known. What it was granted so far begins as asked, memories first; there is room for what it keeps;
+-- and it has taken no more queues than there are.
 pub record IsToGrant {P : Type 0} (s : Settings) (plan : Plan) (asked : Asked) (queues : ℕ) (objects : InstanceLease P) : Type 0 where
   pub supported : AreSupported s (memories_wanted asked) (images_wanted asked)
-  pub tables : AreTablesSupported s plan.totals.table (tables_wanted asked)
+  pub tables : singles_wanted asked ≡ 0 → AreTablesSupported s plan.totals.table (tables_wanted asked)
+  pub limits : AreLimited (tables_wanted asked)
   pub enabled : IsEnabled s asked
   pub images : HasImages asked
-  pub room : objects.memories.room ≡ length (memories_wanted asked)
-  pub table_room : objects.tables.room ≡ length (tables_wanted asked)
-  pub few : length objects.memories.items ≤ length (memories_wanted asked)
-  pub few_tables : length objects.tables.items ≤ length (tables_wanted asked)
+  pub room : memories_kept asked ≤ objects.memories.room
+  pub table_room : tables_kept asked ≤ objects.tables.room
+  pub few : length objects.memories.items ≤ memories_kept asked
+  pub few_tables : length objects.tables.items ≤ tables_kept asked
   pub order : length objects.memories.items < length (memories_wanted asked) → objects.tables.items ≡ []
   pub begun : AreBegun s asked objects
   pub taken : queues ≤ queues_searched plan
@@ -417,9 +423,9 @@ module _ {P H : Type 0} where
   abbrev pub IsMemoryNext : Frame P H → Type 0
   IsMemoryNext f = length f.objects.memories.items < length (memories_wanted f.asked)
 
-  -- A table is next: the memories are all there, and an instance is asked for.
+  -- A table is next: the memories are all there, and neither a stack nor a heap is asked for.
   abbrev pub IsTableNext : Frame P H → Type 0
-  IsTableNext f = (length (memories_wanted f.asked) ≤ length f.objects.memories.items) × IsForInstance f.asked
+  IsTableNext f = (length (memories_wanted f.asked) ≤ length f.objects.memories.items) × IsForObjects f.asked
 
   -- A stack is next.
   abbrev pub IsStackNext : Frame P H → Type 0

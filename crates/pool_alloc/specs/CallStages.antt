@@ -23,8 +23,8 @@ use Rattle.pool_alloc.specs.declared.pool_core.PoolCore.{PoolCore}
 use Rattle.pool_alloc.specs.declared.frame.Ending.{Ending}
 use Rattle.pool_alloc.specs.declared.frame.Ending.TheVariants.{Granted as granted, Returned as returned, Refused as refused}
 use Rattle.pool_alloc.specs.declared.frame.Asked.{Asked}
-use Rattle.pool_alloc.specs.declared.frame.Asked.TheVariants.{Stack as stack_asked, Heap as heap_asked}
-use Rattle.pool_alloc.specs.declared.frame.Grant.TheVariants.{Instance, Stack, Heap, Component}
+use Rattle.pool_alloc.specs.declared.frame.Asked.TheVariants.{Memory as memory_asked, Table as table_asked, Stack as stack_asked, Heap as heap_asked}
+use Rattle.pool_alloc.specs.declared.frame.Grant.TheVariants.{Instance, Memory, Table, Stack, Heap, Component}
 use Rattle.pool_alloc.specs.declared.frame.Frame.{Frame}
 use Rattle.pool_alloc.specs.declared.frame.Outcome.{Outcome}
 use Rattle.pool_alloc.specs.declared.frame.Outcome.TheVariants as answer
@@ -34,12 +34,13 @@ use Rattle.pool_alloc.specs.declared.release.ReleaseStep.{ReleaseStep}
 use Rattle.pool_alloc.specs.declared.release.ReleaseStep.TheVariants.{Reserve}
 
 -- how far a request is: its module isn't tested yet; its instance isn't counted yet; it is, and so many of its objects
--- are made; it is for a stack; or it is for a heap, and isn't tested yet, or so many of its two objects are made, of which the memory
+-- are made; it is for a memory or a table by itself, which is made or isn't; it is for a stack; or it is for a heap, and isn't tested yet, or so many of its two objects are made, of which the memory
 -- is the first, or the heap is in hand, which is counted next
 pub data Progress : Type 0 where
   untested : Progress
   uncounted : Progress
   admitted : ℕ → Progress
+  seeks_single : ℕ → Progress
   seeks_stack : Progress
   tests_heap : Progress
   seeks_heap : ℕ → Progress
@@ -67,6 +68,8 @@ IsBroken None e = ⊥
 
 -- How far a request is where so many objects are made, by what is asked for.
 abbrev pub progress_by : Asked → ℕ → Progress
+progress_by (memory_asked m) made = seeks_single made
+progress_by (table_asked ty) made = seeks_single made
 progress_by stack_asked made = seeks_stack
 progress_by (heap_asked ty) made = seeks_heap made
 progress_by _ made = admitted made
@@ -158,6 +161,14 @@ module _ {P H : Type 0} where
     pub asked : IfTable f (AsksForTable given old.limiter new.limiter)
     pub is : table_made c.settings (tables_wanted f.asked) (length f.objects.tables.items) given at region ≡ made
 
+  -- Why memory or table n fails: there is no slot for it, a page call failed, or it isn't made.
+  abbrev pub FailsObject : MakerTold → PartyTold → PartyTold → PoolCore P H → Frame P H → ℕ → AllocError → Type 0
+  FailsObject maker old new c f n e = FindsNone c f n e ⊎ (IsPageFaulted maker c f n e ⊎ (Makes old new c f n (Err e) ⊎ MakesTable old new c f n (Err e)))
+
+  -- As many objects are made as before, or one more is.
+  abbrev pub HasObject : PartyTold → PartyTold → PoolCore P H → Frame P H → ℕ → ℕ → Type 0
+  HasObject old new c f n m = (m ≡ n) ⊎ ((m ≡ n + 1) × (((memory : MemoryState) × Makes old new c f n (Ok memory)) ⊎ ((lease : LeasedTable) × MakesTable old new c f n (Ok lease))))
+
   -- A heap is next, whose memory is there.
   pub record SeeksHeap (c : PoolCore P H) (f : Frame P H) (n : ℕ) : Type 0 where
     pub number : n ≡ objects_in f.objects
@@ -192,13 +203,15 @@ module _ {P H : Type 0} where
   Raises maker old new c f tests_heap e = IsHeapUntested c f e
   Raises maker old new c f (seeks_heap n) e = FindsNone c f n e ⊎ (IsPageFaulted maker c f n e ⊎ (Makes old new c f n (Err e) ⊎ FailsHeap old new c f n e))
   Raises maker old new c f counts_heap e = ⊥
-  Raises maker old new c f (admitted n) e = FindsNone c f n e ⊎ (IsPageFaulted maker c f n e ⊎ (Makes old new c f n (Err e) ⊎ MakesTable old new c f n (Err e)))
+  Raises maker old new c f (admitted n) e = FailsObject maker old new c f n e
+  Raises maker old new c f (seeks_single n) e = FailsObject maker old new c f n e
 
   -- What is known where a step takes a request on.
   abbrev pub Follows : PartyTold → PartyTold → PoolCore P H → Frame P H → Progress → Progress → Type 0
   Follows old new c f untested uncounted = module_refused c.settings c.plan.totals.table (info_wanted f.asked) ≡ None
   Follows old new c f uncounted (admitted n) = (n ≡ 0) × (c.counters.core_instances < c.settings.max_core_instances)
-  Follows old new c f (admitted n) (admitted m) = (m ≡ n) ⊎ ((m ≡ n + 1) × (((memory : MemoryState) × Makes old new c f n (Ok memory)) ⊎ ((lease : LeasedTable) × MakesTable old new c f n (Ok lease))))
+  Follows old new c f (admitted n) (admitted m) = HasObject old new c f n m
+  Follows old new c f (seeks_single n) (seeks_single m) = HasObject old new c f n m
   Follows old new c f seeks_stack seeks_stack = Unit {0}
   Follows old new c f tests_heap (seeks_heap n) = (n ≡ 0) × IsHeapTested c f
   Follows old new c f (seeks_heap n) (seeks_heap m) = (m ≡ n) ⊎ ((m ≡ n + 1) × ((memory : MemoryState) × Makes old new c f n (Ok memory)))
@@ -206,20 +219,23 @@ module _ {P H : Type 0} where
   Follows old new c f _ _ = ⊥
 
   -- How a step may take a call on from one stage to another, with this answer. Only the test of its module, its
-  -- heap or its component ends a request at once with a refusal; one for a stack, or for a heap that has no memory yet, has
-  -- nothing to give back. The grant of an instance is of all objects that are asked for, which are supported. A purge is never
+  -- heap or its component ends a request at once with a refusal; one for a stack, for a memory or a table by itself, or for a
+  -- heap that has no memory yet, has nothing to give back. The grant of an instance is of all objects that are asked for, which are supported. A purge is never
   -- refused, and a release only for want of memory for its room.
   abbrev pub Goes : MakerTold → PartyTold → PartyTold → PoolCore P H → Frame P H → Stage → Stage → Option (Outcome P H) → Type 0
   Goes maker old new c f no_call no_call None = Unit {0}
   Goes maker old new c f keys no_call (Some answer.Key) = Unit {0}
   Goes maker old new c f (asks p) (asks q) None = Follows old new c f p q
   Goes maker old new c f (asks p) (refusing e) None = Raises maker old new c f p e
+  Goes maker old new c f (asks p) no_call (Some (answer.Granted (Memory lease))) = Follows old new c f p (seeks_single 1)
+  Goes maker old new c f (asks p) no_call (Some (answer.Granted (Table lease))) = Follows old new c f p (seeks_single 1)
   Goes maker old new c f (asks p) no_call (Some (answer.Granted (Stack lease))) = Follows old new c f p seeks_stack × (0 < c.settings.stack_size)
   Goes maker old new c f (asks p) no_call (Some (answer.Granted (Instance lease))) = Follows old new c f p (admitted (objects_wanted f.asked)) × AreSupported c.settings (memories_wanted f.asked) (images_wanted f.asked) × AreTablesSupported c.settings c.plan.totals.table (tables_wanted f.asked)
   Goes maker old new c f (asks counts_heap) no_call (Some (answer.Granted (Heap lease memory))) = (c.settings.tunables.tunables.collector ≡ true) × AreSupported c.settings (memories_wanted f.asked) (images_wanted f.asked)
   Goes maker old new c f (asks untested) no_call (Some (answer.Refused e)) = Raises maker old new c f untested e
   Goes maker old new c f (asks seeks_stack) no_call (Some (answer.Refused e)) = Raises maker old new c f seeks_stack e
   Goes maker old new c f (asks tests_heap) no_call (Some (answer.Refused e)) = Raises maker old new c f tests_heap e
+  Goes maker old new c f (asks (seeks_single n)) no_call (Some (answer.Refused e)) = Raises maker old new c f (seeks_single n) e × (n ≡ 0)
   Goes maker old new c f (asks (seeks_heap n)) no_call (Some (answer.Refused e)) = Raises maker old new c f (seeks_heap n) e × (n ≡ 0)
   Goes maker old new c f (tests_component info) counts_component None = component_refused c.settings info ≡ None
   Goes maker old new c f (tests_component info) no_call (Some (answer.Refused e)) = IsBroken (component_refused c.settings info) e

@@ -7,7 +7,7 @@ use Rattle.pool_alloc.specs.TableSteps.{IsInRegion, CanQueue, table_bytes}
 use Rattle.pool_alloc.specs.Modules.{HasImages, IfAllocated, IfTable}
 use Rattle.pool_alloc.specs.Reserved.{Reserved}
 use Rattle.pool_alloc.specs.StepTable.{FlushStep, run, zero, put, free, flush_step}
-use Rattle.pool_alloc.specs.StepReads.{cell_returned, IsModule, HasMemories, IsHeapAsked, IsHeapsPart, heaps_at, memories_wanted, tables_wanted, image_wanted, IsQueuePart, allocator_for, queues_searched, shard_at, cell_named, queue_at, freed_of, first_shard, shard_tried, queue_tried}
+use Rattle.pool_alloc.specs.StepReads.{cell_returned, HasMemories, HasTables, IsHeapAsked, IsHeapsPart, heaps_at, memories_wanted, tables_wanted, image_wanted, IsQueuePart, allocator_for, queues_searched, shard_at, cell_named, queue_at, freed_of, first_shard, shard_tried, queue_tried}
 use Rattle.pool_alloc.specs.declared.pool_core.PoolCore.{PoolCore}
 use Rattle.pool_alloc.specs.declared.pool_core.Settings.{Settings}
 use Rattle.pool_alloc.specs.declared.frame.Frame.{Frame}
@@ -16,6 +16,8 @@ use Rattle.pool_alloc.specs.declared.frame.Object.{Object}
 use Rattle.pool_alloc.specs.declared.frame.Object.TheVariants.{Memory, Table, Stack}
 use Rattle.pool_alloc.specs.StackLeases.{LeasedStack, stack_slot}
 use Rattle.pool_alloc.specs.declared.frame.Asked.{Asked}
+use Rattle.pool_alloc.specs.declared.frame.Asked.TheVariants.{Memory as memory_asked, Table as table_asked}
+use Rattle.pool_alloc.specs.declared.leases.instance.InstanceLease.{InstanceLease}
 use Rattle.pool_alloc.specs.declared.frame.Phase.{Phase}
 use Rattle.pool_alloc.specs.declared.frame.Phase.TheVariants.{Idle, Key, Validate, TestStack, TestHeap, CountInstance, Pick, TakeQueue, TakeRegion, Empty, Instantiate, MakeMemory, MakeTable, CountObject, TakeHeap, MakeHeap, CountHeap, PutNoHeap, PutBack, FreeOne, UncountObject, UncountHeap, PutHeap, FreeHeap, Reset, Merge, Flush, UncountInstance, ValidateComponent, CountComponent, UncountComponent, Purge, Release}
 use Rattle.pool_alloc.specs.Purges.{has_turns, purged_stripe}
@@ -69,7 +71,7 @@ pub record CanTakeRegion (s : Settings) (name : SlotName) (cell : CellState) : T
   pub there : is_taken cell.holds ≡ false
   pub fresh : (region : Told) → cell.holds ≡ unmapped region → CanUnmap s name region
 
--- a memory of the module or of the heap is the next one
+-- a memory of the module or of the heap, or the one that is asked for, is the next one
 pub record HasNext (call : Asked) (granted : ℕ) : Type 0 where
   pub asked : HasMemories call
   pub images : HasImages call
@@ -90,10 +92,20 @@ pub record CanMake (s : Settings) (held : Slot) (decl : MemoryDecl) : Type 0 whe
   pub slot : minimum_byte_size decl.ty < 2 ^ 64 → CanHold (minimum_byte_size decl.ty) held
   pub room : rounded_up held.region.page s.max_memory_size ≤ held.static_size
 
--- a table of the module is the next one
+-- a table of the module, or the one that is asked for, is the next one
 pub record HasTableNext (call : Asked) (granted : ℕ) : Type 0 where
-  pub asked : IsModule call
+  pub asked : HasTables call
   pub more : granted < length (tables_wanted call)
+
+-- There is room for one memory more among those that were granted. One that is asked for by itself needs none.
+abbrev pub CanKeepMemory : {P : Type 0} → Asked → InstanceLease P → Type 0
+CanKeepMemory (memory_asked m) objects = Unit {0}
+CanKeepMemory _ objects = length objects.memories.items < objects.memories.room
+
+-- There is room for one table more, likewise.
+abbrev pub CanKeepTable : {P : Type 0} → Asked → InstanceLease P → Type 0
+CanKeepTable (table_asked ty) objects = Unit {0}
+CanKeepTable _ objects = length objects.tables.items < objects.tables.room
 
 -- the region has room for the table
 pub record CanMakeTable (s : Settings) (region : Told) (ty : TableType) : Type 0 where
@@ -257,8 +269,8 @@ module _ {P H : Type 0} where
   CanStepAt (Instantiate at held) c f = HasNext f.asked (length f.objects.memories.items) × IsClean held × IfAllocated f (CanBegin held (image_wanted f))
   CanStepAt (MakeMemory at held) c f = HasNext f.asked (length f.objects.memories.items) × IfAllocated f (CanMake c.settings held)
   CanStepAt (MakeTable at region) c f = HasTableNext f.asked (length f.objects.tables.items) × IfTable f (CanMakeTable c.settings region)
-  CanStepAt (CountObject (Memory lease)) c f = (c.counters.memories + 1 < 2 ^ 64) × (length f.objects.memories.items < f.objects.memories.room)
-  CanStepAt (CountObject (Table lease)) c f = (c.counters.tables + 1 < 2 ^ 64) × (length f.objects.tables.items < f.objects.tables.room)
+  CanStepAt (CountObject (Memory lease)) c f = (c.counters.memories + 1 < 2 ^ 64) × CanKeepMemory f.asked f.objects
+  CanStepAt (CountObject (Table lease)) c f = (c.counters.tables + 1 < 2 ^ 64) × CanKeepTable f.asked f.objects
   CanStepAt (CountObject (Stack lease)) c f = c.counters.stacks + 1 < 2 ^ 64
   CanStepAt (PutBack at held) c f = CanPutOf at.name held c
   CanStepAt (TakeHeap name) c f = CanTakeHeapOf name.slot c

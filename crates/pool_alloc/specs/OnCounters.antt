@@ -2,11 +2,11 @@
 -- the whole pool. So whoever finds the number makes the step.
 use Rattle.std.specs.Prelude.{ℕ, ◌+◌, ◌-◌, ◌%◌, ◌^◌, ◌<◌, List, [], ◌∷◌, length, Bool, true, false, nat_lt}
 use Rattle.pool_alloc.specs.Imports.{Plan}
+use Rattle.pool_alloc.specs.CanStep.{CanKeepMemory, CanKeepTable}
 use Rattle.pool_alloc.specs.HeapLeases.{LeasedHeap}
 use Rattle.pool_alloc.specs.Leases.{Lease}
 use Rattle.pool_alloc.specs.Objects.{no_objects}
-use Rattle.pool_alloc.specs.Reserved.{with_item}
-use Rattle.pool_alloc.specs.StepTable.{no_instance_left, no_component_left}
+use Rattle.pool_alloc.specs.StepTable.{no_instance_left, no_component_left, memory_kept, memory_turn, table_kept, table_turn}
 use Rattle.pool_alloc.specs.Turns.{Row, goes, ends, next, stays, failing, answer_of}
 use Rattle.pool_alloc.specs.declared.frame.Frame.{Frame}
 use Rattle.pool_alloc.specs.declared.frame.Grant.TheVariants.{Component, Stack as stack_granted, Heap as heap_granted}
@@ -20,8 +20,8 @@ use Rattle.pool_alloc.specs.declared.pool_core.Settings.{Settings}
 module _ {P H : Type 0} where
   -- There is room among what was granted so far.
   abbrev pub CanCountObject : Object P → Frame P H → Type 0
-  CanCountObject (Memory lease) f = length f.objects.memories.items < f.objects.memories.room
-  CanCountObject (Table lease) f = length f.objects.tables.items < f.objects.tables.room
+  CanCountObject (Memory lease) f = CanKeepMemory f.asked f.objects
+  CanCountObject (Table lease) f = CanKeepTable f.asked f.objects
   CanCountObject (Stack lease) f = Unit {0}
 
   -- What the code of such a step needs, in each phase. Other phases don't count.
@@ -61,8 +61,8 @@ module _ {P H : Type 0} where
 
   -- An object is granted.
   abbrev pub object_on : Object P → ℕ → Frame P H → Row ℕ P H
-  object_on (Memory lease) found f = record { part = found + 1; frame = record f { objects = record f.objects { memories = with_item lease f.objects.memories }; queues = 0 }; turn = next }
-  object_on (Table lease) found f = record { part = found + 1; frame = record f { objects = record f.objects { tables = with_item lease f.objects.tables }; queues = 0 }; turn = next }
+  object_on (Memory lease) found f = record { part = found + 1; frame = memory_kept f.asked lease f; turn = memory_turn f.asked lease }
+  object_on (Table lease) found f = record { part = found + 1; frame = table_kept f.asked lease f; turn = table_turn f.asked lease }
   object_on (Stack lease) found f = record { part = found + 1; frame = f; turn = ends (answer.Granted (stack_granted lease)) }
 
   -- The heap is granted, with the memory that was granted for it.

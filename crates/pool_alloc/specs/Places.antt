@@ -13,7 +13,7 @@ use Rattle.pool_alloc.specs.declared.frame.Phase.TheVariants.{Idle, Key, Validat
 use Rattle.pool_alloc.specs.Objects.{slot_of_object}
 use Rattle.pool_alloc.specs.TableLeases.{LeasedTable, table_slot}
 use Rattle.pool_alloc.specs.declared.frame.Asked.{Asked}
-use Rattle.pool_alloc.specs.declared.frame.Asked.TheVariants.{Stack as stack_asked, Heap as heap_asked}
+use Rattle.pool_alloc.specs.declared.frame.Asked.TheVariants.{Memory as memory_asked, Table as table_asked, Stack as stack_asked, Heap as heap_asked}
 use Rattle.pool_alloc.specs.declared.frame.TakenSlot.{TakenSlot}
 use Rattle.pool_alloc.specs.declared.leases.instance.InstanceLease.{InstanceLease}
 use Rattle.pool_alloc.specs.declared.purge.PurgeStep.{PurgeStep}
@@ -102,8 +102,10 @@ tables_count t leases = sum_by (λ l. both_count t (table_slot l.index) l.number
 abbrev pub freed_count : Thing → List FreedSlot → ℕ
 freed_count t slots = sum_by (λ x. slot_count t x.name) slots
 
--- how many instances a call counts: one for a stack or a heap counts none
+-- how many instances a call counts: one for an object by itself counts none
 abbrev pub instances_for : Asked → ℕ
+instances_for (memory_asked m) = 0
+instances_for (table_asked ty) = 0
 instances_for stack_asked = 0
 instances_for (heap_asked ty) = 0
 instances_for _ = 1

@@ -6,7 +6,7 @@ use Rattle.pool_alloc.specs.declared.leases.instance.InstanceLease.{InstanceLeas
 use Rattle.pool_alloc.specs.Reserved.{Reserved}
 use Rattle.pool_alloc.specs.RangeRuns.{runs}
 use Rattle.pool_alloc.specs.StepReads.{queues_searched}
-use Rattle.pool_alloc.specs.declared.frame.Grant.TheVariants.{Instance, Stack, Heap, Component}
+use Rattle.pool_alloc.specs.declared.frame.Grant.TheVariants.{Instance, Memory, Table, Stack, Heap, Component}
 use Rattle.pool_alloc.specs.declared.pool_core.PoolCore.{PoolCore}
 use Rattle.pool_alloc.specs.declared.frame.Call.{Call}
 use Rattle.pool_alloc.specs.declared.frame.Call.TheVariants as call
@@ -15,7 +15,7 @@ use Rattle.pool_alloc.specs.declared.frame.Ending.TheVariants.{Granted as grante
 use Rattle.pool_alloc.specs.declared.frame.Frame.{Frame}
 use Rattle.pool_alloc.specs.declared.frame.FreedSlot.{FreedSlot}
 use Rattle.pool_alloc.specs.declared.frame.Asked.{Asked}
-use Rattle.pool_alloc.specs.declared.frame.Asked.TheVariants.{Module as module_asked, Stack as stack_asked, Heap as heap_asked}
+use Rattle.pool_alloc.specs.declared.frame.Asked.TheVariants.{Module as module_asked, Memory as memory_asked, Table as table_asked, Stack as stack_asked, Heap as heap_asked}
 use Rattle.pool_alloc.specs.declared.frame.Phase.{Phase}
 use Rattle.pool_alloc.specs.declared.frame.Phase.TheVariants.{Idle, Key, Validate, TestStack, TestHeap, CountInstance, Pick, TakeQueue, TakeRegion, Empty, Instantiate, MakeMemory, MakeTable, CountObject, TakeHeap, MakeHeap, CountHeap, PutNoHeap, PutBack, FreeOne, UncountObject, UncountHeap, PutHeap, FreeHeap, Reset, Merge, Flush, UncountInstance, ValidateComponent, CountComponent, UncountComponent, Purge, Release}
 use Rattle.pool_alloc.specs.Purges.{has_turns, purged_stripe}
@@ -161,8 +161,10 @@ returns_left z objects = return_bound z (objects_in objects)
 
 -- What is left once the object that is allocated is granted or refused: the module's other objects, and that all which
 -- are granted until then may be given back.
--- Nothing is left of a request for a stack.
+-- Nothing is left of a request for a stack, and of one for a memory or a table by itself only that it may be refused.
 abbrev pub objects_left : {P : Type 0} → PoolSizes → Asked → InstanceLease P → ℕ
+objects_left z (memory_asked m) objects = returns_left z objects
+objects_left z (table_asked ty) objects = returns_left z objects
 objects_left z stack_asked objects = 0
 objects_left z asked objects = (objects_wanted asked - (objects_in objects + 1)) * (allocation_bound z + give_back_bound z) + return_bound z (objects_in objects + 1)
 
@@ -187,10 +189,14 @@ module _ {P H : Type 0} where
   bound_of_call z call.Key = 1
   bound_of_call z (call.Module m) = instance_bound z (objects_wanted (module_asked m))
   bound_of_call z (call.Component info) = 3
+  bound_of_call z (call.Memory m) = allocation_bound z
+  bound_of_call z (call.Table ty) = allocation_bound z
   bound_of_call z call.Stack = 1 + allocation_bound z
   bound_of_call z (call.Heap ty) = heap_bound z
   bound_of_call z (call.GiveBack (Instance lease)) = return_bound z (objects_in lease)
   bound_of_call z (call.GiveBack Component) = 1
+  bound_of_call z (call.GiveBack (Memory lease)) = return_bound z 1
+  bound_of_call z (call.GiveBack (Table lease)) = return_bound z 1
   bound_of_call z (call.GiveBack (Stack lease)) = return_bound z 1
   bound_of_call z (call.GiveBack (Heap lease memory)) = return_bound z 2
   bound_of_call z (call.Purge id) = purge_bound z

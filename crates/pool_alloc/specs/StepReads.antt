@@ -6,7 +6,7 @@ use Rattle.pool_alloc.specs.declared.pool_core.PoolCore.{PoolCore}
 use Rattle.pool_alloc.specs.declared.pool_core.Settings.{Settings}
 use Rattle.pool_alloc.specs.declared.frame.Frame.{Frame}
 use Rattle.pool_alloc.specs.declared.frame.Asked.{Asked}
-use Rattle.pool_alloc.specs.declared.frame.Asked.TheVariants.{Nothing as nothing_asked, Module as module_asked, Stack as stack_asked, Heap as heap_asked}
+use Rattle.pool_alloc.specs.declared.frame.Asked.TheVariants.{Nothing as nothing_asked, Module as module_asked, Memory as memory_asked, Table as table_asked, Stack as stack_asked, Heap as heap_asked}
 use Rattle.pool_alloc.specs.declared.frame.FreedSlot.{FreedSlot}
 
 -- What a step is told from outside the table: whether memory was wanting, whether a page call of the step failed, what
@@ -35,6 +35,7 @@ plain_decl ty = record { ty = ty; image = None }
 -- The memories that are asked for; a heap is asked for with one memory.
 abbrev pub memories_wanted : Asked → List MemoryDecl
 memories_wanted (module_asked m) = m.info.memories
+memories_wanted (memory_asked m) = plain_decl m.ty ∷ []
 memories_wanted (heap_asked ty) = plain_decl ty ∷ []
 memories_wanted _ = []
 
@@ -46,11 +47,13 @@ images_made (Some images) = images
 -- The images of the memories that are asked for.
 abbrev pub images_wanted : Asked → List (Option Image)
 images_wanted (module_asked m) = images_made m.images
+images_wanted (memory_asked m) = m.image ∷ []
 images_wanted _ = []
 
 -- The tables that are asked for.
 abbrev pub tables_wanted : Asked → List TableType
 tables_wanted (module_asked m) = m.info.tables
+tables_wanted (table_asked ty) = ty ∷ []
 tables_wanted _ = []
 
 -- 1 where a stack is asked for.
@@ -63,10 +66,32 @@ abbrev pub heaps_wanted : Asked → ℕ
 heaps_wanted (heap_asked ty) = 1
 heaps_wanted _ = 0
 
--- Neither a stack nor a heap is asked for: an instance is asked for or given back, if anything is.
+-- 1 where one memory or one table is asked for by itself.
+abbrev pub singles_wanted : Asked → ℕ
+singles_wanted (memory_asked m) = 1
+singles_wanted (table_asked ty) = 1
+singles_wanted _ = 0
+
+-- How many memories a call keeps until all that it asks for is granted: one that is asked for by itself is granted at once.
+abbrev pub memories_kept : Asked → ℕ
+memories_kept (memory_asked m) = 0
+memories_kept asked = length (memories_wanted asked)
+
+-- How many tables it keeps, likewise.
+abbrev pub tables_kept : Asked → ℕ
+tables_kept (table_asked ty) = 0
+tables_kept asked = length (tables_wanted asked)
+
+-- Neither a stack nor a heap is asked for.
+pub record IsForObjects (asked : Asked) : Type 0 where
+  pub no_stack : stacks_wanted asked ≡ 0
+  pub no_heap : heaps_wanted asked ≡ 0
+
+-- No object is asked for by itself: an instance is asked for or given back, if anything is.
 pub record IsForInstance (asked : Asked) : Type 0 where
   pub no_stack : stacks_wanted asked ≡ 0
   pub no_heap : heaps_wanted asked ≡ 0
+  pub no_single : singles_wanted asked ≡ 0
 
 -- a module is asked for
 abbrev pub IsModule : Asked → Type 0
@@ -78,11 +103,18 @@ abbrev pub IsHeapAsked : Asked → Type 0
 IsHeapAsked (heap_asked ty) = ty.page_size_log2 < 64
 IsHeapAsked _ = ⊥
 
--- A module or a heap is asked for, which have memories.
+-- A module, a memory or a heap is asked for, which have memories.
 abbrev pub HasMemories : Asked → Type 0
 HasMemories (module_asked m) = Unit {0}
+HasMemories (memory_asked m) = Unit {0}
 HasMemories (heap_asked ty) = Unit {0}
 HasMemories _ = ⊥
+
+-- A module or a table is asked for, which have tables.
+abbrev pub HasTables : Asked → Type 0
+HasTables (module_asked m) = Unit {0}
+HasTables (table_asked ty) = Unit {0}
+HasTables _ = ⊥
 
 -- How many memory slots the pool has.
 abbrev pub memory_slots : Plan → ℕ
@@ -126,9 +158,10 @@ abbrev pub after_frees : Plan → List FreedSlot → ShardState → ShardState
 after_frees plan [] shard = shard
 after_frees plan (x ∷ rest) shard = after_frees plan rest (after_free (home_of plan x.name).local x.bytes shard)
 
--- The memory with this number of the module that is asked for.
+-- The memory with this number of the module that is asked for, or the one to which a memory by itself may be affine.
 abbrev pub wanted_of : Asked → ℕ → Option MemoryInModule
 wanted_of (module_asked m) index = Some (record { 0 = m.id; 1 = record { 0 = index } })
+wanted_of (memory_asked m) index = m.affine
 wanted_of _ index = None
 
 -- For which memory of which module a slot is wanted; slots of other kinds are wanted for nothing in particular.

@@ -23,7 +23,9 @@ use Rattle.pool_alloc.specs.declared.frame.Frame.{Frame}
 use Rattle.pool_alloc.specs.declared.frame.Phase.{Phase}
 use Rattle.pool_alloc.specs.declared.frame.TakenSlot.{TakenSlot}
 use Rattle.pool_alloc.specs.declared.frame.Phase.TheVariants.{Idle, Key, Validate, TestStack, TestHeap, CountInstance, Pick, TakeQueue, TakeRegion, Empty, Instantiate, MakeMemory, MakeTable, CountObject, TakeHeap, MakeHeap, CountHeap, PutNoHeap, PutBack, FreeOne, UncountObject, UncountHeap, PutHeap, FreeHeap, Reset, Merge, Flush, UncountInstance, ValidateComponent, CountComponent, UncountComponent, Purge, Release}
-use Rattle.pool_alloc.specs.declared.frame.Grant.TheVariants.{Component, Stack, Heap}
+use Rattle.pool_alloc.specs.declared.frame.Grant.TheVariants.{Component, Memory as memory_granted, Table as table_granted, Stack, Heap}
+use Rattle.pool_alloc.specs.declared.frame.Asked.{Asked}
+use Rattle.pool_alloc.specs.declared.frame.Asked.TheVariants.{Memory as memory_asked, Table as table_asked}
 use Rattle.pool_alloc.specs.declared.frame.Ending.{Ending}
 use Rattle.pool_alloc.specs.declared.frame.Ending.TheVariants.{Refused as refused}
 use Rattle.pool_alloc.specs.declared.frame.Object.{Object}
@@ -308,18 +310,31 @@ module _ {P H : Type 0} where
   abbrev pub make_table_row : Result Bool LimiterError → TakenSlot → Told → PoolCore P H → Frame P H → Row (PoolCore P H) P H
   make_table_row given at region c f = was_made_table at region (table_made c.settings (tables_wanted f.asked) (length f.objects.tables.items) given at region) c f
 
-  -- The object is granted. The search for the next one's slot begins anew; a stack is all that its call asks for.
+  -- A memory that is granted is kept with what was granted before, and the search for the next object's slot begins anew. One that
+  -- was asked for by itself isn't kept.
+  abbrev pub memory_kept : Asked → Lease → Frame P H → Frame P H
+  memory_kept (memory_asked m) lease f = f
+  memory_kept _ lease f = record f { objects = record f.objects { memories = with_item lease f.objects.memories }; queues = 0 }
+
+  -- Its call ends with it then.
+  abbrev pub memory_turn : Asked → Lease → Turn P H
+  memory_turn (memory_asked m) lease = ends (answer.Granted (memory_granted lease))
+  memory_turn _ lease = next
+
+  -- A table that is granted is kept, likewise.
+  abbrev pub table_kept : Asked → LeasedTable → Frame P H → Frame P H
+  table_kept (table_asked ty) lease f = f
+  table_kept _ lease f = record f { objects = record f.objects { tables = with_item lease f.objects.tables }; queues = 0 }
+
+  -- The call ends with a table that was asked for by itself.
+  abbrev pub table_turn : Asked → LeasedTable → Turn P H
+  table_turn (table_asked ty) lease = ends (answer.Granted (table_granted lease))
+  table_turn _ lease = next
+
+  -- The object is granted. A stack is all that its call asks for.
   abbrev pub count_object_row : Object P → PoolCore P H → Frame P H → Row (PoolCore P H) P H
-  count_object_row (object.Memory lease) c f = record {
-    part = counting_memories (c.counters.memories + 1) c;
-    frame = record f { objects = record f.objects { memories = with_item lease f.objects.memories }; queues = 0 };
-    turn = next;
-  }
-  count_object_row (object.Table lease) c f = record {
-    part = counting_tables (c.counters.tables + 1) c;
-    frame = record f { objects = record f.objects { tables = with_item lease f.objects.tables }; queues = 0 };
-    turn = next;
-  }
+  count_object_row (object.Memory lease) c f = record { part = counting_memories (c.counters.memories + 1) c; frame = memory_kept f.asked lease f; turn = memory_turn f.asked lease }
+  count_object_row (object.Table lease) c f = record { part = counting_tables (c.counters.tables + 1) c; frame = table_kept f.asked lease f; turn = table_turn f.asked lease }
   count_object_row (object.Stack lease) c f = record { part = counting_stacks (c.counters.stacks + 1) c; frame = f; turn = ends (answer.Granted (Stack lease)) }
 
   -- The maker of heaps was asked: its heap is counted next, or the call fails for its reason and the slot goes back

@@ -3,7 +3,9 @@ use Rattle.std.specs.Prelude.{◌≡◌, ◌⊎◌, ℕ, ◌+◌, ◌^◌, ◌<�
 use Rattle.pool_alloc.specs.Imports.{MakerTold, Exchange, ShardState, CellState, HeapEntry, SlotName, Queue, memory_kind, table_kind, stack_kind, heap_kind}
 use Rattle.pool_alloc.specs.PartyTold.{PartyTold}
 use Rattle.pool_alloc.specs.StepReads.{StepGiven, with_shard, with_cell, with_queue, counting_keys, counting_instances, counting_memories, counting_tables, counting_stacks, counting_heaps, counting_components, with_heaps}
+use Rattle.pool_alloc.specs.Leases.{slot_taken}
 use Rattle.pool_alloc.specs.StackLeases.{stack_taken}
+use Rattle.pool_alloc.specs.TableLeases.{table_taken}
 use Rattle.pool_alloc.specs.Turns.{After}
 use Rattle.pool_alloc.specs.StepTable.{row}
 use Rattle.pool_alloc.specs.PageCallAnswers.{MayBeTold, IsPlanned, AsksOf, MakesOf, LimiterHears}
@@ -15,7 +17,7 @@ use Rattle.pool_alloc.specs.declared.frame.Frame.{Frame}
 use Rattle.pool_alloc.specs.declared.frame.Phase.{Phase}
 use Rattle.pool_alloc.specs.declared.frame.Phase.TheVariants.{Idle, MakeHeap}
 use Rattle.pool_alloc.specs.declared.frame.Grant.{Grant}
-use Rattle.pool_alloc.specs.declared.frame.Grant.TheVariants.{Instance, Stack, Heap, Component}
+use Rattle.pool_alloc.specs.declared.frame.Grant.TheVariants.{Instance, Memory, Table, Stack, Heap, Component}
 use Rattle.pool_alloc.specs.declared.frame.Outcome.{Outcome}
 use Rattle.pool_alloc.specs.declared.frame.Outcome.TheVariants.{Key, Granted, Returned, Purged, Released, Refused}
 
@@ -28,6 +30,8 @@ module _ {P H : Type 0} where
   abbrev pub grant_count : Thing → Grant P H → ℕ
   grant_count t (Instance lease) = instance_count t lease
   grant_count t Component = 0
+  grant_count t (Memory lease) = taken_count t (slot_taken lease)
+  grant_count t (Table lease) = taken_count t (table_taken lease)
   grant_count t (Stack lease) = taken_count t (stack_taken lease)
   grant_count t (Heap lease memory) = heap_count t lease memory
 
@@ -35,6 +39,8 @@ module _ {P H : Type 0} where
   abbrev pub grant_counted : Counts → Grant P H → ℕ
   grant_counted n (Instance lease) = n counted_instance + instance_counted n lease
   grant_counted n Component = n counted_component
+  grant_counted n (Memory lease) = n (counted_object memory_kind)
+  grant_counted n (Table lease) = n (counted_object table_kind)
   grant_counted n (Stack lease) = n (counted_object stack_kind)
   grant_counted n (Heap lease memory) = n (counted_object heap_kind) + n (counted_object memory_kind)
 

@@ -1,10 +1,11 @@
 -- Tables that were granted, and how their leases are changed.
-use Rattle.std.specs.Prelude.{◌≡◌, ℕ, ◌+◌, ◌<◌, ◌≤◌, slice_get, Option, Some, IfSome, is_ok, Result, Ok, Err}
-use Rattle.pool_alloc.specs.Imports.{Told, LimiterTold, Exchange, GrowFault, Trap, TableOutOfBounds, RegionNumbers, SlotName, uninitialised, func, gc_ref, cont, type_of, TableGrowsAsking, StoreTold, StoreCall, StoredFill, stored_answer, table_view, element_type_of, IsStatic, IsTable, TableView, FillsTable, LiesThere, state_in, GcTableError}
+use Rattle.std.specs.Prelude.{◌≡◌, ℕ, ◌+◌, ◌<◌, ◌≤◌, slice_get, Option, Some, None, IfSome, is_ok, Result, Ok, Err}
+use Rattle.pool_alloc.specs.Imports.{TableType, Told, LimiterTold, Exchange, GrowFault, Trap, TableOutOfBounds, RegionNumbers, SlotName, uninitialised, func, gc_ref, cont, type_of, TableGrowsAsking, StoreTold, StoreCall, StoredFill, stored_answer, table_view, element_type_of, IsStatic, IsTable, TableView, FillsTable, LiesThere, state_in, GcTableError}
 use Rattle.pool_hall.specs.declared.unit_name.SlotKind.TheVariants as slot_kind
 use Rattle.pool_table.specs.Elements as elem
 use Rattle.pool_table.specs.declared.gc_store.GcTableError.TheVariants as failed
 use Rattle.pool_table.specs.declared.table.Table.{Table}
+use Rattle.pool_types.specs.declared.module_types.IndexType.TheVariants.{I32}
 use Rattle.pool_alloc.specs.declared.frame.TakenSlot.{TakenSlot}
 use Rattle.pool_alloc.specs.declared.leases.element.Element.{Element}
 use Rattle.pool_alloc.specs.declared.leases.element.Element.TheVariants as item
@@ -22,6 +23,10 @@ table_slot slot = record { kind = slot_kind.Table; slot = slot }
 -- The slot of a table's lease, with the numbers of its region.
 abbrev pub table_taken : LeasedTable → TakenSlot
 table_taken l = record { name = table_slot l.index; numbers = l.numbers }
+
+-- The type of a table as it stands: it begins with as many elements as the table has.
+abbrev pub type_now : LeasedTable → TableType
+type_now l = record { idx_type = I32; limits = record { min = l.table.size; max = None }; element = type_of l.table.kind }
 
 -- its elements are of the type that its kind says
 abbrev pub HasType : {P : Type 0} → Table P → Type 0

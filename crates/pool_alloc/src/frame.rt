@@ -11,10 +11,11 @@ use crate::leases::table::TableLease;
 use crate::purge::{PurgeCursor, PurgeStep};
 use crate::release::ReleaseStep;
 use crate::reserved::ReservedList;
-use pool_images::{MemoryImageSlot, ModuleMemoryImages};
+use pool_images::{MemoryImage, MemoryImageSlot, ModuleMemoryImages};
+use pool_index::MemoryInModule;
 use pool_pages::{PageRegion, Pages};
 use pool_slots::{AllocError, DecommitQueue, GcHeap, ImageSlot, RegionNumbers, SlotName};
-use pool_types::{CompiledModuleId, ComponentInfo, MemoryType, ModuleInfo};
+use pool_types::{CompiledModuleId, ComponentInfo, MemoryType, ModuleInfo, TableType};
 use std::marker::Model;
 use std::sync::Arc;
 
@@ -38,12 +39,37 @@ impl Model for ModuleCall {
     ghost view = { λ m. record { info = arc_value m.info; images = option_map arc_value m.images; id = m.id } };
 }
 
+/// One memory that is asked for by itself. The image is one of it, at the page of the core's regions: it ends within the memory's
+/// minimum.
+#[derive(Drop)]
+pub struct MemoryCall {
+    pub ty: MemoryType,
+    pub image: Option<Arc<MemoryImage>>,
+    /// The memory of a compiled module that it is, where its slot may be affine to that.
+    pub affine: Option<MemoryInModule>,
+}
+
+impl Model for MemoryCall {
+    ghost use Rattle.pool_alloc.specs.PlainModules.{MemoryAsked};
+
+    ghost Value = { MemoryAsked };
+
+    ghost use Rattle.std.specs.Prelude.{option_map};
+    ghost use Rattle.std.specs.Arc.{arc_value};
+
+    ghost view = { λ m. record { ty = m.ty; image = option_map arc_value m.image; affine = m.affine } };
+}
+
 /// What a party holds after a call that was granted.
 #[derive(Drop)]
 pub enum Grant<P: Pages, H: GcHeap> {
     Instance(InstanceLease<P>),
     /// It holds nothing, and counts.
     Component,
+    /// A memory that was asked for by itself.
+    Memory(MemoryLease<P>),
+    /// A table, likewise.
+    Table(TableLease<P>),
     Stack(StackLease<P>),
     /// A heap, and the memory that it lies in.
     Heap(HeapLease<H>, MemoryLease<P>),
@@ -58,6 +84,10 @@ pub enum Call<P: Pages, H: GcHeap> {
     Module(ModuleCall),
     /// Counts a component, where it breaks no rule.
     Component(ComponentInfo),
+    /// Asks for a memory by itself. Whoever asks has found that no rule refuses its type: that isn't tested again.
+    Memory(MemoryCall),
+    /// Asks for a table by itself, whose minimum its type allows. One that is longer than the pool's tables is refused when it is made.
+    Table(TableType),
     /// Asks for a fiber's stack.
     Stack,
     /// Asks for a heap of a garbage collector, with a memory of this type.
@@ -82,12 +112,14 @@ pub enum Outcome<P: Pages, H: GcHeap> {
     Refused(AllocError),
 }
 
-/// What a call is about: what it asks for, or the stack or the heap that it gives back.
+/// What a call is about: what it asks for, or the object that it gives back by itself.
 #[derive(Drop)]
 pub enum Asked {
     /// An instance is given back, or nothing is asked for.
     Nothing,
     Module(ModuleCall),
+    Memory(MemoryCall),
+    Table(TableType),
     Stack,
     /// A heap with a memory of this type.
     Heap(MemoryType),

@@ -65,7 +65,8 @@ mod instance_allocator;
 
 pub use counters::CounterName;
 pub use frame::{
-    Asked, Call, Frame, FrameLists, Grant, ModuleCall, Object, Outcome, Phase, TakenSlot,
+    Asked, Call, Frame, FrameLists, Grant, MemoryCall, ModuleCall, Object, Outcome, Phase,
+    TakenSlot,
 };
 pub use instance_allocator::InstanceAllocator;
 pub use instance_allocator::request::InstanceAllocationRequest;

@@ -86,8 +86,8 @@ fn asked_refused<P: Pages, H: GcHeap>(
     ensures { result ≡ module_refused settings.now plan.now.totals.table (info_wanted frame.now.asked) }
 {
     match &frame.asked {
-        Asked::Nothing | Asked::Stack | Asked::Heap(_) => None,
         Asked::Module(call) => module_refused(settings, plan.totals.table, &call.info),
+        _ => None,
     }
 }
 

@@ -1,6 +1,6 @@
 -- The first step of a command, and each turn, as the party sees it.
 use Rattle.std.proofs.Common.{◌≡◌, ℕ, ◌+◌, ◌<◌, ◌≤◌, Bool, true, false, List, [], length, map, Option, Some, None, refl, sym, ap, ◌∙◌, subst, inl, inr, arith, IfSome, IsSome, option_map, slice_get, slice_set, slice_index_or}
-use Rattle.pool_run.proofs.Imports.{map-set, slice_get_within, PlainHeap, objects_in, IsIdle, begun_call, is_idle, PoolCore, Frame, ModuleAsked, Grant, Phase, Stage, no_call, stage_at, stage_of, LeasedTable, instance, component, stack, heap, ListedStore, LeasedStack, option_and_then}
+use Rattle.pool_run.proofs.Imports.{map-set, slice_get_within, PlainHeap, objects_in, IsIdle, begun_call, is_idle, PoolCore, Frame, ModuleAsked, Grant, Phase, Stage, no_call, stage_at, stage_of, LeasedTable, instance, component, one_memory, one_table, stack, heap, ListedStore, LeasedStack, option_and_then}
 use Rattle.pool_slots.specs.declared.errors.AllocError.TheVariants as alloc
 use Rattle.pool_alloc.specs.declared.frame.Call.TheVariants as call
 use Rattle.pool_run.specs.PartyRules.{rule_of}
@@ -22,7 +22,7 @@ use Rattle.pool_run.proofs.Turning.{SeesTurn, replied, step_private}
 use Rattle.pool_run.specs.Acts.{MemoryOp, TableOp, gets, sets, lengthens, asks_length, Act, requests, on_memory, on_table, drops, purges, releases, act_of, act_at, Wanted, an_instance, a_component, a_stack, a_heap, heap_type}
 use Rattle.pool_run.specs.Objects.{object_at, with_object, MovesNamed, MovesObject}
 use Rattle.pool_run.proofs.Opened.{idle_is, IsStep, still_alone, drops_opened, module_opened, plain_opened, step_opened}
-use Rattle.pool_run.proofs.SlotKinds.{tables_seen_of, stacks_seen_of}
+use Rattle.pool_run.proofs.SlotKinds.{tables_named_of, stacks_seen_of}
 use Rattle.pool_run.proofs.StackMoves.{stack_op_seen}
 use Rattle.pool_run.specs.PrivateStacks.{StackMoves}
 use Rattle.pool_run.proofs.Operations.{SeesMove, op_seen, named_moves, named_tells, memories_seen}
@@ -54,16 +54,20 @@ any_maker asks_length host unmade t new reply moves = moves
 changed_table : {P : Type 0} (k : ℕ) (l : LeasedTable) (g : Grant P PlainHeap) → private_grant (table_leases.put_in k l g) ≡ private_tables.put_in k (private_table l) (private_grant g)
 changed_table k l (instance lease) = ap (λ (ts : List PrivateTable). instance_grant (record { memories = map private_memory lease.memories.items; tables = ts })) (map-set private_table lease.tables.items k l)
 changed_table k l component = refl
+changed_table k l (one_memory lease) = refl
+changed_table k l (one_table lease) = refl
 changed_table k l (stack lease) = refl
 changed_table k l (heap lease memory) = refl
 
 tables_seen_by : (P : Type 0) → AreSeen (table_leases {P = P}) private_tables private_grant private_table
-tables_seen_by P = record { same = tables_seen_of; changed = changed_table }
+tables_seen_by P = record { same = tables_named_of; changed = changed_table }
 
 -- The party sees its stacks by their leases.
 changed_stack : {P : Type 0} (k : ℕ) (l : LeasedStack) (g : Grant P PlainHeap) → private_grant (stack_leases.put_in k l g) ≡ private_stacks.put_in k (private_stack l) (private_grant g)
 changed_stack k l (instance lease) = refl
 changed_stack k l component = refl
+changed_stack k l (one_memory lease) = refl
+changed_stack k l (one_table lease) = refl
 changed_stack k l (stack lease) = refl
 changed_stack k l (heap lease memory) = refl
 
@@ -151,6 +155,8 @@ module _ {P : Type 0} (w : World) (start : Grants) (commands : List Command) (be
     bytes_move None op of k live reply is = named_moves w op (object_at private_memories of k private.told.grants) (with_object private_memories of k) private.told.grants (grants_of live) reply (memory_moves op of k live reply is)
     bytes_move (Some (instance lease)) op of k live reply is = named_moves w op (object_at private_memories of k private.told.grants) (with_object private_memories of k) private.told.grants (grants_of live) reply (memory_moves op of k live reply is)
     bytes_move (Some component) op of k live reply is = named_moves w op (object_at private_memories of k private.told.grants) (with_object private_memories of k) private.told.grants (grants_of live) reply (memory_moves op of k live reply is)
+    bytes_move (Some (one_table lease)) op of k live reply is = named_moves w op (object_at private_memories of k private.told.grants) (with_object private_memories of k) private.told.grants (grants_of live) reply (memory_moves op of k live reply is)
+    bytes_move (Some (one_memory lease)) op of k live reply is = named_moves w op (object_at private_memories of k private.told.grants) (with_object private_memories of k) private.told.grants (grants_of live) reply (memory_moves op of k live reply is)
     bytes_move (Some (heap lease memory)) op of k live reply is = named_moves w op (object_at private_memories of k private.told.grants) (with_object private_memories of k) private.told.grants (grants_of live) reply (memory_moves op of k live reply is)
     bytes_move (Some (stack lease)) op of k live reply is = stack_moves op of k live reply is
 
@@ -162,6 +168,8 @@ module _ {P : Type 0} (w : World) (start : Grants) (commands : List Command) (be
     bytes_tell None op of k live reply there is = named_tells w op (object_at private_memories of k private.told.grants) (with_object private_memories of k) private.told.grants (grants_of live) reply (memory_moves op of k live reply is)
     bytes_tell (Some (instance lease)) op of k live reply there is = named_tells w op (object_at private_memories of k private.told.grants) (with_object private_memories of k) private.told.grants (grants_of live) reply (memory_moves op of k live reply is)
     bytes_tell (Some component) op of k live reply there is = named_tells w op (object_at private_memories of k private.told.grants) (with_object private_memories of k) private.told.grants (grants_of live) reply (memory_moves op of k live reply is)
+    bytes_tell (Some (one_table lease)) op of k live reply there is = named_tells w op (object_at private_memories of k private.told.grants) (with_object private_memories of k) private.told.grants (grants_of live) reply (memory_moves op of k live reply is)
+    bytes_tell (Some (one_memory lease)) op of k live reply there is = named_tells w op (object_at private_memories of k private.told.grants) (with_object private_memories of k) private.told.grants (grants_of live) reply (memory_moves op of k live reply is)
     bytes_tell (Some (heap lease memory)) op of k live reply there is = named_tells w op (object_at private_memories of k private.told.grants) (with_object private_memories of k) private.told.grants (grants_of live) reply (memory_moves op of k live reply is)
     bytes_tell (Some (stack lease)) op of k live reply there is =
         let none : object_at private_memories of k private.told.grants ≡ None = ap (λ (x : Option PrivateGrant). option_and_then (λ g. slice_get (private_memories.in_grant g) k) x) there in

@@ -1,6 +1,6 @@
 -- A command on the bytes of a grant, which is taken out of its place and put back; and a command on a stack.
 use Rattle.std.proofs.Common.{◌≡◌, ℕ, zero, suc, ◌+◌, ◌≤◌, true, List, [], ◌∷◌, ◌++◌, take, length, Option, Some, None, refl, sym, ap, ◌∙◌, subst, arith, IfSome, nat_le, option_map, slice_get, slice_set, slice_index_or, slice_range}
-use Rattle.pool_run.proofs.Imports.{option_and_then, take-append_seam, leb-true, set-get_or, same_lists, places, GrowthRule, Contents, Slot, StackState, Lease, LeasedHeap, LeasedStack, Grant, instance, component, stack, heap, PlainHeap}
+use Rattle.pool_run.proofs.Imports.{option_and_then, take-append_seam, leb-true, set-get_or, same_lists, places, GrowthRule, Contents, Slot, StackState, Lease, LeasedHeap, LeasedStack, Grant, instance, component, one_memory, one_table, stack, heap, PlainHeap}
 use Rattle.pool_run.specs.Acts.{MemoryOp}
 use Rattle.pool_run.specs.AtOnce.{MovesGrantBytes, MovesOnly, MovesTakenBytes}
 use Rattle.pool_run.specs.Objects.{MovesNamed, object_at, with_object}
@@ -31,6 +31,8 @@ module _ {P : Type 0} (op : MemoryOp) (rule : GrowthRule) (of k : ℕ) where
   taken_bytes : (live empty new : List (Option (Grant P PlainHeap))) (reply : Reply) (grant : Grant P PlainHeap) → slice_index_or live of None ≡ Some grant → empty ≡ slice_set live of None → MovesTakenBytes op rule of k grant empty reply new → MovesLeasedBytes op rule (Some grant) of k live reply new
   taken_bytes live empty new reply (instance lease) has taken is = taken_moved memory_leases (LeaseMoves op rule) of k live empty new reply (instance lease) has taken is
   taken_bytes live empty new reply component has taken is = taken_moved memory_leases (LeaseMoves op rule) of k live empty new reply component has taken is
+  taken_bytes live empty new reply (one_table lease) has taken is = taken_moved memory_leases (LeaseMoves op rule) of k live empty new reply (one_table lease) has taken is
+  taken_bytes live empty new reply (one_memory lease) has taken is = taken_moved memory_leases (LeaseMoves op rule) of k live empty new reply (one_memory lease) has taken is
   taken_bytes live empty new reply (heap lease memory) has taken is = taken_moved memory_leases (LeaseMoves op rule) of k live empty new reply (heap lease memory) has taken is
   taken_bytes live empty new reply (stack lease) has taken is = taken_moved stack_leases (StackLeaseMoves op) of k live empty new reply (stack lease) has taken is
 
@@ -51,6 +53,8 @@ module _ {P : Type 0} (op : MemoryOp) (rule : GrowthRule) (of k : ℕ) where
   pub bytes_back : (live new : List (Option (Grant P PlainHeap))) (reply : Reply) (grant changed : Grant P PlainHeap) → new ≡ slice_set live of (Some changed) → MovesGrantBytes op rule k grant reply changed → MovesTakenBytes op rule of k grant live reply new
   bytes_back live new reply (instance lease) changed put is = put_back memory_leases (LeaseMoves op rule) of k live new reply (instance lease) changed put is
   bytes_back live new reply component changed put is = put_back memory_leases (LeaseMoves op rule) of k live new reply component changed put is
+  bytes_back live new reply (one_table lease) changed put is = put_back memory_leases (LeaseMoves op rule) of k live new reply (one_table lease) changed put is
+  bytes_back live new reply (one_memory lease) changed put is = put_back memory_leases (LeaseMoves op rule) of k live new reply (one_memory lease) changed put is
   bytes_back live new reply (heap lease memory) changed put is = put_back memory_leases (LeaseMoves op rule) of k live new reply (heap lease memory) changed put (heap_moved k lease memory is.0 reply changed is.1 is.2)
   bytes_back live new reply (stack lease) changed put is = put_back stack_leases (StackLeaseMoves op) of k live new reply (stack lease) changed put (grant_moved k lease is.0 reply changed is.1 is.2)
 

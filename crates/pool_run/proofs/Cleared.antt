@@ -1,6 +1,6 @@
 -- A call that ends leaves nothing of itself in its frame.
 use Rattle.std.proofs.Common.{◌≡◌, ℕ, Bool, true, false, List, [], ◌∷◌, refl, sym, ap, ◌∙◌, is_some, nat_lt, if◌then◌else◌}
-use Rattle.pool_run.proofs.Imports.{objects_in, objects_wanted, Asked, nothing_asked, module_asked, stack_asked, heap_asked, Lease, LeasedTable, is_idle, Turn, goes, ends, next, flush, search, stays, Row, Left, failing, all_returned, returned_next, granted_next, next_by, is_flushed, after, stepped, Ending, granted, returned, refused, Frame, Phase, Idle, PoolCore, PlainHeap}
+use Rattle.pool_run.proofs.Imports.{objects_in, objects_wanted, Asked, nothing_asked, module_asked, stack_asked, memory_asked, table_asked, heap_asked, Lease, LeasedTable, is_idle, Turn, goes, ends, next, flush, search, stays, Row, Left, failing, all_returned, returned_next, granted_next, next_by, is_flushed, after, stepped, Ending, granted, returned, refused, Frame, Phase, Idle, PoolCore, PlainHeap}
 
 -- nothing is left of a call
 pub record IsClear (asked : Asked) (ending : Ending) (queues : ℕ) : Type 0 where
@@ -22,6 +22,8 @@ module _ {P : Type 0} where
   either_clear false x y one other = other
 
   all_clear : (asked : Asked) (f : Frame P PlainHeap) → IsClearLeft (all_returned asked f)
+  all_clear (memory_asked m) f = λ e. record { asked_for = refl; aim = refl; none_taken = refl }
+  all_clear (table_asked ty) f = λ e. record { asked_for = refl; aim = refl; none_taken = refl }
   all_clear stack_asked f = λ e. record { asked_for = refl; aim = refl; none_taken = refl }
   all_clear nothing_asked f = λ e. absurd cc
   all_clear (module_asked m) f = λ e. absurd cc

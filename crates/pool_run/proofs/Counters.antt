@@ -1,7 +1,7 @@
 -- No counter of a run comes to its end: there are no more instances and components than commands, and no more memories than
 -- slots.
 use Rattle.std.proofs.Common.{◌≡◌, ℕ, ◌+◌, ◌^◌, ◌<◌, ◌≤◌, List, length, Option, Some, None, refl, inl, inr, arith, sum_by, ◌-◌, ap, ◌*◌}
-use Rattle.pool_run.proofs.Imports.{cases_eq, Frame, sum_by-le-sum_by, MakerTold, of_kind, cell_place, Plan, SlotName, PlainHeap, Lease, memory_slot, slot_taken, instances_for, taken_count, right_to, instance_count, phase_count, phase_instances, IsPoolPlan, IsSlotName, grant_stacks, grant_heaps, CanCount, grant_count, grant_instances, grant_components, grant_memories, grant_tables, memory_slots, LeasedStack, stack_slot, Asked, stack_asked, heap_asked, LeasedTable, table_slot, PoolCore, Grant, instance, component, stack, heap, Phase, Idle, UncountObject, UncountComponent, UncountHeap, PutHeap, FreeHeap, InstanceLease, below, below_sum, below_most, cell_inside, Counts, counted_component, counted_instance, counted_object, counters_counted, frame_counted, instance_counted, number_counted, of_counts, of_units, only, phase_counted, grant_counted, memory_kind, table_kind, stack_kind, heap_kind, SlotKind, frame_instances}
+use Rattle.pool_run.proofs.Imports.{cases_eq, Frame, sum_by-le-sum_by, MakerTold, of_kind, cell_place, Plan, SlotName, PlainHeap, Lease, memory_slot, slot_taken, instances_for, taken_count, right_to, instance_count, phase_count, phase_instances, IsPoolPlan, IsSlotName, grant_stacks, grant_heaps, CanCount, grant_count, grant_instances, grant_components, grant_memories, grant_tables, memory_slots, LeasedStack, stack_slot, Asked, stack_asked, memory_asked, table_asked, heap_asked, LeasedTable, table_slot, PoolCore, Grant, instance, component, one_memory, one_table, stack, heap, Phase, Idle, UncountObject, UncountComponent, UncountHeap, PutHeap, FreeHeap, InstanceLease, below, below_sum, below_most, cell_inside, Counts, counted_component, counted_instance, counted_object, counters_counted, frame_counted, instance_counted, number_counted, of_counts, of_units, only, phase_counted, grant_counted, memory_kind, table_kind, stack_kind, heap_kind, SlotKind, frame_instances}
 use Rattle.pool_alloc.specs.declared.frame.Object.TheVariants as object
 use Rattle.pool_run.specs.Ties.{granted_to, held_by_party, IsRunning}
 use Rattle.pool_run.specs.Turns.{stack_of, leases_of, tables_of}
@@ -22,6 +22,8 @@ few_slots plan places total named is names past =
     ]
 
 few_for : (asked : Asked) → instances_for asked ≤ 1
+few_for (memory_asked m) = omega arith
+few_for (table_asked ty) = omega arith
 few_for stack_asked = omega arith
 few_for (heap_asked ty) = omega arith
 few_for _ = omega arith
@@ -154,18 +156,24 @@ module _ {P : Type 0} where
   one_instance : (g : Grant P PlainHeap) → grant_instances g ≤ 1
   one_instance (instance lease) = omega arith
   one_instance component = omega arith
+  one_instance (one_memory lease) = omega arith
+  one_instance (one_table lease) = omega arith
   one_instance (stack lease) = omega arith
   one_instance (heap lease memory) = omega arith
 
   one_component : (g : Grant P PlainHeap) → grant_components g ≤ 1
   one_component (instance lease) = omega arith
   one_component component = omega arith
+  one_component (one_memory lease) = omega arith
+  one_component (one_table lease) = omega arith
   one_component (stack lease) = omega arith
   one_component (heap lease memory) = omega arith
 
   one_heap : (g : Grant P PlainHeap) → grant_heaps g ≤ 1
   one_heap (instance lease) = omega arith
   one_heap component = omega arith
+  one_heap (one_memory lease) = omega arith
+  one_heap (one_table lease) = omega arith
   one_heap (stack lease) = omega arith
   one_heap (heap lease memory) = omega arith
 

@@ -1,7 +1,7 @@
 -- The slots of a kind that a grant and live grants have: where the pool has none left and the party is alone, all are with
 -- these; and there are no more of these than slots.
 use Rattle.std.proofs.Common.{◌≡◌, ℕ, ◌+◌, ◌*◌, ◌<◌, ◌≤◌, List, [], ◌∷◌, length, map, Option, Some, None, refl, sym, ap, ◌∙◌, arith, sum_by}
-use Rattle.pool_run.proofs.Imports.{length-map, sum_by-cons, RegionNumbers, SlotName, PlainHeap, right_to, slot_count, grant_count, grant_instances, grant_components, Grant, instance, component, stack, heap, below}
+use Rattle.pool_run.proofs.Imports.{length-map, sum_by-cons, RegionNumbers, SlotName, PlainHeap, right_to, slot_count, grant_count, grant_instances, grant_components, Grant, instance, component, one_memory, one_table, stack, heap, below}
 use Rattle.pool_run.specs.Private.{PrivateGrant, Grants}
 use Rattle.pool_run.specs.Rooms as rooms
 use Rattle.pool_run.specs.Rooms.{instances_in, components_in, component_count}
@@ -80,12 +80,16 @@ module _ {P : Type 0} where
   one_instance : (g : Grant P PlainHeap) → instances_in (Some (private_grant g)) ≡ grant_instances g
   one_instance (instance lease) = omega arith
   one_instance component = refl
+  one_instance (one_memory lease) = refl
+  one_instance (one_table lease) = refl
   one_instance (stack lease) = refl
   one_instance (heap lease memory) = refl
 
   one_component : (g : Grant P PlainHeap) → components_in (Some (private_grant g)) ≡ grant_components g
   one_component (instance lease) = omega arith
   one_component component = refl
+  one_component (one_memory lease) = refl
+  one_component (one_table lease) = refl
   one_component (stack lease) = refl
   one_component (heap lease memory) = refl
 

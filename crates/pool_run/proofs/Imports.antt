@@ -12,7 +12,7 @@ pub use Rattle.std.proofs.lemmas.Option.{get_or_from_slice_get, same_Some, slice
 pub use Rattle.std.specs.List.{AllByRecursion, AllZip, concat, list_all, list_any, range_with_len, slice_get}
 pub use Rattle.std.specs.Option.{option_and_then, option_map_or, option_or}
 pub use Rattle.std.specs.Vec.Iter.{into_iter_items}
-pub use Rattle.pool_alloc.proofs.BeforeTheTurn.{frame_of, held_of}
+pub use Rattle.pool_alloc.proofs.BeforeTheTurn.{frame_of, held_of, kept_of}
 pub use Rattle.pool_alloc.proofs.BegunFrames.{at_rest, begun_bounded, begun_frame, begun_weight, call_has, idle_left, made_frame, made_weight, steps_left_same}
 pub use Rattle.pool_alloc.proofs.KeptCounts.{out_once}
 pub use Rattle.pool_alloc.proofs.MadePools.{made_core, made_untouched}
@@ -48,11 +48,11 @@ pub use Rattle.pool_alloc.specs.Purges.{after_forgetting, has_turns, known_after
 pub use Rattle.pool_alloc.specs.Refusals.{component_refused, heap_refused, module_refused, type_refused}
 pub use Rattle.pool_alloc.specs.Releases.{after_decommit, release_row, reserve_row}
 pub use Rattle.pool_alloc.specs.Reserved.{Reserved, no_room}
-pub use Rattle.pool_alloc.specs.StepTable.{FlushStep, component_counted, component_tested, counted, flush_row, flush_step, free, heap_granted, heaps_tested, kind_settled, make_heap_row, make_memory_row, make_table_row, merged, no_component_left, paged, put, put_first, row_of, run, settled_step, some_queued, stacks_tested, validated, was_made, was_made_table, was_reset, zero, zero as zero_by_hand}
+pub use Rattle.pool_alloc.specs.StepTable.{memory_kept, table_kept, FlushStep, component_counted, component_tested, counted, flush_row, flush_step, free, heap_granted, heaps_tested, kind_settled, make_heap_row, make_memory_row, make_table_row, merged, no_component_left, paged, put, put_first, row_of, run, settled_step, some_queued, stacks_tested, validated, was_made, was_made_table, was_reset, zero, zero as zero_by_hand}
 pub use Rattle.pool_alloc.specs.Searches.{IsSearched, IsSearchedAt}
 pub use Rattle.pool_alloc.specs.BetweenSteps.{AreBegun, AreImagesOf, AreLeasesOf, AreSupported, HasSlot, IsAllocating, IsCore, IsDraining, IsEnabled, IsFrame, IsHeapNext, IsLeaseOf, IsLocal, IsMemoryNext, IsNew, IsPartAt, IsPartFor, IsPoolPlan, IsPoolSlot, IsQueuedOf, IsShapedAt, IsSlotName, IsSupported, IsTableNext, MayBeRanged, MayHold, MayQueue, MustBeByHand}
 pub use Rattle.pool_alloc.specs.StackLeases.{LeasedStack, stack_slot, stack_taken}
-pub use Rattle.pool_alloc.specs.CallStages.{FailsHeap, FindsNone, Follows, Goes, GoesOn, HasHeap, IsBroken, IsHeapTested, IsHeapUntested, IsPageFaulted, IsUntested, Makes, MakesTable, Progress, Raises, SeeksHeap, Stage, admitted, asks, counts_component, counts_heap, keys, no_call, purging, refusing, releasing, reserving, returning, seeks_heap, seeks_stack, stage_at, stage_back, stage_by, stage_of, stage_of_release, tests_component, tests_heap, uncounted, untested}
+pub use Rattle.pool_alloc.specs.CallStages.{FailsHeap, FindsNone, Follows, Goes, GoesOn, HasHeap, IsBroken, IsHeapTested, IsHeapUntested, IsPageFaulted, IsUntested, Makes, MakesTable, Progress, Raises, SeeksHeap, Stage, admitted, asks, counts_component, counts_heap, keys, no_call, purging, refusing, releasing, reserving, returning, seeks_heap, seeks_single, seeks_stack, stage_at, stage_back, stage_by, stage_of, stage_of_release, tests_component, tests_heap, uncounted, untested}
 pub use Rattle.pool_alloc.specs.Stepping.{CanCount, CanStep, Conserves, IsSameSize, StepsTo, count_granted, grant_components, grant_count, grant_counted, grant_heaps, grant_instances, grant_memories, grant_stacks, grant_tables, grant_weight, is_idle}
 pub use Rattle.pool_alloc.specs.StepReads.{IsForInstance, IsHeapAsked, IsModule, StepGiven, allocator_for, allocator_of, heaps_wanted, image_wanted, images_made, images_wanted, info_wanted, kind_by, kind_next, memories_wanted, memory_slots, no_allocator, no_module, plain_decl, queue_in, shard_at, shard_in, stripe_allocator, tables_wanted}
 pub use Rattle.pool_alloc.specs.PoolTotals.{calls_kept, metrics_of}
@@ -62,7 +62,7 @@ pub use Rattle.pool_alloc.specs.Turns.{After, Left, Row, Turn, after, all_return
 pub use Rattle.pool_alloc.specs.WantedObjects.{MemoryWant, Want, new_heap, new_memory, new_stack, new_table, wants_from}
 pub use Rattle.pool_alloc.specs.PoolAndHolders.{HasSlots, IsPartitioned, IsUntouched}
 pub use Rattle.pool_alloc.specs.declared.frame.Asked.{Asked}
-pub use Rattle.pool_alloc.specs.declared.frame.Asked.TheVariants.{Heap as heap_asked, Module as module_asked, Nothing as nothing_asked, Stack as stack_asked}
+pub use Rattle.pool_alloc.specs.declared.frame.Asked.TheVariants.{Heap as heap_asked, Memory as memory_asked, Module as module_asked, Nothing as nothing_asked, Stack as stack_asked, Table as table_asked}
 pub use Rattle.pool_alloc.specs.declared.frame.Call.{Call}
 pub use Rattle.pool_alloc.specs.declared.frame.Ending.{Ending}
 pub use Rattle.pool_alloc.specs.declared.frame.Ending.TheVariants.{Granted as granted, Refused as refused, Returned as returned}
@@ -70,7 +70,7 @@ pub use Rattle.pool_alloc.specs.declared.frame.Frame.{Frame}
 pub use Rattle.pool_alloc.specs.declared.frame.FrameLists.{FrameLists}
 pub use Rattle.pool_alloc.specs.declared.frame.FreedSlot.{FreedSlot}
 pub use Rattle.pool_alloc.specs.declared.frame.Grant.{Grant}
-pub use Rattle.pool_alloc.specs.declared.frame.Grant.TheVariants.{Component as component, Heap as heap, Instance as instance, Stack as stack}
+pub use Rattle.pool_alloc.specs.declared.frame.Grant.TheVariants.{Component as component, Heap as heap, Instance as instance, Memory as one_memory, Stack as stack, Table as one_table}
 pub use Rattle.pool_alloc.specs.declared.frame.ModuleCall.{ModuleCall}
 pub use Rattle.pool_alloc.specs.declared.frame.Outcome.{Outcome}
 pub use Rattle.pool_alloc.specs.declared.frame.Phase.{Phase}

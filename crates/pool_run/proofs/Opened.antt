@@ -1,6 +1,6 @@
 -- What a turn opens with: the party has as much of the pool, and where a call is to make its next step, that can be made.
 use Rattle.std.proofs.Common.{zero, suc, ◌≡◌, ◌≢◌, ℕ, ◌<◌, ◌≤◌, All, Bool, true, false, List, length, get_or, Option, Some, None, refl, sym, ap, ◌∙◌, subst, inl, inr, arith, ◌∷◌, [], IfSome, slice_get, slice_set, slice_index_or, sum_by, ◌*◌}
-use Rattle.pool_run.proofs.Imports.{TakenSlot, slice_get_within, get_or_from_slice_get, All-set, All-get_or, length-set, get_or-set_other, sum_by-set, MakerTold, IsIdle, IsGrant, begun_call, objects_in, IsTableLease, LeasedTable, table_taken, ListedStore, Lease, slot_taken, IsLeaseOf, Thing, taken_count, is_idle, grant_instances, grant_components, PoolCore, Call, Stage, asks, stage_of, admitted, Frame, Grant, instance, component, stack, heap, ModuleAsked, Phase, Idle, IsSearched, IsStackLease, LeasedHeap, LeasedStack, stack_taken, PlainHeap, Weight, counted_object, grant_weight, memory_kind, table_kind}
+use Rattle.pool_run.proofs.Imports.{TakenSlot, slice_get_within, get_or_from_slice_get, All-set, All-get_or, length-set, get_or-set_other, sum_by-set, MakerTold, IsIdle, IsGrant, begun_call, objects_in, IsTableLease, LeasedTable, table_taken, ListedStore, Lease, slot_taken, IsLeaseOf, Thing, taken_count, is_idle, grant_instances, grant_components, PoolCore, Call, Stage, asks, stage_of, admitted, Frame, Grant, instance, component, one_memory, one_table, stack, heap, ModuleAsked, Phase, Idle, IsSearched, IsStackLease, LeasedHeap, LeasedStack, stack_taken, PlainHeap, Weight, counted_object, grant_weight, memory_kind, table_kind}
 use Rattle.pool_alloc.specs.declared.frame.Call.TheVariants as call
 use Rattle.pool_run.specs.Acts.{MemoryOp, TableOp, Act, requests, on_memory, on_table, drops, purges, releases, act_of, Wanted, an_instance, a_component, a_stack, a_heap, heap_type}
 use Rattle.pool_run.specs.Limits.{admitted_at, admitted_to, live_components}
@@ -9,7 +9,7 @@ use Rattle.pool_run.specs.PartyRules.{rule_of}
 use Rattle.pool_run.specs.Private.{Terms}
 use Rattle.pool_run.proofs.Stripes.{begun_stripe}
 use Rattle.pool_run.proofs.StageSteps.{is_none, none_idle}
-use Rattle.pool_run.specs.Turns.{LeaseMoves, MovesTable, leases_of, tables_of, memory_leases, table_leases, with_lease, with_table_lease, Opening, rests, replies, makes_step, drop_opening, IsPlain, asks_grant, OpensRequest, OpensPurge, OpensAct, OpensNext, OpensAt, MovesLeasedBytes, StackLeaseMoves, stack_leases, stack_of, with_stack_lease, OpensWanted}
+use Rattle.pool_run.specs.Turns.{LeaseMoves, MovesTable, leases_named, tables_named, memory_leases, table_leases, with_lease, with_table_lease, Opening, rests, replies, makes_step, drop_opening, IsPlain, asks_grant, OpensRequest, OpensPurge, OpensAct, OpensNext, OpensAt, MovesLeasedBytes, StackLeaseMoves, stack_leases, stack_of, with_stack_lease, OpensWanted}
 use Rattle.pool_run.specs.Ties.{is_for_objects, granted_to, CanTurn, IsSoundParty, IsAlone}
 use Rattle.pool_run.specs.Worlds.{IsFit, IsCallFor, AreCallsFor}
 use Rattle.pool_run.specs.declared.command.Command.{Command}
@@ -66,21 +66,25 @@ heap_stays maker c zero lease memory old changed there same keeps =
 
 -- or of an instance.
 module _ {P : Type 0} (maker : MakerTold) (c : PoolCore P PlainHeap) (k : ℕ) where
-  memory_stays : (grant : Grant P PlainHeap) (old changed : Lease) → slice_get (leases_of grant) k ≡ Some old → slot_taken changed ≡ slot_taken old → (IsLeaseOf maker c.settings c.plan old → IsLeaseOf maker c.settings c.plan changed) → StaysGrant maker c grant (with_lease k changed grant)
+  memory_stays : (grant : Grant P PlainHeap) (old changed : Lease) → slice_get (leases_named grant) k ≡ Some old → slot_taken changed ≡ slot_taken old → (IsLeaseOf maker c.settings c.plan old → IsLeaseOf maker c.settings c.plan changed) → StaysGrant maker c grant (with_lease k changed grant)
   memory_stays (instance lease) old changed there same keeps = record {
     weighs = λ w. omega (arith, slots_same slot_taken w.unit k lease.memories.items old changed there same, ap (λ (n : ℕ). n * w.counts (counted_object memory_kind)) (length-set lease.memories.items k changed));
     sound = λ is. (all_still (IsLeaseOf maker c.settings c.plan) lease.memories.items k old changed there keeps is.0, is.1);
   }
   memory_stays component old changed there same keeps = absurd cc
+  memory_stays (one_memory lease) old changed there same keeps = absurd cc
+  memory_stays (one_table lease) old changed there same keeps = absurd cc
   memory_stays (stack lease) old changed there same keeps = absurd cc
   memory_stays (heap lease memory) old changed there same keeps = heap_stays maker c k lease memory old changed there same keeps
 
-  table_stays : (grant : Grant P PlainHeap) (old changed : LeasedTable) → slice_get (tables_of grant) k ≡ Some old → changed ≡ record old { table = changed.table } → (IsTableLease maker c.settings c.plan old → IsTableLease maker c.settings c.plan changed) → StaysGrant maker c grant (with_table_lease k changed grant)
+  table_stays : (grant : Grant P PlainHeap) (old changed : LeasedTable) → slice_get (tables_named grant) k ≡ Some old → changed ≡ record old { table = changed.table } → (IsTableLease maker c.settings c.plan old → IsTableLease maker c.settings c.plan changed) → StaysGrant maker c grant (with_table_lease k changed grant)
   table_stays (instance lease) old changed there same keeps = record {
     weighs = λ w. omega (arith, slots_same table_taken w.unit k lease.tables.items old changed there (ap table_taken same), ap (λ (n : ℕ). n * w.counts (counted_object table_kind)) (length-set lease.tables.items k changed));
     sound = λ is. (is.0, all_still (IsTableLease maker c.settings c.plan) lease.tables.items k old changed there keeps is.1);
   }
   table_stays component old changed there same keeps = absurd cc
+  table_stays (one_memory lease) old changed there same keeps = absurd cc
+  table_stays (one_table lease) old changed there same keeps = absurd cc
   table_stays (stack lease) old changed there same keeps = absurd cc
   table_stays (heap lease memory) old changed there same keeps = absurd cc
 
@@ -88,6 +92,8 @@ module _ {P : Type 0} (maker : MakerTold) (c : PoolCore P PlainHeap) where
   stack_stays : (k : ℕ) (grant : Grant P PlainHeap) (old changed : LeasedStack) → slice_get (stack_of grant) k ≡ Some old → stack_taken changed ≡ stack_taken old → (IsStackLease maker c.settings c.plan old → IsStackLease maker c.settings c.plan changed) → StaysGrant maker c grant (with_stack_lease k changed grant)
   stack_stays k (instance lease) old changed there same keeps = absurd cc
   stack_stays k component old changed there same keeps = absurd cc
+  stack_stays k (one_memory lease) old changed there same keeps = absurd cc
+  stack_stays k (one_table lease) old changed there same keeps = absurd cc
   stack_stays k (heap lease memory) old changed there same keeps = absurd cc
   stack_stays (suc k) (stack lease) old changed there same keeps = absurd cc
   stack_stays zero (stack lease) old changed there same keeps =
@@ -190,6 +196,8 @@ module _ {P : Type 0} (maker : MakerTold) (c : PoolCore P PlainHeap) (p : Runnin
     bytes_opened None op of k live reply is = moves_opened op of k live reply is
     bytes_opened (Some (instance lease)) op of k live reply is = moves_opened op of k live reply is
     bytes_opened (Some component) op of k live reply is = moves_opened op of k live reply is
+    bytes_opened (Some (one_memory lease)) op of k live reply is = moves_opened op of k live reply is
+    bytes_opened (Some (one_table lease)) op of k live reply is = moves_opened op of k live reply is
     bytes_opened (Some (stack lease)) op of k live reply is = stack_opened op of k live reply is
     bytes_opened (Some (heap lease memory)) op of k live reply is = moves_opened op of k live reply is
 

@@ -1,7 +1,7 @@
 -- What an operation makes of a memory of a live grant: the lease stays in its slot, and the party sees the operation on
 -- its own memory.
 use Rattle.std.proofs.Common.{◌≡◌, ℕ, Bool, true, false, List, Option, Some, None, refl, sym, ap, subst, inl, inr, ◌==◌, if◌then◌else◌, IfSome, map, replicate}
-use Rattle.pool_run.proofs.Imports.{map-set, MakerTold, GrowthRule, MemoryState, Lease, slot_taken, IsLeaseOf, Grant, instance, component, stack, heap, Plan, PlainHeap, Settings}
+use Rattle.pool_run.proofs.Imports.{map-set, MakerTold, GrowthRule, MemoryState, Lease, slot_taken, IsLeaseOf, Grant, instance, component, one_memory, one_table, stack, heap, Plan, PlainHeap, Settings}
 use Rattle.pool_run.specs.Acts.{MemoryOp, reads, writes, fills, grows, asks_size}
 use Rattle.pool_run.specs.Objects.{MovesNamed}
 use Rattle.pool_run.specs.Private.{heap_grant, PrivateMemory, instance_grant, Writes, MemoryMoves, private_memories, growth}
@@ -10,7 +10,7 @@ use Rattle.pool_run.specs.Turns.{seen_as, private_memory, private_table, private
 use Rattle.pool_run.specs.declared.reply.Reply.{Reply}
 use Rattle.pool_run.proofs.Moves.{IsSeen, GrowsSeen, lease_still, writes_stay, writes_seen, grows_stay, grows_seen}
 use Rattle.pool_run.proofs.Named.{AreSeen}
-use Rattle.pool_run.proofs.SlotKinds.{memories_seen_of}
+use Rattle.pool_run.proofs.SlotKinds.{memories_named_of}
 
 -- The lease stays in its slot,
 pub op_slot : (op : MemoryOp) (rule : GrowthRule) (l new : Lease) (reply : Reply) → LeaseMoves op rule l new reply → slot_taken new ≡ slot_taken l
@@ -68,8 +68,10 @@ either_seen false x y = refl
 changed_memory : {P : Type 0} (k : ℕ) (l : Lease) (g : Grant P PlainHeap) → private_grant (memory_leases.put_in k l g) ≡ private_memories.put_in k (private_memory l) (private_grant g)
 changed_memory k l (instance lease) = ap (λ (ms : List PrivateMemory). instance_grant (record { memories = ms; tables = map private_table lease.tables.items })) (map-set private_memory lease.memories.items k l)
 changed_memory k l component = refl
+changed_memory k l (one_memory lease) = refl
+changed_memory k l (one_table lease) = refl
 changed_memory k l (stack lease) = refl
 changed_memory k l (heap lease memory) = ap (heap_grant lease.index) (either_seen (k == 0) l memory)
 
 pub memories_seen : (P : Type 0) → AreSeen (memory_leases {P = P}) private_memories private_grant private_memory
-memories_seen P = record { same = memories_seen_of; changed = changed_memory }
+memories_seen P = record { same = memories_named_of; changed = changed_memory }

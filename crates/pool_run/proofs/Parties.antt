@@ -1,6 +1,6 @@
 -- A party whose turn it is: its call can make its next step, and so it can once another call began.
 use Rattle.std.proofs.Common.{◌≡◌, ℕ, zero, suc, ◌+◌, ◌<◌, ◌≤◌, true, false, List, [], ◌∷◌, length, Option, Some, None, refl, ap, subst, arith, All, sym, ◌∙◌, IfSome, sum_by, slice_set, slice_index_or}
-use Rattle.pool_run.proofs.Imports.{All-set, All-get_or, sum_by-set, MakerTold, right_to, region_of, IsFrame, AreImagesOf, HasImages, IsIdle, IsGrant, MayBegin, begun_call, call_has, begun_frame, CanStep, is_idle, grant_count, PoolCore, Settings, memories_wanted, images_wanted, ModuleAsked, stack_slot, heap_slot, nothing_asked, module_asked, Lease, memory_slot, LeasedTable, IsSearched, returning, stage_of, returned_next, Call, Frame, Grant, instance, component, stack, heap, both_regions, sum_by_agree, leased_regions, tables_regions, Plan, SlotName, PlainHeap, Weight, of_units, grant_weight, begun_weight}
+use Rattle.pool_run.proofs.Imports.{All-set, All-get_or, sum_by-set, MakerTold, right_to, region_of, IsFrame, AreImagesOf, HasImages, IsIdle, IsGrant, MayBegin, begun_call, call_has, begun_frame, CanStep, is_idle, grant_count, PoolCore, Settings, memories_wanted, images_wanted, ModuleAsked, stack_slot, heap_slot, nothing_asked, module_asked, Lease, memory_slot, LeasedTable, IsSearched, returning, stage_of, returned_next, Call, Frame, Grant, instance, component, one_memory, one_table, stack, heap, both_regions, sum_by_agree, leased_regions, tables_regions, Plan, SlotName, PlainHeap, Weight, of_units, grant_weight, begun_weight}
 use Rattle.pool_alloc.specs.declared.frame.Ending.TheVariants as ending
 use Rattle.pool_run.specs.Turns.{IsPlain, asks_grant}
 use Rattle.pool_alloc.specs.declared.frame.Call.TheVariants as call
@@ -13,6 +13,8 @@ module _ {P : Type 0} where
   grant_regions k None = refl
   grant_regions k (Some (instance lease)) = omega (arith, leased_regions k lease.memories.items, tables_regions k lease.tables.items)
   grant_regions k (Some component) = refl
+  grant_regions k (Some (one_memory lease)) = both_regions k (memory_slot lease.index) lease.numbers
+  grant_regions k (Some (one_table lease)) = both_regions k (table_slot lease.index) lease.numbers
   grant_regions k (Some (stack lease)) = both_regions k (stack_slot lease.stack.index) lease.numbers
   grant_regions k (Some (heap lease memory)) = omega (arith, both_regions k (heap_slot lease.index) lease.numbers, both_regions k (memory_slot memory.index) memory.numbers)
 
@@ -159,6 +161,8 @@ module _ {P : Type 0} where
   pub returned_stage : (grant : Grant P PlainHeap) (f : Frame P PlainHeap) → stage_of (begun_call (call.GiveBack grant) f) ≡ returning
   returned_stage (instance lease) f = next_stage lease.memories.items lease.tables.items (record f { objects = lease })
   returned_stage component f = refl
+  returned_stage (one_memory lease) f = refl
+  returned_stage (one_table lease) f = refl
   returned_stage (stack lease) f = refl
   returned_stage (heap lease memory) f = refl
 
@@ -180,5 +184,7 @@ module _ {P : Type 0} where
   pub returned_searched : (grant : Grant P PlainHeap) (c : PoolCore P PlainHeap) (f : Frame P PlainHeap) → IsSearched c (begun_call (call.GiveBack grant) f)
   returned_searched (instance lease) c f = next_searched lease.memories.items lease.tables.items c (record f { objects = lease; ending = ending.Returned })
   returned_searched component c f = tt
+  returned_searched (one_memory lease) c f = tt
+  returned_searched (one_table lease) c f = tt
   returned_searched (stack lease) c f = tt
   returned_searched (heap lease memory) c f = tt

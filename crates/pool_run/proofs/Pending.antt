@@ -1,6 +1,6 @@
 -- A request that passed its test is never refused for want of memory.
 use Rattle.std.proofs.Common.{◌≡◌, ◌≢◌, ℕ, ◌^◌, Bool, true, false, length, Option, Some, None, Result, Ok, Err, refl, sym, ap, ◌∙◌, subst, inl, inr, arith, IsSome, nat_le, nat_lt, if◌then◌else◌, slice_get}
-use Rattle.pool_run.proofs.Imports.{is_there, MakerTold, minimum_byte_size, allow_growth_to, MemoryType, Unsupported, InitialSize, AddressSpace, MemoryMinimum, TableSize, Slot, LimiterError, maximum_asked, limits_answer, MemoryState, Static, static_capacity, MemoryError, AllocError, PlainHeap, PartyTold, MakesHeap, component_refused, made_of, made_of_limits, made_for, heap_refusal, HeapsTold, HeapMakeFault, Progress, untested, uncounted, admitted, Stage, no_call, keys, asks, returning, refusing, purging, reserving, releasing, stage_of, Raises, Makes, Goes, seeks_stack, tests_heap, seeks_heap, counts_heap, tests_component, counts_component, IsBroken, memories_wanted, tables_wanted, LeasedTable, table_refused, table_in, made_table, made_unless, Frame, Grant, instance, component, stack, heap, Outcome, PoolCore}
+use Rattle.pool_run.proofs.Imports.{kept_of, is_there, MakerTold, minimum_byte_size, allow_growth_to, MemoryType, Unsupported, InitialSize, AddressSpace, MemoryMinimum, TableSize, Slot, LimiterError, maximum_asked, limits_answer, MemoryState, Static, static_capacity, MemoryError, AllocError, PlainHeap, PartyTold, MakesHeap, component_refused, made_of, made_of_limits, made_for, heap_refusal, HeapsTold, HeapMakeFault, Progress, untested, uncounted, admitted, Stage, no_call, keys, asks, returning, refusing, purging, reserving, releasing, stage_of, Raises, Makes, Goes, seeks_stack, tests_heap, seeks_heap, seeks_single, counts_heap, tests_component, counts_component, IsBroken, memories_wanted, tables_wanted, LeasedTable, table_refused, table_in, made_table, made_unless, Frame, Grant, instance, component, one_memory, one_table, stack, heap, Outcome, PoolCore}
 use Rattle.pool_memory.specs.declared.memory_error.MemoryError.TheVariants as unmade
 use Rattle.pool_slots.specs.declared.errors.AllocError.TheVariants as refusal
 use Rattle.pool_run.specs.Private.{table_room}
@@ -64,6 +64,7 @@ abbrev pub IsPast : Stage → Type 0
 IsPast (asks untested) = ⊥
 IsPast (asks uncounted) = Unit {0}
 IsPast (asks (admitted n)) = Unit {0}
+IsPast (asks (seeks_single n)) = ⊥
 IsPast (asks seeks_stack) = Unit {0}
 IsPast (asks tests_heap) = ⊥
 IsPast (asks (seeks_heap n)) = Unit {0}
@@ -116,13 +117,14 @@ module _ {P : Type 0} (maker : MakerTold) (old new : PartyTold) (c : PoolCore P 
             elim rest [
               | inl fault ↦ λ is. let wrong = sym fault.is ∙ is in absurd cc
               | inr (inr makes) ↦
-                  at_place (slice_get (tables_wanted f.asked) (length f.objects.tables.items)) (is_there (tables_wanted f.asked) (length f.objects.tables.items) (omega (arith, makes.allocating.more, makes.next.0, makes.next.1.no_stack, makes.next.1.no_heap, makes.allocating.to_grant.few)))
+                  at_place (slice_get (tables_wanted f.asked) (length f.objects.tables.items)) (is_there (tables_wanted f.asked) (length f.objects.tables.items) (omega (arith, makes.allocating.more, makes.next.0, makes.next.1.no_stack, makes.next.1.no_heap, makes.allocating.to_grant.few, (kept_of f.asked).memories)))
                   (λ ty there.
                   let made : made_table c.settings makes.given makes.at makes.region (Some ty) ≡ Err e = ap (made_table c.settings makes.given makes.at makes.region) (sym there) ∙ makes.is in
                   refused_other makes.given ty.limits.min (table_room c.settings ty) e (unless_is (table_refused makes.given ty.limits.min (table_room c.settings ty)) (table_in c.settings ty makes.at makes.region) e made))
               | inr (inl makes) ↦ made_past n e makes
             ]
       ]
+  raised_past (seeks_single n) e past raises = absurd past
   raised_past tests_heap e past raises = absurd past
   raised_past counts_heap e past raises = absurd raises
   raised_past (seeks_heap n) e past raises =
@@ -149,6 +151,7 @@ module _ {P : Type 0} (maker : MakerTold) (old new : PartyTold) (c : PoolCore P 
   past_goes (asks uncounted) (asks untested) None goes past = absurd goes
   past_goes (asks uncounted) (asks uncounted) None goes past = absurd goes
   past_goes (asks uncounted) (asks (admitted m)) None goes past = tt
+  past_goes (asks uncounted) (asks (seeks_single m)) None goes past = absurd goes
   past_goes (asks uncounted) (asks seeks_stack) None goes past = absurd goes
   past_goes (asks uncounted) (asks tests_heap) None goes past = absurd goes
   past_goes (asks uncounted) (asks (seeks_heap m)) None goes past = absurd goes
@@ -158,12 +161,14 @@ module _ {P : Type 0} (maker : MakerTold) (old new : PartyTold) (c : PoolCore P 
   past_goes (asks (admitted n)) (asks untested) None goes past = absurd goes
   past_goes (asks (admitted n)) (asks uncounted) None goes past = absurd goes
   past_goes (asks (admitted n)) (asks (admitted m)) None goes past = tt
+  past_goes (asks (admitted n)) (asks (seeks_single m)) None goes past = absurd goes
   past_goes (asks (admitted n)) (asks seeks_stack) None goes past = absurd goes
   past_goes (asks (admitted n)) (asks tests_heap) None goes past = absurd goes
   past_goes (asks (admitted n)) (asks (seeks_heap m)) None goes past = absurd goes
   past_goes (asks (admitted n)) (asks counts_heap) None goes past = absurd goes
   past_goes (asks (admitted n)) (refusing e) None goes past = raised_past (admitted n) e past goes
   past_goes (asks (admitted n)) no_call (Some (answer.Granted (instance lease))) goes past = tt
+  past_goes (asks (seeks_single n)) t o goes past = absurd past
   past_goes (asks tests_heap) t o goes past = absurd past
   past_goes (asks (seeks_heap n)) (asks (seeks_heap m)) None goes past = tt
   past_goes (asks (seeks_heap n)) (asks counts_heap) None goes past = tt
@@ -202,6 +207,8 @@ module _ {P : Type 0} where
   granted_past : (grant : Grant P PlainHeap) → granted_reply grant ≢ want_of_memory
   granted_past (instance lease) = λ is. absurd cc
   granted_past component = λ is. absurd cc
+  granted_past (one_memory lease) = λ is. absurd cc
+  granted_past (one_table lease) = λ is. absurd cc
   granted_past (stack lease) = λ is. absurd cc
   granted_past (heap lease memory) = λ is. absurd cc
 

@@ -1,6 +1,6 @@
 -- What a step makes of a request, as its party is told: it goes on, is refused for a cause, or is granted what it asked for.
 use Rattle.std.proofs.Common.{◌≡◌, ℕ, zero, suc, ◌+◌, ◌*◌, ◌<◌, ◌≤◌, ◌⊎◌, if◌then◌else◌, true, List, [], ◌∷◌, length, map, Option, Some, None, Result, Ok, Err, refl, sym, ap, ◌∙◌, subst, inl, inr, arith, All, nat_lt, IfSome, slice_get, slice_index_or, sum_by}
-use Rattle.pool_run.proofs.Imports.{cases_eq, cases_lt, le-ltb, lt-ltb, All-get_or, slice_get_within, get_or_from_slice_get, MemoryDecl, Unsupported, Image, FitsInto, minimum_byte_size, minimum_asked, maximum_asked, MemoryState, AllocError, PartyTold, AsksForMemory, Lease, memory_slot, made_for, objects_in, objects_wanted, right_to, instance_count, slot_count, frame_count, kept_count, away_count, frame_instances, Asked, module_asked, MemoryWant, Want, new_memory, new_table, wants_from, module_refused, IsFrame, IsAllocating, IsMemoryNext, IsTableNext, IsSupported, AreSupported, IsNew, AreBegun, IsLeaseOf, AreLeasesOf, Progress, untested, uncounted, admitted, seeks_stack, tests_heap, seeks_heap, counts_heap, FindsNone, IsPageFaulted, Makes, MakesTable, IsUntested, Raises, Follows, grant_count, IsModule, kind_by, IsForInstance, info_wanted, memories_wanted, images_wanted, tables_wanted, memory_slots, stripe_allocator, allocator_of, allocator_for, kind_next, limit_of, IsTableLease, IsBegunTable, LeasedTable, AsksForTable, table_in, made_table, made_unless, table_refused, SlotKind, memory_kind, table_kind, ModuleInfo, TableType, type_maximum, PoolCore, Settings, Frame, Grant, instance, InstanceLease, of_kind, SlotName, Allocator, has_number, PlainHeap, Counts, counted_instance, counters_counted, frame_counted, only, grant_counted}
+use Rattle.pool_run.proofs.Imports.{kept_of, cases_eq, cases_lt, le-ltb, lt-ltb, All-get_or, slice_get_within, get_or_from_slice_get, MemoryDecl, Unsupported, Image, FitsInto, minimum_byte_size, minimum_asked, maximum_asked, MemoryState, AllocError, PartyTold, AsksForMemory, Lease, memory_slot, made_for, objects_in, objects_wanted, right_to, instance_count, slot_count, frame_count, kept_count, away_count, frame_instances, Asked, module_asked, MemoryWant, Want, new_memory, new_table, wants_from, module_refused, IsFrame, IsAllocating, IsMemoryNext, IsTableNext, IsSupported, AreSupported, IsNew, AreBegun, IsLeaseOf, AreLeasesOf, Progress, untested, uncounted, admitted, seeks_stack, tests_heap, seeks_heap, seeks_single, counts_heap, FindsNone, IsPageFaulted, Makes, MakesTable, IsUntested, Raises, Follows, grant_count, IsModule, kind_by, IsForInstance, info_wanted, memories_wanted, images_wanted, tables_wanted, memory_slots, stripe_allocator, allocator_of, allocator_for, kind_next, limit_of, IsTableLease, IsBegunTable, LeasedTable, AsksForTable, table_in, made_table, made_unless, table_refused, SlotKind, memory_kind, table_kind, ModuleInfo, TableType, type_maximum, PoolCore, Settings, Frame, Grant, instance, InstanceLease, of_kind, SlotName, Allocator, has_number, PlainHeap, Counts, counted_instance, counters_counted, frame_counted, only, grant_counted}
 use Rattle.pool_slots.specs.declared.errors.AllocError.TheVariants as refusal
 use Rattle.pool_run.proofs.SlotsMade.{made_slot}
 use Rattle.pool_run.specs.Private.{Grants, stripe_slots, PrivateMemory, instance_grant, module_of, Request, request_of, wants_of, begun, begun_memory, begun_table, begun_instance, own_refusal, slots_asked, table_room}
@@ -28,7 +28,7 @@ tables_told_by _ = refl
 
 -- a module has memories and tables, and neither a stack nor a heap
 for_instance : (asked : Asked) → IsModule asked → IsForInstance asked
-for_instance (module_asked m) is = record { no_stack = refl; no_heap = refl }
+for_instance (module_asked m) is = record { no_stack = refl; no_heap = refl; no_single = refl }
 for_instance _ is = absurd is
 
 kind_of_module : (asked : Asked) (n : ℕ) → IsModule asked → kind_by asked n ≡ (if nat_lt n (length (memories_wanted asked)) then memory_kind else table_kind)
@@ -148,7 +148,7 @@ module _ {P : Type 0} (w : World) (old new : PartyTold) (c : PoolCore P PlainHea
   table_now : (Q : Type 0) (n : ℕ) → n ≡ objects_in f.objects → IsAllocating c.settings c.plan f → IsTableNext f
       → ((ty : TableType) → n ≡ length request.memories + length f.objects.tables.items → slice_get request.tables (length f.objects.tables.items) ≡ Some ty → Q) → Q
   table_now Q n same allocating next step =
-      let place : n ≡ length request.memories + length f.objects.tables.items = omega (arith, same, memory_number, next.0, allocating.to_grant.few) in
+      let place : n ≡ length request.memories + length f.objects.tables.items = omega (arith, same, memory_number, next.0, allocating.to_grant.few, (kept_of f.asked).memories) in
       told_there Q request.tables (length f.objects.tables.items) (omega (arith, place, same, allocating.more, memory_number, table_number, (for_instance f.asked asked.of_module).no_stack, (for_instance f.asked asked.of_module).no_heap)) (λ ty there. step ty place there)
 
   -- how it is refused
@@ -270,6 +270,7 @@ module _ {P : Type 0} (w : World) (old new : PartyTold) (c : PoolCore P PlainHea
       let full : w.alone ≡ true → w.terms.settings.max_core_instances ≤ rooms.instance_count told =
       λ a. omega (arith, most, raises.1, alone_counts c f live (is.alone a) (only counted_instance), none refl, no_instance_counted f.phase, instances_told live told seen) in
       subst (HasCause w request told) (sym raises.0) (given_cause w request told _ so (instances_given w request told c.settings.max_core_instances most full))
+  raised_cause (seeks_single n) e none so raises = absurd so
   raised_cause seeks_stack e none so raises = absurd so
   raised_cause tests_heap e none so raises = absurd so
   raised_cause (seeks_heap n) e none so raises = absurd so
@@ -315,6 +316,7 @@ module _ {P : Type 0} (w : World) (old new : PartyTold) (c : PoolCore P PlainHea
                   ];
             }
       ]
+  goes_so_far (seeks_single n) q so follows = absurd so
   goes_so_far seeks_stack q so follows = absurd so
   goes_so_far tests_heap q so follows = absurd so
   goes_so_far (seeks_heap n) q so follows = absurd so

@@ -1,11 +1,11 @@
 -- The lists for the slots of what is asked for have room for them, until the reply takes them.
 use Rattle.std.proofs.Common.{◌≡◌, ℕ, ◌<◌, ◌≤◌, Bool, Option, Some, None, List, [], length, refl, sym, ap, ◌∙◌, subst, inl, inr, arith, true, replicate, slice_set, slice_index_or}
-use Rattle.pool_run.proofs.Imports.{cases_eq, length-map, length-replicate, length-set, get_or-map, get_or-replicate, get_or-set_same, get_or-set_other, not_both, MakerTold, PartyTold, objects_in, IsGrantOf, IfGranted, begun_call, frame_made, memories_wanted, tables_wanted, After, is_idle, PoolCore, Settings, Call, Frame, Grant, instance, component, stack, heap, Outcome, stage_of, Asked, Plan, PlainHeap}
+use Rattle.pool_run.proofs.Imports.{cases_eq, length-map, length-replicate, length-set, get_or-map, get_or-replicate, get_or-set_same, get_or-set_other, not_both, MakerTold, PartyTold, objects_in, IsGrantOf, IfGranted, begun_call, frame_made, memories_wanted, tables_wanted, After, is_idle, PoolCore, Settings, Call, Frame, Grant, instance, component, one_memory, one_table, stack, heap, Outcome, stage_of, Asked, Plan, PlainHeap}
 use Rattle.pool_alloc.specs.declared.frame.Call.TheVariants as call
 use Rattle.pool_alloc.specs.declared.frame.Outcome.TheVariants as answer
 use Rattle.pool_run.specs.RunsMade.{AreReserved, party_made_for, parties_made}
 use Rattle.pool_run.specs.Ties.{IsReserved, is_for_objects}
-use Rattle.pool_run.specs.Turns.{Turned, IsPlain, leases_listed, tables_of, answered, slots_after, no_lists}
+use Rattle.pool_run.specs.Turns.{Turned, IsPlain, leases_listed, tables_named, answered, slots_after, no_lists}
 use Rattle.pool_run.specs.declared.input.Party.{Party}
 use Rattle.pool_run.specs.declared.reply.Reply.{Reply}
 use Rattle.pool_run.specs.declared.running_party.RunningParty.{RunningParty}
@@ -27,9 +27,11 @@ module _ {P : Type 0} where
 
   -- what else is granted has none
   room_granted : (maker : MakerTold) (s : Settings) (plan : Plan) (asked : Asked) (b : Bool) (slots : SlotLists) (o : Option (Outcome P PlainHeap)) → (b ≡ true → length (memories_wanted asked) ≤ slots.memories.room) → (b ≡ true → length (tables_wanted asked) ≤ slots.tables.room) → IfInstance (b ≡ true) o → IfGranted (IsGrantOf maker s plan asked) o
-      → IfGranted (λ g. length (leases_listed g) ≤ slots.memories.room) o × IfGranted (λ g. length (tables_of g) ≤ slots.tables.room) o
+      → IfGranted (λ g. length (leases_listed g) ≤ slots.memories.room) o × IfGranted (λ g. length (tables_named g) ≤ slots.tables.room) o
   room_granted maker s plan asked b slots (Some (answer.Granted (instance lease))) memories tables for is = (omega (arith, is.1, memories for), omega (arith, is.3, tables for))
   room_granted maker s plan asked b slots (Some (answer.Granted component)) memories tables for is = (omega arith, omega arith)
+  room_granted maker s plan asked b slots (Some (answer.Granted (one_memory lease))) memories tables for is = (omega arith, omega arith)
+  room_granted maker s plan asked b slots (Some (answer.Granted (one_table lease))) memories tables for is = (omega arith, omega arith)
   room_granted maker s plan asked b slots (Some (answer.Granted (stack lease))) memories tables for is = (omega arith, omega arith)
   room_granted maker s plan asked b slots (Some (answer.Granted (heap lease memory))) memories tables for is = (omega arith, omega arith)
   room_granted maker s plan asked b slots None memories tables for is = (tt, tt)
@@ -39,14 +41,14 @@ module _ {P : Type 0} where
   room_granted maker s plan asked b slots (Some (answer.Purged n)) memories tables for is = (tt, tt)
   room_granted maker s plan asked b slots (Some (answer.Released n)) memories tables for is = (tt, tt)
 
-  has_room : {old new : PartyTold} (maker : MakerTold) (c : PoolCore P PlainHeap) (f : Frame P PlainHeap) (a : After P PlainHeap) (slots : SlotLists) → IsReserved f slots → IsStepped maker old new c f a → IfGranted (λ g. length (leases_listed g) ≤ slots.memories.room) a.outcome × IfGranted (λ g. length (tables_of g) ≤ slots.tables.room) a.outcome
+  has_room : {old new : PartyTold} (maker : MakerTold) (c : PoolCore P PlainHeap) (f : Frame P PlainHeap) (a : After P PlainHeap) (slots : SlotLists) → IsReserved f slots → IsStepped maker old new c f a → IfGranted (λ g. length (leases_listed g) ≤ slots.memories.room) a.outcome × IfGranted (λ g. length (tables_named g) ≤ slots.tables.room) a.outcome
   has_room maker c f a slots reserved on = room_granted maker c.settings c.plan f.asked (is_for_objects (stage_of f)) slots a.outcome reserved.memories.room reserved.tables.room on.staged.instance_granted on.granted
 
   -- They have room for what is granted.
   pub memories_granted : {old new : PartyTold} (maker : MakerTold) (c : PoolCore P PlainHeap) (f : Frame P PlainHeap) (a : After P PlainHeap) (slots : SlotLists) → IsReserved f slots → IsStepped maker old new c f a → IfGranted (λ g. length (leases_listed g) ≤ slots.memories.room) a.outcome
   memories_granted maker c f a slots reserved on = (has_room maker c f a slots reserved on).0
 
-  pub tables_granted : {old new : PartyTold} (maker : MakerTold) (c : PoolCore P PlainHeap) (f : Frame P PlainHeap) (a : After P PlainHeap) (slots : SlotLists) → IsReserved f slots → IsStepped maker old new c f a → IfGranted (λ g. length (tables_of g) ≤ slots.tables.room) a.outcome
+  pub tables_granted : {old new : PartyTold} (maker : MakerTold) (c : PoolCore P PlainHeap) (f : Frame P PlainHeap) (a : After P PlainHeap) (slots : SlotLists) → IsReserved f slots → IsStepped maker old new c f a → IfGranted (λ g. length (tables_named g) ≤ slots.tables.room) a.outcome
   tables_granted maker c f a slots reserved on = (has_room maker c f a slots reserved on).1
 
   ends_reserved : (o : Outcome P PlainHeap) (f g : Frame P PlainHeap) (slots : SlotLists) → IsReserved f slots → IsStagedStep (stage_of f) (stage_of g) (Some o) → IsReserved g slots

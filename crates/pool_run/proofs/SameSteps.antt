@@ -1,7 +1,7 @@
 -- A step of a call has one outcome, where the maker tells what its regions hold and which of their calls fail, and there is
 -- memory for what is asked.
 use Rattle.std.proofs.Common.{◌≡◌, ℕ, ◌<◌, Bool, true, false, List, [], ◌∷◌, length, Option, Some, None, IsSome, Result, inl, inr, refl, sym, ap, ◌∙◌, subst, arith, is_some, ◌||◌, if◌then◌else◌, IfSome, not, slice_get}
-use Rattle.pool_run.proofs.Imports.{list_any, is_there, rounded_up, MakerTold, minimum_byte_size, DecommitBehavior, Zero, RestoreOriginalMapping, Image, wiping, resizing, replacing, resetting, removing, set_by_hand, Slot, hides, reused, replaced, forgotten, GrowthRule, HeapsTold, HeapMakeFault, ListedHeaps, PartyTold, MakesHeap, LimiterError, minimum_asked, maximum_asked, slot_of, Queue, is_to_zero, QueuedRange, MakesOf, Empties, Resets, InstantiatesAs, InstantiatesFor, FollowsPlan, FollowsPlanFor, FollowsReset, AsksForMemory, FlushTold, FlushPlanned, MayBeTold, IsPlanned, AsksOf, RemovesImage, DecommitsWhole, Forgets, FollowsForget, Drains, FollowsDrain, Lease, slot_taken, FlushStep, run, zero_by_hand, put, free, flush_step, kind_settled, settled_step, some_queued, paged, make_memory_row, make_table_row, make_heap_row, was_reset, flush_row, row_of, IsFrame, IsShapedAt, HasSlot, MayHold, IsDraining, CanStep, StepGiven, memories_wanted, tables_wanted, image_wanted, AsksForTable, type_maximum, SlotKind, memory_kind, FreedSlot, After, Row, goes, failing, stepped, Frame, Phase, Idle, Validate, TestHeap, MakeHeap, Empty, Instantiate, MakeMemory, MakeTable, PutBack, Reset, Flush, Purge, Release, TakenSlot, SlotName, cell_of, Cell, unknown, previously_used, All-get_or, ReleaseCursor, ImageSlot, PlainHeap, known_after, after_forgetting, after_decommit, Settings, decommitting, PoolCore}
+use Rattle.pool_run.proofs.Imports.{kept_of, list_any, is_there, rounded_up, MakerTold, minimum_byte_size, DecommitBehavior, Zero, RestoreOriginalMapping, Image, wiping, resizing, replacing, resetting, removing, set_by_hand, Slot, hides, reused, replaced, forgotten, GrowthRule, HeapsTold, HeapMakeFault, ListedHeaps, PartyTold, MakesHeap, LimiterError, minimum_asked, maximum_asked, slot_of, Queue, is_to_zero, QueuedRange, MakesOf, Empties, Resets, InstantiatesAs, InstantiatesFor, FollowsPlan, FollowsPlanFor, FollowsReset, AsksForMemory, FlushTold, FlushPlanned, MayBeTold, IsPlanned, AsksOf, RemovesImage, DecommitsWhole, Forgets, FollowsForget, Drains, FollowsDrain, Lease, slot_taken, FlushStep, run, zero_by_hand, put, free, flush_step, kind_settled, settled_step, some_queued, paged, make_memory_row, make_table_row, make_heap_row, was_reset, flush_row, row_of, IsFrame, IsShapedAt, HasSlot, MayHold, IsDraining, CanStep, StepGiven, memories_wanted, tables_wanted, image_wanted, AsksForTable, type_maximum, SlotKind, memory_kind, FreedSlot, After, Row, goes, failing, stepped, Frame, Phase, Idle, Validate, TestHeap, MakeHeap, Empty, Instantiate, MakeMemory, MakeTable, PutBack, Reset, Flush, Purge, Release, TakenSlot, SlotName, cell_of, Cell, unknown, previously_used, All-get_or, ReleaseCursor, ImageSlot, PlainHeap, known_after, after_forgetting, after_decommit, Settings, decommitting, PoolCore}
 use Rattle.pool_images.specs.Orders.{Follows}
 use Rattle.pool_slots.specs.declared.errors.AllocError.TheVariants as refusal
 use Rattle.pool_alloc.specs.declared.frame.Object.TheVariants as object
@@ -254,7 +254,7 @@ module _ {P : Type 0} (maker : MakerTold) (tells : maker.tells ≡ true) (planne
       let same : g.limiter ≡ h.limiter = answer_told by one.old.limiter.rule g.limiter least most one.rule first.answer ∙ sym (answer_told by two.old.limiter.rule h.limiter least most two.rule second.answer) in
       ap (λ (r : Result Bool LimiterError). make_memory_row r at held c bare) same)
   row_same g h (MakeTable at region) test shape one two =
-      let table : length f.objects.tables.items < length (tables_wanted f.asked) = omega (arith, shape.3.0, shape.3.1.no_stack, shape.3.1.no_heap, shape.1.more, shape.1.to_grant.few) in
+      let table : length f.objects.tables.items < length (tables_wanted f.asked) = omega (arith, shape.3.0, shape.3.1.no_stack, shape.3.1.no_heap, shape.1.more, shape.1.to_grant.few, (kept_of f.asked).memories) in
       at_place (slice_get (tables_wanted f.asked) (length f.objects.tables.items)) (is_there (tables_wanted f.asked) (length f.objects.tables.items) table)
       (λ ty there.
       let first : AsksForTable g.limiter one.old.limiter one.new.limiter ty = held_of (AsksForTable g.limiter one.old.limiter one.new.limiter) _ ty there one.limiter in

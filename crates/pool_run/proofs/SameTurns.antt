@@ -1,6 +1,6 @@
 -- A turn of a party has one outcome, or one finds no memory for what it asks for, and the other goes on.
 use Rattle.std.proofs.Common.{◌≡◌, ◌≢◌, ℕ, ◌<◌, ◌≤◌, Bool, true, false, List, length, Option, Some, None, IsSome, is_some, ◌⊎◌, refl, sym, ap, ◌∙◌, subst, inl, inr, arith, ◌&&◌, not, slice_get, slice_set, slice_index_or}
-use Rattle.pool_run.proofs.Imports.{option_and_then, slice_get_within, get_or_from_slice_get, ListedHeaps, PlainHeap, objects_in, ModuleAsked, begun_call, LeasedTable, ListedStore, MakerTold, Unsupported, module_refused, heap_refused, validated, heaps_tested, row_of, stage_of, stage_at, IsShapedAt, StepGiven, IsHeapAsked, info_wanted, After, stepped, Phase, Idle, Validate, TestHeap, CountInstance, Pick, Release, Asked, heap_asked, Ending, Reserve, reserve_row, CanStep, is_idle, PoolCore, Frame, Grant, instance, component, stack, heap}
+use Rattle.pool_run.proofs.Imports.{option_and_then, slice_get_within, get_or_from_slice_get, ListedHeaps, PlainHeap, objects_in, ModuleAsked, begun_call, LeasedTable, ListedStore, MakerTold, Unsupported, module_refused, heap_refused, validated, heaps_tested, row_of, stage_of, stage_at, IsShapedAt, StepGiven, IsHeapAsked, info_wanted, After, stepped, Phase, Idle, Validate, TestHeap, CountInstance, Pick, Release, Asked, heap_asked, Ending, Reserve, reserve_row, CanStep, is_idle, PoolCore, Frame, Grant, instance, component, one_memory, one_table, stack, heap}
 use Rattle.pool_slots.specs.declared.errors.AllocError.TheVariants as alloc
 use Rattle.pool_alloc.specs.declared.frame.Ending.TheVariants as ending
 use Rattle.pool_alloc.specs.declared.frame.Call.TheVariants as call
@@ -175,6 +175,8 @@ module _ {P : Type 0} (w : World) (tells : w.maker.tells ≡ true) (planned : Is
   bytes_alike None op of k r q live other one two = moves_alike op of k r q live other one two
   bytes_alike (Some (instance lease)) op of k r q live other one two = moves_alike op of k r q live other one two
   bytes_alike (Some component) op of k r q live other one two = moves_alike op of k r q live other one two
+  bytes_alike (Some (one_table lease)) op of k r q live other one two = moves_alike op of k r q live other one two
+  bytes_alike (Some (one_memory lease)) op of k r q live other one two = moves_alike op of k r q live other one two
   bytes_alike (Some (heap lease memory)) op of k r q live other one two = moves_alike op of k r q live other one two
   bytes_alike (Some (stack lease)) op of k r q live other one two =
       objects_alike stack_leases (StackLeaseMoves op) of k r q live other

@@ -1,10 +1,10 @@
 -- The slots of memories, of tables, of stacks and of heaps: each kind as one of those of which a grant has some.
 use Rattle.std.proofs.Common.{◌≢◌, ◌≡◌, ℕ, ◌+◌, ◌*◌, ◌<◌, ◌≤◌, List, [], ◌∷◌, length, map, Option, refl, ap, arith, sum_by}
-use Rattle.pool_run.proofs.Imports.{sum_by-cons, SlotKind, SlotName, Lease, memory_slot, slot_taken, taken_count, right_to, slot_count, both_count, leased_count, tables_count, LeasedHeap, heap_slot_taken, LeasedStack, stack_slot, stack_taken, heap_slot, RegionNumbers, PlainHeap, LeasedTable, table_slot, slot_other, region_rights, grant_stacks, grant_heaps, grant_count, grant_memories, grant_tables, Grant, instance, component, stack, heap}
+use Rattle.pool_run.proofs.Imports.{table_taken, sum_by-cons, SlotKind, SlotName, Lease, memory_slot, slot_taken, taken_count, right_to, slot_count, both_count, leased_count, tables_count, LeasedHeap, heap_slot_taken, LeasedStack, stack_slot, stack_taken, heap_slot, RegionNumbers, PlainHeap, LeasedTable, table_slot, slot_other, region_rights, grant_stacks, grant_heaps, grant_count, grant_memories, grant_tables, Grant, instance, component, one_memory, one_table, stack, heap}
 use Rattle.pool_hall.specs.declared.unit_name.SlotKind.TheVariants as kind
-use Rattle.pool_run.specs.Private.{stacks_in_grant, Grants, memories_in_grant, tables_in_grant}
+use Rattle.pool_run.specs.Private.{stacks_in_grant, Grants, memories_in_grant, tables_in_grant, memories_named_in, tables_named_in}
 use Rattle.pool_run.specs.Rooms.{stacks_in, stack_count, heaps_in, heaps_in_grant, heap_count, memories_in, tables_in, live_count, table_count}
-use Rattle.pool_run.specs.Turns.{private_stack, stack_of, heap_of, private_memory, private_table, private_grant, leases_of, tables_of, grants_of}
+use Rattle.pool_run.specs.Turns.{private_stack, stack_of, heap_of, private_memory, private_table, private_grant, leases_of, tables_of, leases_named, tables_named, grants_of}
 use Rattle.pool_run.specs.Ties.{granted_to}
 use Rattle.pool_run.proofs.Exhausted.{all_taken, room_for, one_free, live_told}
 use Rattle.pool_run.proofs.SlotsBelow.{times_in}
@@ -60,6 +60,9 @@ no_heap name other l = omega (arith, slot_other name (heap_slot l.index) (apart 
 no_memory : (name : SlotName) → kind_number name.kind ≢ 1 → (l : Lease) → taken_count (right_to name) (slot_taken l) ≡ 0
 no_memory name other l = omega (arith, slot_other name (memory_slot l.index) (apart name (memory_slot l.index) other), region_rights name (memory_slot l.index) l.numbers)
 
+no_table : (name : SlotName) → kind_number name.kind ≢ 2 → (l : LeasedTable) → taken_count (right_to name) (table_taken l) ≡ 0
+no_table name other l = omega (arith, slot_other name (table_slot l.index) (apart name (table_slot l.index) other), region_rights name (table_slot l.index) l.numbers)
+
 no_stack : (name : SlotName) → kind_number name.kind ≢ 3 → (l : LeasedStack) → taken_count (right_to name) (stack_taken l) ≡ 0
 no_stack name other l = omega (arith, slot_other name (stack_slot l.stack.index) (apart name (stack_slot l.stack.index) other), region_rights name (stack_slot l.stack.index) l.numbers)
 
@@ -67,24 +70,32 @@ module _ {P : Type 0} where
   pub memories_counted : (k : ℕ) (g : Grant P PlainHeap) → grant_count (right_to (memory_slot k)) g ≡ times_in memory_slot memory_one (λ (l : Lease). l.index) (λ l. l.numbers) k (leases_of g)
   memories_counted k (instance lease) = omega (arith, no_tables (memory_slot k) (λ is. absurd (omega (arith, is))) lease.tables.items)
   memories_counted k component = refl
+  memories_counted k (one_memory lease) = omega (arith, sum_by-cons (λ (l : Lease). both_count (right_to (memory_slot k)) (memory_slot l.index) l.numbers) lease [])
+  memories_counted k (one_table lease) = no_table (memory_slot k) (λ is. absurd (omega (arith, is))) lease
   memories_counted k (stack lease) = no_stack (memory_slot k) (λ is. absurd (omega (arith, is))) lease
   memories_counted k (heap lease memory) = omega (arith, no_heap (memory_slot k) (λ is. absurd (omega (arith, is))) lease, sum_by-cons (λ (l : Lease). both_count (right_to (memory_slot k)) (memory_slot l.index) l.numbers) memory [])
 
   pub tables_counted : (k : ℕ) (g : Grant P PlainHeap) → grant_count (right_to (table_slot k)) g ≡ times_in table_slot table_one (λ (l : LeasedTable). l.index) (λ l. l.numbers) k (tables_of g)
   tables_counted k (instance lease) = omega (arith, no_memories (table_slot k) (λ is. absurd (omega (arith, is))) lease.memories.items)
   tables_counted k component = refl
+  tables_counted k (one_memory lease) = no_memory (table_slot k) (λ is. absurd (omega (arith, is))) lease
+  tables_counted k (one_table lease) = omega (arith, sum_by-cons (λ (l : LeasedTable). both_count (right_to (table_slot k)) (table_slot l.index) l.numbers) lease [])
   tables_counted k (stack lease) = no_stack (table_slot k) (λ is. absurd (omega (arith, is))) lease
   tables_counted k (heap lease memory) = omega (arith, no_heap (table_slot k) (λ is. absurd (omega (arith, is))) lease, no_memory (table_slot k) (λ is. absurd (omega (arith, is))) memory)
 
   pub stacks_counted : (k : ℕ) (g : Grant P PlainHeap) → grant_count (right_to (stack_slot k)) g ≡ times_in stack_slot stack_one (λ (l : LeasedStack). l.stack.index) (λ l. l.numbers) k (stack_of g)
   stacks_counted k (instance lease) = omega (arith, no_memories (stack_slot k) (λ is. absurd (omega (arith, is))) lease.memories.items, no_tables (stack_slot k) (λ is. absurd (omega (arith, is))) lease.tables.items)
   stacks_counted k component = refl
+  stacks_counted k (one_memory lease) = no_memory (stack_slot k) (λ is. absurd (omega (arith, is))) lease
+  stacks_counted k (one_table lease) = no_table (stack_slot k) (λ is. absurd (omega (arith, is))) lease
   stacks_counted k (stack lease) = omega (arith, sum_by-cons (λ (l : LeasedStack). both_count (right_to (stack_slot k)) (stack_slot l.stack.index) l.numbers) lease [])
   stacks_counted k (heap lease memory) = omega (arith, no_heap (stack_slot k) (λ is. absurd (omega (arith, is))) lease, no_memory (stack_slot k) (λ is. absurd (omega (arith, is))) memory)
 
   pub heaps_counted : (k : ℕ) (g : Grant P PlainHeap) → grant_count (right_to (heap_slot k)) g ≡ times_in heap_slot heap_one (λ (l : LeasedHeap PlainHeap). l.index) (λ l. l.numbers) k (heap_of g)
   heaps_counted k (instance lease) = omega (arith, no_memories (heap_slot k) (λ is. absurd (omega (arith, is))) lease.memories.items, no_tables (heap_slot k) (λ is. absurd (omega (arith, is))) lease.tables.items)
   heaps_counted k component = refl
+  heaps_counted k (one_memory lease) = no_memory (heap_slot k) (λ is. absurd (omega (arith, is))) lease
+  heaps_counted k (one_table lease) = no_table (heap_slot k) (λ is. absurd (omega (arith, is))) lease
   heaps_counted k (stack lease) = no_stack (heap_slot k) (λ is. absurd (omega (arith, is))) lease
   heaps_counted k (heap lease memory) = omega (arith, no_memory (heap_slot k) (λ is. absurd (omega (arith, is))) memory, sum_by-cons (λ (l : LeasedHeap PlainHeap). both_count (right_to (heap_slot k)) (heap_slot l.index) l.numbers) lease [])
 
@@ -92,24 +103,32 @@ module _ {P : Type 0} where
   pub memories_sized : (g : Grant P PlainHeap) → grant_memories g ≡ length (leases_of g)
   memories_sized (instance lease) = omega arith
   memories_sized component = refl
+  memories_sized (one_memory lease) = refl
+  memories_sized (one_table lease) = refl
   memories_sized (stack lease) = refl
   memories_sized (heap lease memory) = refl
 
   pub tables_sized : (g : Grant P PlainHeap) → grant_tables g ≡ length (tables_of g)
   tables_sized (instance lease) = omega arith
   tables_sized component = refl
+  tables_sized (one_memory lease) = refl
+  tables_sized (one_table lease) = refl
   tables_sized (stack lease) = refl
   tables_sized (heap lease memory) = refl
 
   pub stacks_sized : (g : Grant P PlainHeap) → grant_stacks g ≡ length (stack_of g)
   stacks_sized (instance lease) = omega arith
   stacks_sized component = refl
+  stacks_sized (one_memory lease) = refl
+  stacks_sized (one_table lease) = refl
   stacks_sized (stack lease) = refl
   stacks_sized (heap lease memory) = refl
 
   pub heaps_sized : (g : Grant P PlainHeap) → grant_heaps g ≡ length (heap_of g)
   heaps_sized (instance lease) = omega arith
   heaps_sized component = refl
+  heaps_sized (one_memory lease) = refl
+  heaps_sized (one_table lease) = refl
   heaps_sized (stack lease) = refl
   heaps_sized (heap lease memory) = refl
 
@@ -117,24 +136,48 @@ module _ {P : Type 0} where
   pub memories_seen_of : (g : Grant P PlainHeap) → memories_in_grant (private_grant g) ≡ map private_memory (leases_of g)
   memories_seen_of (instance lease) = refl
   memories_seen_of component = refl
+  memories_seen_of (one_memory lease) = refl
+  memories_seen_of (one_table lease) = refl
   memories_seen_of (stack lease) = refl
   memories_seen_of (heap lease memory) = refl
+
+  pub memories_named_of : (g : Grant P PlainHeap) → memories_named_in (private_grant g) ≡ map private_memory (leases_named g)
+  memories_named_of (instance lease) = refl
+  memories_named_of component = refl
+  memories_named_of (one_memory lease) = refl
+  memories_named_of (one_table lease) = refl
+  memories_named_of (stack lease) = refl
+  memories_named_of (heap lease memory) = refl
 
   pub tables_seen_of : (g : Grant P PlainHeap) → tables_in_grant (private_grant g) ≡ map private_table (tables_of g)
   tables_seen_of (instance lease) = refl
   tables_seen_of component = refl
+  tables_seen_of (one_memory lease) = refl
+  tables_seen_of (one_table lease) = refl
   tables_seen_of (stack lease) = refl
   tables_seen_of (heap lease memory) = refl
+
+  pub tables_named_of : (g : Grant P PlainHeap) → tables_named_in (private_grant g) ≡ map private_table (tables_named g)
+  tables_named_of (instance lease) = refl
+  tables_named_of component = refl
+  tables_named_of (one_memory lease) = refl
+  tables_named_of (one_table lease) = refl
+  tables_named_of (stack lease) = refl
+  tables_named_of (heap lease memory) = refl
 
   pub stacks_seen_of : (g : Grant P PlainHeap) → stacks_in_grant (private_grant g) ≡ map private_stack (stack_of g)
   stacks_seen_of (instance lease) = refl
   stacks_seen_of component = refl
+  stacks_seen_of (one_memory lease) = refl
+  stacks_seen_of (one_table lease) = refl
   stacks_seen_of (stack lease) = refl
   stacks_seen_of (heap lease memory) = refl
 
   pub heaps_seen_of : (g : Grant P PlainHeap) → heaps_in_grant (private_grant g) ≡ map (λ l. l.index) (heap_of g)
   heaps_seen_of (instance lease) = refl
   heaps_seen_of component = refl
+  heaps_seen_of (one_memory lease) = refl
+  heaps_seen_of (one_table lease) = refl
   heaps_seen_of (stack lease) = refl
   heaps_seen_of (heap lease memory) = refl
 

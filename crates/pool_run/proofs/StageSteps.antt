@@ -1,6 +1,6 @@
 -- How a step takes a party's call from one stage to another: what follows of the stages alone.
 use Rattle.std.proofs.Common.{◌≡◌, ℕ, ◌+◌, ◌<◌, ◌≤◌, ◌⊎◌, inl, inr, Bool, true, false, Option, Some, None, refl, ap, arith, ◌&&◌, not, is_some, ◌*◌}
-use Rattle.pool_run.proofs.Imports.{MakerTold, PartyTold, IfGranted, phase_instances, instances_for, Progress, untested, uncounted, admitted, Stage, no_call, keys, asks, returning, refusing, purging, reserving, releasing, stage_by, stage_of_release, stage_at, Follows, Goes, seeks_stack, tests_heap, seeks_heap, counts_heap, tests_component, counts_component, stage_back, stage_of, is_idle, count_granted, grant_instances, grant_components, objects_wanted, objects_in, IsFrame, IsShapedAt, Plan, PlainHeap, Settings, PoolCore, Asked, stack_asked, heap_asked, Ending, Frame, instance, component, stack, heap, Outcome, Phase, Idle, Key, Validate, CountInstance, CountObject, Purge, Release, TestStack, TestHeap, CountHeap, ValidateComponent, CountComponent, UncountComponent, ReleaseStep, Reserve, counted_component, counted_instance, only, phase_counted}
+use Rattle.pool_run.proofs.Imports.{MakerTold, PartyTold, IfGranted, phase_instances, instances_for, Progress, untested, uncounted, admitted, Stage, no_call, keys, asks, returning, refusing, purging, reserving, releasing, stage_by, stage_of_release, stage_at, Follows, Goes, seeks_stack, tests_heap, seeks_heap, seeks_single, counts_heap, tests_component, counts_component, stage_back, stage_of, is_idle, count_granted, grant_instances, grant_components, objects_wanted, objects_in, IsFrame, IsShapedAt, Plan, PlainHeap, Settings, PoolCore, Asked, stack_asked, memory_asked, table_asked, heap_asked, Ending, Frame, instance, component, one_memory, one_table, stack, heap, Outcome, Phase, Idle, Key, Validate, CountInstance, CountObject, Purge, Release, TestStack, TestHeap, CountHeap, ValidateComponent, CountComponent, UncountComponent, ReleaseStep, Reserve, counted_component, counted_instance, only, phase_counted}
 use Rattle.pool_alloc.specs.declared.frame.Ending.TheVariants as ending
 use Rattle.pool_alloc.specs.declared.frame.Outcome.TheVariants as answer
 use Rattle.pool_run.specs.Limits.{admitted_at}
@@ -50,6 +50,8 @@ counted_back (ending.Refused e) is = absurd cc
 counted_back e is = absurd cc
 
 admitted_by : (asked : Asked) (e : Ending) (n : ℕ) → admitted_at (stage_by asked e n) ≤ instances_for asked
+admitted_by (memory_asked m) ending.Granted n = omega arith
+admitted_by (table_asked ty) ending.Granted n = omega arith
 admitted_by stack_asked ending.Granted n = omega arith
 admitted_by (heap_asked ty) ending.Granted n = omega arith
 admitted_by _ ending.Granted n = omega arith
@@ -57,6 +59,8 @@ admitted_by asked ending.Returned n = omega arith
 admitted_by asked (ending.Refused e) n = omega arith
 
 counted_by : (asked : Asked) (e : Ending) (n : ℕ) → stage_by asked e n ≡ asks uncounted → ⊥
+counted_by (memory_asked m) ending.Granted n is = absurd cc
+counted_by (table_asked ty) ending.Granted n is = absurd cc
 counted_by stack_asked ending.Granted n is = absurd cc
 counted_by (heap_asked ty) ending.Granted n is = absurd cc
 counted_by _ ending.Granted n is = absurd cc
@@ -65,6 +69,8 @@ counted_by asked (ending.Refused e) n is = absurd cc
 
 seeks_by : (asked : Asked) (e : Ending) (n : ℕ) → stage_by asked e n ≡ asks seeks_stack → asked ≡ stack_asked
 seeks_by stack_asked e n is = refl
+seeks_by (memory_asked m) ending.Granted n is = absurd cc
+seeks_by (table_asked ty) ending.Granted n is = absurd cc
 seeks_by (heap_asked ty) ending.Granted n is = absurd cc
 seeks_by _ ending.Granted n is = absurd cc
 seeks_by _ ending.Returned n is = absurd cc
@@ -209,6 +215,7 @@ module _ {P : Type 0} (maker : MakerTold) (old new : PartyTold) (c : PoolCore P 
   for_instance untested q follows for = refl
   for_instance uncounted q follows for = refl
   for_instance (admitted n) q follows for = refl
+  for_instance (seeks_single n) (seeks_single m) follows for = for
   for_instance seeks_stack seeks_stack follows for = for
   for_instance tests_heap (seeks_heap m) follows for = for
   for_instance (seeks_heap n) (seeks_heap m) follows for = for
@@ -222,9 +229,12 @@ module _ {P : Type 0} (maker : MakerTold) (old new : PartyTold) (c : PoolCore P 
   staged (asks p) (refusing e) None goes = record { answer = refl; settled = λ e. absurd cc; asking = λ e. absurd cc; granted = tt; for_it = λ e. absurd cc; instance_granted = tt; drawn = refl; key = refl }
   staged (asks untested) no_call (Some (answer.Refused e)) goes = record { answer = refl; settled = λ e. refl; asking = λ e. absurd cc; granted = tt; for_it = λ e. absurd cc; instance_granted = tt; drawn = refl; key = refl }
   staged (asks p) no_call (Some (answer.Granted (instance lease))) goes = record { answer = refl; settled = λ e. refl; asking = λ e. absurd cc; granted = refl; for_it = λ e. absurd cc; instance_granted = for_instance p (admitted (objects_wanted f.asked)) goes.0 refl; drawn = refl; key = refl }
+  staged (asks p) no_call (Some (answer.Granted (one_memory lease))) goes = record { answer = refl; settled = λ e. refl; asking = λ e. absurd cc; granted = refl; for_it = λ e. absurd cc; instance_granted = tt; drawn = refl; key = refl }
+  staged (asks p) no_call (Some (answer.Granted (one_table lease))) goes = record { answer = refl; settled = λ e. refl; asking = λ e. absurd cc; granted = refl; for_it = λ e. absurd cc; instance_granted = tt; drawn = refl; key = refl }
   staged (asks p) no_call (Some (answer.Granted (stack lease))) goes = record { answer = refl; settled = λ e. refl; asking = λ e. absurd cc; granted = refl; for_it = λ e. absurd cc; instance_granted = tt; drawn = refl; key = refl }
   staged (asks seeks_stack) no_call (Some (answer.Refused e)) goes = record { answer = refl; settled = λ e. refl; asking = λ e. absurd cc; granted = tt; for_it = λ e. absurd cc; instance_granted = tt; drawn = refl; key = refl }
   staged (asks tests_heap) no_call (Some (answer.Refused e)) goes = record { answer = refl; settled = λ e. refl; asking = λ e. absurd cc; granted = tt; for_it = λ e. absurd cc; instance_granted = tt; drawn = refl; key = refl }
+  staged (asks (seeks_single n)) no_call (Some (answer.Refused e)) goes = record { answer = refl; settled = λ e. refl; asking = λ e. absurd cc; granted = tt; for_it = λ e. absurd cc; instance_granted = tt; drawn = refl; key = refl }
   staged (asks (seeks_heap n)) no_call (Some (answer.Refused e)) goes = record { answer = refl; settled = λ e. refl; asking = λ e. absurd cc; granted = tt; for_it = λ e. absurd cc; instance_granted = tt; drawn = refl; key = refl }
   staged (asks counts_heap) no_call (Some (answer.Granted (heap lease memory))) goes = record { answer = refl; settled = λ e. refl; asking = λ e. absurd cc; granted = refl; for_it = λ e. absurd cc; instance_granted = tt; drawn = refl; key = refl }
   staged (tests_component info) counts_component None goes = record { answer = refl; settled = λ e. absurd cc; asking = λ e. refl; granted = tt; for_it = λ e. absurd cc; instance_granted = tt; drawn = refl; key = refl }
@@ -250,9 +260,12 @@ module _ {P : Type 0} (maker : MakerTold) (old new : PartyTold) (c : PoolCore P 
   may_grant (asks p) (refusing e) None goes = inl refl
   may_grant (asks untested) no_call (Some (answer.Refused e)) goes = inl refl
   may_grant (asks p) no_call (Some (answer.Granted (instance lease))) goes = inl (omega arith)
+  may_grant (asks p) no_call (Some (answer.Granted (one_memory lease))) goes = inl refl
+  may_grant (asks p) no_call (Some (answer.Granted (one_table lease))) goes = inl refl
   may_grant (asks p) no_call (Some (answer.Granted (stack lease))) goes = inl refl
   may_grant (asks seeks_stack) no_call (Some (answer.Refused e)) goes = inl refl
   may_grant (asks tests_heap) no_call (Some (answer.Refused e)) goes = inl refl
+  may_grant (asks (seeks_single n)) no_call (Some (answer.Refused e)) goes = inl refl
   may_grant (asks (seeks_heap n)) no_call (Some (answer.Refused e)) goes = inl refl
   may_grant (asks counts_heap) no_call (Some (answer.Granted (heap lease memory))) goes = inl refl
   may_grant (tests_component info) counts_component None goes = inl refl
@@ -274,6 +287,7 @@ module _ {P : Type 0} (maker : MakerTold) (old new : PartyTold) (c : PoolCore P 
   granted_within : (others n : ℕ) (p : Progress) → Follows old new c f p (admitted n) → others + admitted_at (asks p) ≤ c.settings.max_core_instances → others ≤ c.counters.core_instances → others + 1 ≤ c.settings.max_core_instances
   granted_within others n untested follows within counted = absurd follows
   granted_within others n uncounted follows within counted = omega (arith, follows.1, counted)
+  granted_within others n (seeks_single m) follows within counted = absurd follows
   granted_within others n seeks_stack follows within counted = absurd follows
   granted_within others n tests_heap follows within counted = absurd follows
   granted_within others n (seeks_heap m) follows within counted = absurd follows
@@ -291,9 +305,12 @@ module _ {P : Type 0} (maker : MakerTold) (old new : PartyTold) (c : PoolCore P 
   admits others (asks p) (refusing e) None goes within counted = record { within = omega (arith, within) }
   admits others (asks untested) no_call (Some (answer.Refused e)) goes within counted = record { within = omega (arith, within) }
   admits others (asks p) no_call (Some (answer.Granted (instance lease))) goes within counted = record { within = omega (arith, granted_within others (objects_wanted f.asked) p goes.0 within counted) }
+  admits others (asks p) no_call (Some (answer.Granted (one_memory lease))) goes within counted = record { within = omega (arith, within) }
+  admits others (asks p) no_call (Some (answer.Granted (one_table lease))) goes within counted = record { within = omega (arith, within) }
   admits others (asks p) no_call (Some (answer.Granted (stack lease))) goes within counted = record { within = omega (arith, within) }
   admits others (asks seeks_stack) no_call (Some (answer.Refused e)) goes within counted = record { within = omega (arith, within) }
   admits others (asks tests_heap) no_call (Some (answer.Refused e)) goes within counted = record { within = omega (arith, within) }
+  admits others (asks (seeks_single n)) no_call (Some (answer.Refused e)) goes within counted = record { within = omega (arith, within) }
   admits others (asks (seeks_heap n)) no_call (Some (answer.Refused e)) goes within counted = record { within = omega (arith, within) }
   admits others (asks counts_heap) no_call (Some (answer.Granted (heap lease memory))) goes within counted = record { within = omega (arith, within) }
   admits others (tests_component info) counts_component None goes within counted = record { within = omega (arith, within) }

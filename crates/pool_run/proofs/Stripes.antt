@@ -1,8 +1,8 @@
 -- No step but that for a party's key changes the stripe from which it has its memories.
 use Rattle.std.proofs.Common.{◌≡◌, ℕ, Bool, true, false, List, [], ◌∷◌, Option, Some, None, Result, Ok, Err, refl, ap, ◌∙◌, ◌==◌, length, nat_lt, if◌then◌else◌}
-use Rattle.pool_run.proofs.Imports.{Slot, MemoryState, Told, Unsupported, Queue, Queued, first_of_kind, others_of_kind, AllocError, PlainHeap, PartyTold, Lease, objects_in, objects_wanted, begun_call, memory_made, LeasedHeap, HeapMakeFault, heap_refused, module_refused, component_refused, FlushStep, run, zero, put, free, flush_step, merged, validated, counted, stacks_tested, heaps_tested, heap_granted, make_heap_row, component_tested, component_counted, paged, was_made, was_made_table, was_reset, put_first, flush_row, row_of, StepGiven, info_wanted, memories_wanted, tables_wanted, stage_at, stage_of, StepsTo, LeasedTable, table_made, After, Left, Row, Turn, goes, ends, next, flush, search, stays, after, is_flushed, all_returned, returned_next, next_by, Asked, nothing_asked, module_asked, stack_asked, heap_asked, Call, Ending, granted, returned, refused, Frame, Phase, Idle, Key, Validate, CountInstance, Pick, TakeQueue, TakeRegion, Empty, Instantiate, MakeMemory, MakeTable, CountObject, PutBack, FreeOne, UncountObject, Reset, Merge, Flush, UncountInstance, Purge, Release, TestStack, TestHeap, TakeHeap, MakeHeap, CountHeap, PutNoHeap, UncountHeap, PutHeap, FreeHeap, ValidateComponent, CountComponent, UncountComponent, TakenSlot, has_turns, pick_affine_row, purge_row, reserve_row, release_row, PurgeCursor, PurgeStep, ReleaseStep, PoolCore}
+use Rattle.pool_run.proofs.Imports.{memory_kept, table_kept, Slot, MemoryState, Told, Unsupported, Queue, Queued, first_of_kind, others_of_kind, AllocError, PlainHeap, PartyTold, Lease, objects_in, objects_wanted, begun_call, memory_made, LeasedHeap, HeapMakeFault, heap_refused, module_refused, component_refused, FlushStep, run, zero, put, free, flush_step, merged, validated, counted, stacks_tested, heaps_tested, heap_granted, make_heap_row, component_tested, component_counted, paged, was_made, was_made_table, was_reset, put_first, flush_row, row_of, StepGiven, info_wanted, memories_wanted, tables_wanted, stage_at, stage_of, StepsTo, LeasedTable, table_made, After, Left, Row, Turn, goes, ends, next, flush, search, stays, after, is_flushed, all_returned, returned_next, next_by, Asked, nothing_asked, module_asked, stack_asked, memory_asked, table_asked, heap_asked, Call, Ending, granted, returned, refused, Frame, Phase, Idle, Key, Validate, CountInstance, Pick, TakeQueue, TakeRegion, Empty, Instantiate, MakeMemory, MakeTable, CountObject, PutBack, FreeOne, UncountObject, Reset, Merge, Flush, UncountInstance, Purge, Release, TestStack, TestHeap, TakeHeap, MakeHeap, CountHeap, PutNoHeap, UncountHeap, PutHeap, FreeHeap, ValidateComponent, CountComponent, UncountComponent, TakenSlot, has_turns, pick_affine_row, purge_row, reserve_row, release_row, PurgeCursor, PurgeStep, ReleaseStep, PoolCore}
 use Rattle.pool_alloc.specs.declared.frame.Call.TheVariants as call
-use Rattle.pool_alloc.specs.declared.frame.Grant.TheVariants.{Instance, Component, Stack, Heap}
+use Rattle.pool_alloc.specs.declared.frame.Grant.TheVariants.{Instance, Component, Memory as one_memory, Table as one_table, Stack, Heap}
 use Rattle.pool_alloc.specs.declared.frame.Object.TheVariants.{Memory, Table}
 use Rattle.pool_alloc.specs.declared.frame.Object.TheVariants as object
 use Rattle.pool_alloc.specs.declared.purge.PurgeStep.TheVariants as purging
@@ -15,6 +15,8 @@ module _ {P : Type 0} where
   either false x y n one other = other
 
   all_stripe : (asked : Asked) (f : Frame P PlainHeap) → (all_returned asked f).frame.stripe ≡ f.stripe
+  all_stripe (memory_asked m) f = refl
+  all_stripe (table_asked ty) f = refl
   all_stripe stack_asked f = refl
   all_stripe nothing_asked f = refl
   all_stripe (module_asked m) f = refl
@@ -46,6 +48,10 @@ module _ {P : Type 0} where
   begun_stripe (call.Purge id) f = refl
   begun_stripe call.Release f = refl
   begun_stripe (call.Component info) f = refl
+  begun_stripe (call.Memory m) f = refl
+  begun_stripe (call.Table ty) f = refl
+  begun_stripe (call.GiveBack (one_memory lease)) f = refl
+  begun_stripe (call.GiveBack (one_table lease)) f = refl
   begun_stripe call.Stack f = refl
   begun_stripe (call.Heap ty) f = refl
   begun_stripe (call.GiveBack (Stack lease)) f = refl
@@ -70,6 +76,14 @@ module _ {P : Type 0} where
   heap_stripe : (ms : List Lease) (lease : LeasedHeap PlainHeap) (c : PoolCore P PlainHeap) (f : Frame P PlainHeap) → (heap_granted ms lease c f).frame.stripe ≡ f.stripe
   heap_stripe [] lease c f = refl
   heap_stripe (m ∷ ms) lease c f = refl
+
+  memory_stripe : (asked : Asked) (lease : Lease) (f : Frame P PlainHeap) → (memory_kept asked lease f).stripe ≡ f.stripe
+  memory_stripe (memory_asked m) lease f = refl
+  memory_stripe _ lease f = refl
+
+  table_kept_stripe : (asked : Asked) (lease : LeasedTable) (f : Frame P PlainHeap) → (table_kept asked lease f).stripe ≡ f.stripe
+  table_kept_stripe (table_asked ty) lease f = refl
+  table_kept_stripe _ lease f = refl
 
   counted_stripe : (b : Bool) (c : PoolCore P PlainHeap) (f : Frame P PlainHeap) → (counted b c f).frame.stripe ≡ f.stripe
   counted_stripe true c f = refl
@@ -153,8 +167,8 @@ module _ {P : Type 0} where
   row_stripe g (Instantiate at held) c f on = paged_stripe g.fault at g.slot _ c f
   row_stripe g (MakeMemory at held) c f on = made_stripe at held (memory_made c.settings (memories_wanted f.asked) (length f.objects.memories.items) g.limiter held) c f
   row_stripe g (MakeTable at region) c f on = table_stripe at region (table_made c.settings (tables_wanted f.asked) (length f.objects.tables.items) g.limiter at region) c f
-  row_stripe g (CountObject (Memory lease)) c f on = refl
-  row_stripe g (CountObject (Table lease)) c f on = refl
+  row_stripe g (CountObject (Memory lease)) c f on = memory_stripe f.asked lease f
+  row_stripe g (CountObject (Table lease)) c f on = table_kept_stripe f.asked lease f
   row_stripe g (CountObject (object.Stack lease)) c f on = refl
   row_stripe g (PutBack at held) c f on = refl
   row_stripe g (FreeOne name) c f on = refl

@@ -1,6 +1,6 @@
 -- What a party has once a step was made fits what it was told, with the reply if the step ends the command.
 use Rattle.std.proofs.Common.{◌≡◌, ℕ, ◌+◌, ◌<◌, ◌≤◌, ◌⊎◌, inl, inr, true, false, List, [], ◌∷◌, length, Option, Some, None, refl, sym, ap, ◌∙◌, subst, arith, IsSome, slice_set, sum_by}
-use Rattle.pool_run.proofs.Imports.{length-map, AllocError, heap_slot, ListedHeaps, risen, Limits, MemoryType, PartyTold, IsGrantOf, IsHeapOf, IfGranted, LeasedHeap, Lease, memory_slot, objects_wanted, LeasedTable, table_slot, InstanceLease, of_kind, SlotName, PlainHeap, right_to, frame_instances, component_refused, no_component_left, AreSupported, Progress, untested, uncounted, admitted, Stage, no_call, keys, asks, returning, refusing, purging, reserving, releasing, Follows, Goes, seeks_stack, tests_heap, seeks_heap, counts_heap, tests_component, counts_component, IsBroken, Raises, IsHeapUntested, IsHeapTested, SeeksHeap, HasHeap, grant_count, memories_wanted, images_wanted, memory_slots, PoolCore, Settings, ComponentInfo, Unsupported, Frame, IsStackLease, IsNewStack, LeasedStack, stack_slot, Asked, stack_asked, heap_asked, Grant, instance, component, stack, heap, Outcome, counted_component, only, phase_counted}
+use Rattle.pool_run.proofs.Imports.{length-map, AllocError, heap_slot, ListedHeaps, risen, Limits, MemoryType, PartyTold, IsGrantOf, IsHeapOf, IfGranted, LeasedHeap, Lease, memory_slot, objects_wanted, LeasedTable, table_slot, InstanceLease, of_kind, SlotName, PlainHeap, right_to, frame_instances, component_refused, no_component_left, AreSupported, Progress, untested, uncounted, admitted, Stage, no_call, keys, asks, returning, refusing, purging, reserving, releasing, Follows, Goes, seeks_stack, tests_heap, seeks_heap, seeks_single, counts_heap, tests_component, counts_component, IsBroken, Raises, IsHeapUntested, IsHeapTested, SeeksHeap, HasHeap, grant_count, memories_wanted, images_wanted, memory_slots, PoolCore, Settings, ComponentInfo, Unsupported, Frame, IsStackLease, IsNewStack, LeasedStack, stack_slot, Asked, stack_asked, heap_asked, Grant, instance, component, one_memory, one_table, stack, heap, Outcome, counted_component, only, phase_counted}
 use Rattle.pool_slots.specs.declared.errors.AllocError.TheVariants as refusal
 use Rattle.pool_run.proofs.SlotsMade.{made_slot}
 use Rattle.pool_alloc.specs.declared.frame.Outcome.TheVariants as answer
@@ -307,6 +307,7 @@ module _ {P : Type 0} (w : World) (old new : PartyTold) (c : PoolCore P PlainHea
   tied_same (asks untested) (asks uncounted) asked None calls none no_component for_stack same of apart goes tied = (tied.0, goes_asking untested uncounted asked (same refl) (at tied.0) tied.1 goes)
   tied_same (asks uncounted) (asks (admitted m)) asked None calls none no_component for_stack same of apart goes tied = (tied.0, goes_asking uncounted (admitted m) asked (same refl) (at tied.0) tied.1 goes)
   tied_same (asks (admitted n)) (asks (admitted m)) asked None calls none no_component for_stack same of apart goes tied = (tied.0, goes_asking (admitted n) (admitted m) asked (same refl) (at tied.0) tied.1 goes)
+  tied_same (asks (seeks_single n)) t asked o calls none no_component for_stack same of apart goes tied = absurd tied.1.so_far
   tied_same (asks seeks_stack) (asks seeks_stack) asked None calls none no_component for_stack same of apart goes tied = tied
   tied_same (asks untested) (refusing e) asked None calls none no_component for_stack same of apart goes tied = (unmoved tied.0, refuses untested e (λ e. none (ap asks e)) tied.0 tied.1 goes)
   tied_same (asks uncounted) (refusing e) asked None calls none no_component for_stack same of apart goes tied = (unmoved tied.0, refuses uncounted e (λ e. none (ap asks e)) tied.0 tied.1 goes)

@@ -7,7 +7,7 @@ use Rattle.pool_table.specs.declared.gc_store.GcTableError.TheVariants as failed
 use Rattle.pool_alloc.specs.declared.leases.element.Element.{Element}
 use Rattle.pool_run.specs.Acts.{MemoryOp, reads, writes, fills, grows, asks_size, TableOp, gets, sets, lengthens, asks_length, Act, requests, on_memory, on_table, drops, purges, releases, Wanted, an_instance, a_component, a_stack, a_heap}
 use Rattle.pool_run.specs.Objects.{MovesNamed}
-use Rattle.pool_run.specs.Turns.{LeaseMoves, StackStateMoves, StackLeaseMoves, leases_of, with_lease, with_stack_lease}
+use Rattle.pool_run.specs.Turns.{LeaseMoves, StackStateMoves, StackLeaseMoves, leases_named, with_lease, with_stack_lease}
 use Rattle.pool_run.specs.declared.act.MemoryOp.{MemoryOp as GivenOp}
 use Rattle.pool_run.specs.declared.act.MemoryOp.TheVariants as op
 use Rattle.pool_run.specs.declared.act.TableOp.{TableOp as GivenTableOp}
@@ -98,10 +98,10 @@ module _ {P : Type 0} where
   abbrev pub MovesGrantBytes : MemoryOp → GrowthRule → ℕ → Grant P PlainHeap → Reply → Grant P PlainHeap → Type 0
   MovesGrantBytes op rule k (stack lease) reply new = (s : StackState) × (new ≡ stack (record lease { stack = s })) × MovesOnly (StackStateMoves op) k lease.stack reply s
   MovesGrantBytes op rule k (heap lease memory) reply new = (l : Lease) × (new ≡ heap lease l) × MovesOnly (LeaseMoves op rule) k memory reply l
-  MovesGrantBytes op rule k grant reply new = MovesNamed (LeaseMoves op rule) (slice_get (leases_of grant) k) (with_lease k) grant reply new
+  MovesGrantBytes op rule k grant reply new = MovesNamed (LeaseMoves op rule) (slice_get (leases_named grant) k) (with_lease k) grant reply new
 
   -- An operation on bytes of a grant that was taken out of its place and is put back.
   abbrev pub MovesTakenBytes : MemoryOp → GrowthRule → ℕ → ℕ → Grant P PlainHeap → List (Option (Grant P PlainHeap)) → Reply → List (Option (Grant P PlainHeap)) → Type 0
   MovesTakenBytes op rule of k (stack lease) live reply new =
       MovesNamed (StackLeaseMoves op) (slice_get (lease ∷ []) k) (λ l at. slice_set at of (Some (with_stack_lease k l (stack lease)))) (slice_set live of (Some (stack lease))) reply new
-  MovesTakenBytes op rule of k grant live reply new = MovesNamed (LeaseMoves op rule) (slice_get (leases_of grant) k) (λ l at. slice_set at of (Some (with_lease k l grant))) (slice_set live of (Some grant)) reply new
+  MovesTakenBytes op rule of k grant live reply new = MovesNamed (LeaseMoves op rule) (slice_get (leases_named grant) k) (λ l at. slice_set at of (Some (with_lease k l grant))) (slice_set live of (Some grant)) reply new

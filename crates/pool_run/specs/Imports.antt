@@ -18,10 +18,10 @@ pub use Rattle.pool_alloc.specs.StepTable.{no_component_left}
 pub use Rattle.pool_alloc.specs.Searches.{IsSearched}
 pub use Rattle.pool_alloc.specs.BetweenSteps.{AreImagesOf, IsCore, IsFrame}
 pub use Rattle.pool_alloc.specs.StackLeases.{LeasedStack}
-pub use Rattle.pool_alloc.specs.CallStages.{Progress, Stage, admitted, asks, counts_component, counts_heap, keys, no_call, purging, refusing, releasing, reserving, returning, seeks_heap, seeks_stack, stage_of, tests_component, tests_heap, uncounted, untested}
+pub use Rattle.pool_alloc.specs.CallStages.{Progress, Stage, admitted, asks, counts_component, counts_heap, keys, no_call, purging, refusing, releasing, reserving, returning, seeks_heap, seeks_single, seeks_stack, stage_of, tests_component, tests_heap, uncounted, untested}
 pub use Rattle.pool_alloc.specs.Stepping.{StepsTo, grant_components, grant_instances, grant_weight, is_idle}
 pub use Rattle.pool_alloc.specs.StepReads.{IsModule, allocator_of, images_wanted, info_wanted, memories_wanted, memory_slots, no_module, queue_at, shard_at, stripe_allocator, tables_wanted}
-pub use Rattle.pool_alloc.specs.PoolTotals.{calls_in_frame, calls_kept, calls_of_instance, metrics_of}
+pub use Rattle.pool_alloc.specs.PoolTotals.{table_calls, calls_in_frame, calls_kept, calls_of_instance, metrics_of}
 pub use Rattle.pool_alloc.specs.TableLeases.{LeasedTable, LiesInRegion, element_of}
 pub use Rattle.pool_alloc.specs.TableSteps.{table_bytes, table_refused}
 pub use Rattle.pool_alloc.specs.Turns.{After}
@@ -32,7 +32,7 @@ pub use Rattle.pool_alloc.specs.declared.frame.Asked.TheVariants.{Heap as heap_a
 pub use Rattle.pool_alloc.specs.declared.frame.Call.{Call}
 pub use Rattle.pool_alloc.specs.declared.frame.Frame.{Frame}
 pub use Rattle.pool_alloc.specs.declared.frame.Grant.{Grant}
-pub use Rattle.pool_alloc.specs.declared.frame.Grant.TheVariants.{Component as component, Heap as heap, Instance as instance, Stack as stack}
+pub use Rattle.pool_alloc.specs.declared.frame.Grant.TheVariants.{Component as component, Heap as heap, Instance as instance, Memory as one_memory, Stack as stack, Table as one_table}
 pub use Rattle.pool_alloc.specs.declared.frame.Outcome.{Outcome}
 pub use Rattle.pool_alloc.specs.declared.pool_core.PoolCore.{PoolCore}
 pub use Rattle.pool_alloc.specs.declared.pool_core.Settings.{Settings}

@@ -27,11 +27,13 @@ pub record PrivateInstance : Type 0 where
   pub memories : List PrivateMemory
   pub tables : List PrivateTable
 
--- A live grant: an instance; a component, of which its party has nothing but that it is granted; a stack; or a heap, of
--- which it has the slot that its reply named, and a memory.
+-- A live grant: an instance; a component, of which its party has nothing but that it is granted; a memory or a table by itself,
+-- which no command asks for; a stack; or a heap, of which it has the slot that its reply named, and a memory.
 pub data PrivateGrant : Type 0 where
   instance_grant : PrivateInstance → PrivateGrant
   component_grant : PrivateGrant
+  memory_grant : PrivateMemory → PrivateGrant
+  table_grant : PrivateTable → PrivateGrant
   stack_grant : PrivateStack → PrivateGrant
   heap_grant : ℕ → PrivateMemory → PrivateGrant
 
@@ -306,24 +308,37 @@ MemoryMoves (fills at len byte) rule m new reply = Writes at (replicate len byte
 MemoryMoves (grows pages) rule m new reply = Grows rule pages m new reply
 MemoryMoves asks_size rule m new reply = (reply ≡ Size m.size) × (new ≡ m)
 
--- The memories of a grant; a heap has one.
+-- The memories of a grant: an instance's, the one that it is, or the one of a heap.
 abbrev pub memories_in_grant : PrivateGrant → List PrivateMemory
 memories_in_grant (instance_grant g) = g.memories
+memories_in_grant (memory_grant m) = m ∷ []
 memories_in_grant (heap_grant slot m) = m ∷ []
 memories_in_grant _ = []
 
--- A grant with its memory k replaced.
+-- The memories of a grant that commands name: an instance's, or the one of a heap.
+abbrev pub memories_named_in : PrivateGrant → List PrivateMemory
+memories_named_in (instance_grant g) = g.memories
+memories_named_in (heap_grant slot m) = m ∷ []
+memories_named_in _ = []
+
+-- A grant with memory k of these replaced.
 abbrev pub put_memory : ℕ → PrivateMemory → PrivateGrant → PrivateGrant
 put_memory k m (instance_grant g) = instance_grant (record g { memories = slice_set g.memories k m })
 put_memory k m (heap_grant slot old) = heap_grant slot (if k == 0 then m else old)
 put_memory k m g = g
 
--- The tables of a grant, which an instance alone has.
+-- The tables of a grant: an instance's, or the one that it is.
 abbrev pub tables_in_grant : PrivateGrant → List PrivateTable
 tables_in_grant (instance_grant g) = g.tables
+tables_in_grant (table_grant x) = x ∷ []
 tables_in_grant _ = []
 
--- A grant with its table k replaced.
+-- The tables of a grant that commands name, which an instance alone has.
+abbrev pub tables_named_in : PrivateGrant → List PrivateTable
+tables_named_in (instance_grant g) = g.tables
+tables_named_in _ = []
+
+-- A grant with table k of these replaced.
 abbrev pub put_table : ℕ → PrivateTable → PrivateGrant → PrivateGrant
 put_table k x (instance_grant g) = instance_grant (record g { tables = slice_set g.tables k x })
 put_table k x g = g
@@ -340,11 +355,11 @@ put_stack k s g = g
 
 -- Where the memories of a grant stand in it.
 abbrev pub private_memories : Objects PrivateGrant PrivateMemory
-private_memories = record { in_grant = memories_in_grant; put_in = put_memory }
+private_memories = record { in_grant = memories_named_in; put_in = put_memory }
 
 -- Where the tables of a grant stand in it.
 abbrev pub private_tables : Objects PrivateGrant PrivateTable
-private_tables = record { in_grant = tables_in_grant; put_in = put_table }
+private_tables = record { in_grant = tables_named_in; put_in = put_table }
 
 -- Where the stack of a grant stands in it.
 abbrev pub private_stacks : Objects PrivateGrant PrivateStack

@@ -1,6 +1,6 @@
 -- A turn of a party in a run: the next step of its call, or the first step of its next command.
 use Rattle.std.specs.Prelude.{◌≡◌, ℕ, ◌+◌, ◌*◌, ◌<◌, List, [], ◌∷◌, ◌++◌, length, map, replicate, ◌==◌, nat_le, nat_lt, slice_get, slice_index_or, slice_range, slice_set, ◌⊎◌, Bool, true, false, if◌then◌else◌, Option, Some, None, option_map}
-use Rattle.pool_run.specs.Imports.{concat, Told, overwritten, risen, GrowthRule, InPlace, FailsInPlace, IsCallPlanned, MemoryState, bytes_of, memory_written, HeapsTold, listed_heaps, ListedHeaps, ElementKind, Element, width, word, type_of, ListedStore, Lease, IsUsable, PartyTold, LeasedTable, LiesInRegion, no_room, LeasedStack, LeasedHeap, Slot, StackState, plain_written, PlainHeap, begun_call, After, StepsTo, is_idle, PoolCore, Frame, ModuleAsked, Call, Grant, instance, component, stack, heap, Outcome, MemoryOutOfBounds}
+use Rattle.pool_run.specs.Imports.{concat, Told, overwritten, risen, GrowthRule, InPlace, FailsInPlace, IsCallPlanned, MemoryState, bytes_of, memory_written, HeapsTold, listed_heaps, ListedHeaps, ElementKind, Element, width, word, type_of, ListedStore, Lease, IsUsable, PartyTold, LeasedTable, LiesInRegion, no_room, LeasedStack, LeasedHeap, Slot, StackState, plain_written, PlainHeap, begun_call, After, StepsTo, is_idle, PoolCore, Frame, ModuleAsked, Call, Grant, instance, component, one_memory, one_table, stack, heap, Outcome, MemoryOutOfBounds}
 use Rattle.pool_limits.specs.declared.errors.GrowError.TheVariants.{PageFault}
 use Rattle.pool_slots.specs.declared.errors.AllocError.TheVariants as alloc
 use Rattle.pool_alloc.specs.declared.frame.Call.TheVariants as call
@@ -9,7 +9,7 @@ use Rattle.pool_run.specs.PartyRules.{rule_of, host_of}
 use Rattle.pool_run.specs.PrivateStacks.{ReadsBytes, PrivateStack}
 use Rattle.pool_run.specs.PrivateTables.{Host, PrivateTable, StoredTable, TableMoves, elements_set}
 use Rattle.pool_run.specs.TableValues.{element_for}
-use Rattle.pool_run.specs.Private.{PrivateMemory, PrivateGrant, instance_grant, component_grant, stack_grant, heap_grant, Grants, IsRead, GrowthEnd, as_it_was, could_not, has_grown, growth, size_wanted, memory_grown}
+use Rattle.pool_run.specs.Private.{PrivateMemory, PrivateGrant, instance_grant, component_grant, memory_grant, table_grant, stack_grant, heap_grant, Grants, IsRead, GrowthEnd, as_it_was, could_not, has_grown, growth, size_wanted, memory_grown}
 use Rattle.pool_run.specs.Objects.{Objects, MovesObject, object_at}
 use Rattle.pool_run.specs.Acts.{MemoryOp, reads, writes, fills, grows, asks_size, TableOp, sets, Act, requests, on_memory, on_table, drops, purges, releases, act_of, Wanted, an_instance, a_component, a_stack, a_heap, heap_type}
 use Rattle.pool_run.specs.declared.command.Command.{Command}
@@ -154,6 +154,8 @@ module _ {P : Type 0} where
   abbrev pub private_grant : Grant P PlainHeap → PrivateGrant
   private_grant (instance lease) = instance_grant (record { memories = map private_memory lease.memories.items; tables = map private_table lease.tables.items })
   private_grant component = component_grant
+  private_grant (one_memory lease) = memory_grant (private_memory lease)
+  private_grant (one_table lease) = table_grant (private_table lease)
   private_grant (stack lease) = stack_grant (private_stack lease)
   private_grant (heap lease memory) = heap_grant lease.index (private_memory memory)
 
@@ -161,16 +163,29 @@ module _ {P : Type 0} where
   abbrev pub grants_of : List (Option (Grant P PlainHeap)) → Grants
   grants_of live = map (option_map private_grant) live
 
-  -- The memories of a grant: an instance's, or the one of a heap.
+  -- The memories of a grant: an instance's, the one that it is, or the one of a heap.
   abbrev pub leases_of : Grant P PlainHeap → List Lease
   leases_of (instance lease) = lease.memories.items
+  leases_of (one_memory lease) = lease ∷ []
   leases_of (heap lease memory) = memory ∷ []
   leases_of _ = []
 
-  -- The tables of a grant, which an instance alone has.
+  -- The tables of a grant: an instance's, or the one that it is.
   abbrev pub tables_of : Grant P PlainHeap → List LeasedTable
   tables_of (instance lease) = lease.tables.items
+  tables_of (one_table lease) = lease ∷ []
   tables_of _ = []
+
+  -- The memories of a grant that commands name: an instance's, or the one of a heap.
+  abbrev pub leases_named : Grant P PlainHeap → List Lease
+  leases_named (instance lease) = lease.memories.items
+  leases_named (heap lease memory) = memory ∷ []
+  leases_named _ = []
+
+  -- The tables of a grant that commands name, which an instance alone has.
+  abbrev pub tables_named : Grant P PlainHeap → List LeasedTable
+  tables_named (instance lease) = lease.tables.items
+  tables_named _ = []
 
   -- the memories whose slots the reply to a request lists
   abbrev pub leases_listed : Grant P PlainHeap → List Lease
@@ -189,10 +204,12 @@ module _ {P : Type 0} where
   abbrev pub ended_at_once : Reply → PoolCore P PlainHeap → RunningParty P → Turned P
   ended_at_once reply c p = ended_with reply c (record p { frame = one_step p.frame })
 
-  -- the reply to a request that was granted
+  -- the reply to a request that was granted; no command asks for a memory or a table by itself
   abbrev pub granted_reply : Grant P PlainHeap → Reply
   granted_reply (instance lease) = Instance (map (λ l. l.index) lease.memories.items) (map (λ l. l.index) lease.tables.items)
   granted_reply component = Component
+  granted_reply (one_memory lease) = Done
+  granted_reply (one_table lease) = Done
   granted_reply (stack lease) = Stack lease.stack.index
   granted_reply (heap lease memory) = Heap lease.index memory.index
 
@@ -232,7 +249,7 @@ module _ {P : Type 0} where
 
   -- Where the tables' leases of a grant stand in it.
   abbrev pub table_leases : Objects (Grant P PlainHeap) LeasedTable
-  table_leases = record { in_grant = tables_of; put_in = with_table_lease }
+  table_leases = record { in_grant = tables_named; put_in = with_table_lease }
 
   -- what the host answers the party
   abbrev pub host_of_party : RunningParty P → Host
@@ -246,13 +263,15 @@ module _ {P : Type 0} where
 
   -- Where the memories' leases of a grant stand in it.
   abbrev pub memory_leases : Objects (Grant P PlainHeap) Lease
-  memory_leases = record { in_grant = leases_of; put_in = with_lease }
+  memory_leases = record { in_grant = leases_named; put_in = with_lease }
 
   -- a call that takes none of the party's grants along, and the reply to which lists no slots; a heap's memory has pages of less
   -- than 2 ^ 64 bytes
   abbrev pub IsPlain : Call P PlainHeap → Type 0
   IsPlain (call.Module m) = ⊥
   IsPlain (call.GiveBack grant) = ⊥
+  IsPlain (call.Memory m) = ⊥
+  IsPlain (call.Table ty) = ⊥
   IsPlain (call.Heap ty) = ty.page_size_log2 < 64
   IsPlain _ = Unit {0}
 
@@ -260,6 +279,8 @@ module _ {P : Type 0} where
   abbrev pub asks_grant : Call P PlainHeap → Bool
   asks_grant (call.Module m) = true
   asks_grant (call.Component info) = true
+  asks_grant (call.Memory m) = true
+  asks_grant (call.Table ty) = true
   asks_grant call.Stack = true
   asks_grant (call.Heap ty) = true
   asks_grant _ = false

@@ -80,6 +80,8 @@ fn with_grant<P: Pages>(calls: PageCalls, place: &Option<Grant<P, PlainHeap>>) -
         None => calls,
         Some(Grant::Instance(lease)) => calls.plus(lease.page_calls()),
         Some(Grant::Component) => calls,
+        Some(Grant::Memory(lease)) => calls.plus(lease.page_calls()),
+        Some(Grant::Table(lease)) => calls.plus(lease.page_calls()),
         Some(Grant::Stack(lease)) => calls.plus(lease.page_calls()),
         Some(Grant::Heap(_, memory)) => calls.plus(memory.page_calls()),
     }

@@ -6,7 +6,7 @@ ghost use Rattle.pool_run.specs.Acts.{sets};
 ghost use Rattle.pool_run.specs.AtOnce.{given_table_op, LengthensUnder};
 ghost use Rattle.pool_run.specs.PartyRules.{rule_of};
 ghost use Rattle.pool_run.specs.Objects.{MovesNamed, MovesObject, object_at};
-ghost use Rattle.pool_run.specs.Turns.{MovesTable, tables_of, table_leases, with_table_lease};
+ghost use Rattle.pool_run.specs.Turns.{MovesTable, tables_named, table_leases, with_table_lease};
 
 use crate::act::TableOp;
 use crate::command::TableValue;
@@ -52,8 +52,8 @@ fn act_on_taken<P: Pages>(
     limits: Option<PartyLimits>,
 ) -> Reply
     requires { of < length live.old }
-    ensures moves { MovesNamed (MovesTable (given_table_op op.now) (rule_of limits) store.old store.new) (slice_get (tables_of grant) table) (λ l live. slice_set live of (Some (with_table_lease table l grant))) (slice_set live.old of (Some grant)) result live.new }
-    ensures unasked { slice_get (tables_of grant) table ≡ None → store.new ≡ store.old }
+    ensures moves { MovesNamed (MovesTable (given_table_op op.now) (rule_of limits) store.old store.new) (slice_get (tables_named grant) table) (λ l live. slice_set live of (Some (with_table_lease table l grant))) (slice_set live.old of (Some grant)) result live.new }
+    ensures unasked { slice_get (tables_named grant) table ≡ None → store.new ≡ store.old }
 {
     let mut grant = grant;
     let reply = act_on_grant(&mut grant, store, table, op, limits);
@@ -68,14 +68,12 @@ fn act_on_grant<P: Pages>(
     op: &TableOp,
     limits: Option<PartyLimits>,
 ) -> Reply
-    ensures moves { MovesNamed (MovesTable (given_table_op op.now) (rule_of limits) store.old store.new) (slice_get (tables_of grant.old) table) (with_table_lease table) grant.old result grant.new }
-    ensures unasked { slice_get (tables_of grant.old) table ≡ None → store.new ≡ store.old }
+    ensures moves { MovesNamed (MovesTable (given_table_op op.now) (rule_of limits) store.old store.new) (slice_get (tables_named grant.old) table) (with_table_lease table) grant.old result grant.new }
+    ensures unasked { slice_get (tables_named grant.old) table ≡ None → store.new ≡ store.old }
 {
     match grant {
         Grant::Instance(lease) => act_on_instance(lease, store, table, op, limits),
-        Grant::Component | Grant::Stack(_) | Grant::Heap(_, _) => Reply::Refused(
-            Refusal::NoSuchGrant,
-        ),
+        _ => Reply::Refused(Refusal::NoSuchGrant),
     }
 }
 

@@ -8,7 +8,7 @@ ghost use Rattle.pool_run.specs.Acts.{requests};
 ghost use Rattle.pool_run.specs.AtOnce.{given_act, given_wanted};
 ghost use Rattle.pool_run.specs.PartyRules.{rule_of};
 ghost use Rattle.pool_run.specs.Ties.{CanTurn, IsReserved};
-ghost use Rattle.pool_run.specs.Turns.{leases_listed, tables_of, granted_reply, answered, ended_at_once, slots_after, StepsUnder, Steps, makes_step, drop_opening, IsPlain, asks_grant, OpensRequest, OpensAct, OpensNext, TurnsFrom, Turns, OpensWanted};
+ghost use Rattle.pool_run.specs.Turns.{leases_listed, tables_named, granted_reply, answered, ended_at_once, slots_after, StepsUnder, Steps, makes_step, drop_opening, IsPlain, asks_grant, OpensRequest, OpensAct, OpensNext, TurnsFrom, Turns, OpensWanted};
 ghost use Rattle.pool_run.specs.Worlds.{IsFit, AreFit, NamesModule, NameModules};
 
 use crate::act::{Act, Wanted, act_of, heap_type};
@@ -128,7 +128,7 @@ fn answer<P: Pages>(
     requires small { party.old.done + 1 < 2 ^ 64 }
     requires empty { (slots.old.memories.items ≡ []) × (slots.old.tables.items ≡ []) }
     requires memories { IfGranted (λ g. length (leases_listed g) ≤ slots.old.memories.room) outcome.old }
-    requires tables { IfGranted (λ g. length (tables_of g) ≤ slots.old.tables.room) outcome.old }
+    requires tables { IfGranted (λ g. length (tables_named g) ≤ slots.old.tables.room) outcome.old }
     ensures answered { (c : PoolCore P PlainHeap) → record { core = c; party = party.new; reply = result } ≡ answered outcome.old c party.old }
     ensures slots { slots.new ≡ slots_after outcome.old slots.old }
     ensures taken { outcome.new ≡ None }
@@ -151,7 +151,7 @@ fn reply_to<P: Pages>(
     requires small { party.old.done + 1 < 2 ^ 64 }
     requires empty { (slots.old.memories.items ≡ []) × (slots.old.tables.items ≡ []) }
     requires memories { IfGranted (λ g. length (leases_listed g) ≤ slots.old.memories.room) outcome }
-    requires tables { IfGranted (λ g. length (tables_of g) ≤ slots.old.tables.room) outcome }
+    requires tables { IfGranted (λ g. length (tables_named g) ≤ slots.old.tables.room) outcome }
     ensures answered { (c : PoolCore P PlainHeap) → record { core = c; party = party.new; reply = result } ≡ answered outcome c party.old }
     ensures slots { slots.new ≡ slots_after outcome slots.old }
 {
@@ -191,7 +191,7 @@ fn reply_to<P: Pages>(
 fn granted_reply<P: Pages>(slots: SlotLists, grant: &Grant<P, PlainHeap>) -> Reply
     requires empty { (slots.memories.items ≡ []) × (slots.tables.items ≡ []) }
     requires memories { length (leases_listed grant.now) ≤ slots.memories.room }
-    requires tables { length (tables_of grant.now) ≤ slots.tables.room }
+    requires tables { length (tables_named grant.now) ≤ slots.tables.room }
     ensures { result ≡ granted_reply grant.now }
 {
     match grant {
@@ -200,6 +200,7 @@ fn granted_reply<P: Pages>(slots: SlotLists, grant: &Grant<P, PlainHeap>) -> Rep
             tables: table_slots(slots.tables, lease),
         },
         Grant::Component => Reply::Component,
+        Grant::Memory(_) | Grant::Table(_) => Reply::Done,
         Grant::Stack(lease) => Reply::Stack(lease.index()),
         Grant::Heap(lease, memory) => Reply::Heap {
             heap: lease.index().0,

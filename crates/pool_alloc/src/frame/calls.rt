@@ -9,7 +9,7 @@ ghost use Rattle.pool_alloc.specs.PoolTotals.{calls_in_frame, calls_in_phase, ca
 ghost use Rattle.pool_alloc.specs.StepReads.{memories_wanted, wanted, tables_wanted, stacks_wanted, heaps_wanted, kind_last, kind_next, wanted_of};
 ghost use Rattle.pool_alloc.specs.Objects.{objects_wanted};
 
-use crate::frame::{Asked, Call, Ending, Frame, Grant, Object, Phase};
+use crate::frame::{Asked, Call, Ending, Frame, Grant, MemoryCall, Object, Phase};
 use crate::purge::{PurgeCursor, PurgeStep};
 use crate::release::ReleaseStep;
 use pool_index::{MemoryInModule, SlotKind};
@@ -41,6 +41,14 @@ impl<P: Pages, H: GcHeap> Frame<P, H> {
                 self.enter(Phase::ValidateComponent(info));
                 self.step_count = 0;
             }
+            Call::Memory(memory) => {
+                self.asked = Asked::Memory(memory);
+                self.pick();
+            }
+            Call::Table(ty) => {
+                self.asked = Asked::Table(ty);
+                self.pick();
+            }
             Call::Stack => {
                 self.asked = Asked::Stack;
                 self.ending = Ending::Granted;
@@ -67,8 +75,18 @@ impl<P: Pages, H: GcHeap> Frame<P, H> {
         }
     }
 
-    // The objects of an instance are given back in order, and then the instance. A component is counted off, and a stack is given
-    // back at once. A heap is given back, and then its memory.
+    // A call for an object by itself begins with the search for a slot. Its type was tested by whoever asks.
+    fn pick(&mut self)
+        ensures { self.new ≡ record self.old { ending = Ending.Granted; queues = 0; phase = Phase.Pick 0; step_count = 0 } }
+    {
+        self.ending = Ending::Granted;
+        self.queues = 0;
+        self.enter(Phase::Pick(0));
+        self.step_count = 0;
+    }
+
+    // The objects of an instance are given back in order, and then the instance. A component is counted off, and a memory, a table
+    // or a stack is given back at once. A heap is given back, and then its memory.
     fn give_back(&mut self, grant: Grant<P, H>)
         ensures { self.new ≡ gives_back grant self.old }
     {
@@ -85,11 +103,21 @@ impl<P: Pages, H: GcHeap> Frame<P, H> {
                 self.enter(Phase::UncountComponent);
                 self.step_count = 0;
             }
+            Grant::Memory(lease) => {
+                self.asked = Asked::Memory(MemoryCall {
+                    ty: *lease.memory.ty(),
+                    image: None,
+                    affine: None,
+                });
+                self.uncount(Object::Memory(lease));
+            }
+            Grant::Table(lease) => {
+                self.asked = Asked::Table(lease.type_now());
+                self.uncount(Object::Table(lease));
+            }
             Grant::Stack(lease) => {
                 self.asked = Asked::Stack;
-                self.ending = Ending::Returned;
-                self.enter(Phase::UncountObject(Object::Stack(lease)));
-                self.step_count = 0;
+                self.uncount(Object::Stack(lease));
             }
             Grant::Heap(lease, memory) => {
                 self.asked = Asked::Heap(*memory.memory.ty());
@@ -98,6 +126,15 @@ impl<P: Pages, H: GcHeap> Frame<P, H> {
                 self.step_count = 0;
             }
         }
+    }
+
+    // An object is given back by itself.
+    fn uncount(&mut self, object: Object<P>)
+        ensures { self.new ≡ record self.old { ending = Ending.Returned; phase = Phase.UncountObject object; step_count = 0 } }
+    {
+        self.ending = Ending::Returned;
+        self.enter(Phase::UncountObject(object));
+        self.step_count = 0;
     }
 
     /// How many steps the call under way made so far, or the last one. Counts modulo 2^64.
@@ -121,7 +158,7 @@ impl<P: Pages, H: GcHeap> Frame<P, H> {
     {
         match &self.asked {
             Asked::Module(call) => call.info.memories.len(),
-            Asked::Heap(_) => 1,
+            Asked::Memory(_) | Asked::Heap(_) => 1,
             _ => 0,
         }
     }
@@ -131,6 +168,7 @@ impl<P: Pages, H: GcHeap> Frame<P, H> {
     {
         match &self.asked {
             Asked::Module(call) => call.info.tables.len(),
+            Asked::Table(_) => 1,
             _ => 0,
         }
     }
@@ -211,6 +249,7 @@ impl<P: Pages, H: GcHeap> Frame<P, H> {
         let index = DefinedMemoryIndex(self.objects.memories.len() as u32);
         match &self.asked {
             Asked::Module(call) => Some(MemoryInModule(call.id, index)),
+            Asked::Memory(call) => call.affine,
             _ => None,
         }
     }

@@ -109,14 +109,14 @@ impl<P: Pages, H: GcHeap> Frame<P, H> {
         }
     }
 
-    // Where no object is left, the instance is given back. A call for a stack or a heap counts none, and ends.
+    // Where no object is left, the instance is given back. A call for an object by itself counts none, and ends.
     fn return_all(&mut self, outcome: &mut Option<Outcome<P, H>>)
         requires unanswered { outcome.old ≡ None }
         ensures { ◌≡◌ {A = Left P H} (record { frame = self.new; outcome = outcome.new }) (all_returned self.old.asked self.old) }
     {
         match &self.asked {
-            Asked::Stack | Asked::Heap(_) => self.end(answer_of(self.ending), outcome),
-            _ => self.go(Phase::UncountInstance),
+            Asked::Nothing | Asked::Module(_) => self.go(Phase::UncountInstance),
+            _ => self.end(answer_of(self.ending), outcome),
         }
     }
 

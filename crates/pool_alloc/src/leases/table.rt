@@ -2,7 +2,7 @@
 ghost use Rattle.std.specs.Prelude.{◌≡◌, ◌<◌, length, slice_index_or};
 ghost use Rattle.pool_table.specs.Elements.{type_of};
 ghost use Rattle.pool_alloc.specs.Leases.{IsChanged};
-ghost use Rattle.pool_alloc.specs.TableLeases.{LeasedTable, element_of, CanBeSet, IsElementAt, IsFilled, IsLengthened};
+ghost use Rattle.pool_alloc.specs.TableLeases.{LeasedTable, type_now, element_of, CanBeSet, IsElementAt, IsFilled, IsLengthened};
 ghost use Rattle.pool_alloc.specs.PoolTotals.{table_calls};
 
 use crate::leases::element::{Element, element_at, set_elements};
@@ -11,7 +11,7 @@ use pool_limits::{GrowFault, ResourceLimiter, Trap};
 use pool_pages::{PageCalls, Pages};
 use pool_slots::{RegionNumbers, TableAllocationIndex};
 use pool_table::{GcStore, GcTableError, Table};
-use pool_types::TableElementType;
+use pool_types::{IndexType, Limits, TableElementType, TableType};
 use std::marker::Model;
 
 /// A table that was granted, and its slot. It must be given back, or its slot stays used for good.
@@ -39,6 +39,20 @@ impl<P: Pages> TableLease<P> {
         ensures { result ≡ type_of self.now.table.kind }
     {
         self.table.element_type()
+    }
+
+    /// The type of the table as it stands: it begins with as many elements as the table has.
+    pub fn type_now(&self) -> TableType
+        ensures { result ≡ type_now self.now }
+    {
+        TableType {
+            idx_type: IndexType::I32,
+            limits: Limits {
+                min: self.size() as u64,
+                max: None,
+            },
+            element: self.element_type(),
+        }
     }
 
     /// How many elements the table has.

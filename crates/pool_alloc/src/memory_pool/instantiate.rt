@@ -87,11 +87,14 @@ fn begin<P: Pages, H: GcHeap>(
 {
     let memory = frame.objects.memories.len();
     match &frame.asked {
-        Asked::Nothing | Asked::Stack => unreachable!(),
+        Asked::Nothing | Asked::Table(_) | Asked::Stack => unreachable!(),
         Asked::Module(call) => {
             let decl = &call.info.memories.as_slice()[memory];
             let image = call.image(memory);
             begin_memory(&decl.ty, &settings.tunables, image, held)
+        }
+        Asked::Memory(call) => {
+            begin_memory(&call.ty, &settings.tunables, call.image.as_ref(), held)
         }
         Asked::Heap(ty) => begin_memory(ty, &settings.tunables, None, held),
     }

@@ -62,11 +62,12 @@ fn make_next_memory<P: Pages, H: GcHeap, L: ResourceLimiter>(
 {
     let memory = frame.objects.memories.len();
     match &frame.asked {
-        Asked::Nothing | Asked::Stack => unreachable!(),
+        Asked::Nothing | Asked::Table(_) | Asked::Stack => unreachable!(),
         Asked::Module(call) => {
             let decl = &call.info.memories.as_slice()[memory];
             make_memory_of(&decl.ty, settings, held, limiter)
         }
+        Asked::Memory(call) => make_memory_of(&call.ty, settings, held, limiter),
         Asked::Heap(ty) => make_memory_of(ty, settings, held, limiter),
     }
 }

@@ -1,13 +1,14 @@
 //! A step that counts, made by whoever found the number at the counter.
 ghost use Rattle.std.specs.Prelude.{◌≡◌, ◌<◌, ◌^◌, ℕ, true, None, length};
 ghost use Rattle.pool_slots.specs.declared.plan.Plan.{Plan};
+ghost use Rattle.pool_alloc.specs.CanStep.{CanKeepMemory, CanKeepTable};
 ghost use Rattle.pool_alloc.specs.InHand.{holds_object};
 ghost use Rattle.pool_alloc.specs.OnCounters.{CanCountObject, CanStepCounted, counted_on, object_on, key_on, instance_on, heap_on, component_on};
 ghost use Rattle.pool_alloc.specs.Turns.{Left, after, ends, answer_of, left_by, resting};
 ghost use Rattle.pool_alloc.specs.declared.pool_core.Settings.{Settings};
 
 use crate::frame::turns::answer_of;
-use crate::frame::{Frame, Grant, Object, Outcome, Phase};
+use crate::frame::{Asked, Frame, Grant, Object, Outcome, Phase};
 use crate::leases::heap::HeapLease;
 use crate::leases::instance::InstanceLease;
 use crate::leases::memory::MemoryLease;
@@ -149,20 +150,25 @@ pub(crate) fn count_instance<P: Pages, H: GcHeap>(
     frame.next(alloc, outcome)
 }
 
-// Grants a memory. The search for the next object's slot begins anew.
+// Grants a memory. The search for the next object's slot begins anew, or the memory was asked for by itself.
 pub(crate) fn count_memory<P: Pages, H: GcHeap>(
     alloc: Global,
     frame: &mut Frame<P, H>,
     lease: MemoryLease<P>,
     outcome: &mut Option<Outcome<P, H>>,
 )
-    requires room { length frame.old.objects.memories.items < frame.old.objects.memories.room }
+    requires room { CanKeepMemory frame.old.asked frame.old.objects }
     requires unanswered { outcome.old ≡ None }
     ensures { (found : ℕ) → ◌≡◌ {A = Left P H} (record { frame = frame.new; outcome = outcome.new }) (left_by (object_on (Object.Memory lease) found frame.old)) }
 {
-    frame.objects.memories.push(lease);
-    frame.queues = 0;
-    frame.next(alloc, outcome)
+    match &frame.asked {
+        Asked::Memory(_) => frame.end(Outcome::Granted(Grant::Memory(lease)), outcome),
+        _ => {
+            frame.objects.memories.push(lease);
+            frame.queues = 0;
+            frame.next(alloc, outcome)
+        }
+    }
 }
 
 pub(crate) fn count_table<P: Pages, H: GcHeap>(
@@ -171,13 +177,18 @@ pub(crate) fn count_table<P: Pages, H: GcHeap>(
     lease: TableLease<P>,
     outcome: &mut Option<Outcome<P, H>>,
 )
-    requires room { length frame.old.objects.tables.items < frame.old.objects.tables.room }
+    requires room { CanKeepTable frame.old.asked frame.old.objects }
     requires unanswered { outcome.old ≡ None }
     ensures { (found : ℕ) → ◌≡◌ {A = Left P H} (record { frame = frame.new; outcome = outcome.new }) (left_by (object_on (Object.Table lease) found frame.old)) }
 {
-    frame.objects.tables.push(lease);
-    frame.queues = 0;
-    frame.next(alloc, outcome)
+    match &frame.asked {
+        Asked::Table(_) => frame.end(Outcome::Granted(Grant::Table(lease)), outcome),
+        _ => {
+            frame.objects.tables.push(lease);
+            frame.queues = 0;
+            frame.next(alloc, outcome)
+        }
+    }
 }
 
 // Grants a stack, with which its call ends.
