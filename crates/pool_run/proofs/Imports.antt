@@ -54,7 +54,7 @@ pub use Rattle.pool_alloc.specs.BetweenSteps.{AreBegun, AreImagesOf, AreLeasesOf
 pub use Rattle.pool_alloc.specs.StackLeases.{LeasedStack, stack_slot, stack_taken}
 pub use Rattle.pool_alloc.specs.CallStages.{FailsHeap, FindsNone, Follows, Goes, GoesOn, HasHeap, IsBroken, IsHeapTested, IsHeapUntested, IsPageFaulted, IsUntested, Makes, MakesTable, Progress, Raises, SeeksHeap, Stage, admitted, asks, counts_component, counts_heap, keys, no_call, purging, refusing, releasing, reserving, returning, seeks_heap, seeks_single, seeks_stack, stage_at, stage_back, stage_by, stage_of, stage_of_release, tests_component, tests_heap, uncounted, untested}
 pub use Rattle.pool_alloc.specs.Stepping.{CanCount, CanStep, Conserves, IsSameSize, StepsTo, count_granted, grant_components, grant_count, grant_counted, grant_heaps, grant_instances, grant_memories, grant_stacks, grant_tables, grant_weight, is_idle}
-pub use Rattle.pool_alloc.specs.StepReads.{IsForInstance, IsHeapAsked, IsModule, StepGiven, allocator_for, allocator_of, heaps_wanted, image_wanted, images_made, images_wanted, info_wanted, kind_by, kind_next, memories_wanted, memory_slots, no_allocator, no_module, plain_decl, queue_in, shard_at, shard_in, stripe_allocator, tables_wanted}
+pub use Rattle.pool_alloc.specs.StepReads.{IsForObjects, IsHeapAsked, IsModule, StepGiven, allocator_for, allocator_of, heaps_wanted, image_wanted, images_made, images_wanted, info_wanted, kind_by, kind_next, memories_wanted, memory_slots, no_allocator, no_module, plain_decl, queue_in, shard_at, shard_in, stripe_allocator, tables_wanted}
 pub use Rattle.pool_alloc.specs.PoolTotals.{calls_kept, metrics_of}
 pub use Rattle.pool_alloc.specs.TableLeases.{IsElementAt, IsFilled, IsLengthened, IsSet, LeasedTable, LiesInRegion, SetsElements, element_of, table_slot, table_taken}
 pub use Rattle.pool_alloc.specs.TableSteps.{AsksForTable, bytes_used, made_table, made_unless, table_bytes, table_in, table_made, table_refused}

@@ -1,6 +1,6 @@
 -- A party whose turn it is: its call can make its next step, and so it can once another call began.
 use Rattle.std.proofs.Common.{◌≡◌, ℕ, zero, suc, ◌+◌, ◌<◌, ◌≤◌, true, false, List, [], ◌∷◌, length, Option, Some, None, refl, ap, subst, arith, All, sym, ◌∙◌, IfSome, sum_by, slice_set, slice_index_or}
-use Rattle.pool_run.proofs.Imports.{All-set, All-get_or, sum_by-set, MakerTold, right_to, region_of, IsFrame, AreImagesOf, HasImages, IsIdle, IsGrant, MayBegin, begun_call, call_has, begun_frame, CanStep, is_idle, grant_count, PoolCore, Settings, memories_wanted, images_wanted, ModuleAsked, stack_slot, heap_slot, nothing_asked, module_asked, Lease, memory_slot, LeasedTable, IsSearched, returning, stage_of, returned_next, Call, Frame, Grant, instance, component, one_memory, one_table, stack, heap, both_regions, sum_by_agree, leased_regions, tables_regions, Plan, SlotName, PlainHeap, Weight, of_units, grant_weight, begun_weight}
+use Rattle.pool_run.proofs.Imports.{table_slot, All-set, All-get_or, sum_by-set, MakerTold, right_to, region_of, IsFrame, AreImagesOf, HasImages, IsIdle, IsGrant, MayBegin, begun_call, call_has, begun_frame, CanStep, is_idle, grant_count, PoolCore, Settings, memories_wanted, images_wanted, ModuleAsked, stack_slot, heap_slot, nothing_asked, module_asked, Lease, memory_slot, LeasedTable, IsSearched, returning, stage_of, returned_next, Call, Frame, Grant, instance, component, one_memory, one_table, stack, heap, both_regions, sum_by_agree, leased_regions, tables_regions, Plan, SlotName, PlainHeap, Weight, of_units, grant_weight, begun_weight}
 use Rattle.pool_alloc.specs.declared.frame.Ending.TheVariants as ending
 use Rattle.pool_run.specs.Turns.{IsPlain, asks_grant}
 use Rattle.pool_alloc.specs.declared.frame.Call.TheVariants as call

@@ -1,6 +1,6 @@
 -- What a step makes of a request, as its party is told: it goes on, is refused for a cause, or is granted what it asked for.
 use Rattle.std.proofs.Common.{◌≡◌, ℕ, zero, suc, ◌+◌, ◌*◌, ◌<◌, ◌≤◌, ◌⊎◌, if◌then◌else◌, true, List, [], ◌∷◌, length, map, Option, Some, None, Result, Ok, Err, refl, sym, ap, ◌∙◌, subst, inl, inr, arith, All, nat_lt, IfSome, slice_get, slice_index_or, sum_by}
-use Rattle.pool_run.proofs.Imports.{kept_of, cases_eq, cases_lt, le-ltb, lt-ltb, All-get_or, slice_get_within, get_or_from_slice_get, MemoryDecl, Unsupported, Image, FitsInto, minimum_byte_size, minimum_asked, maximum_asked, MemoryState, AllocError, PartyTold, AsksForMemory, Lease, memory_slot, made_for, objects_in, objects_wanted, right_to, instance_count, slot_count, frame_count, kept_count, away_count, frame_instances, Asked, module_asked, MemoryWant, Want, new_memory, new_table, wants_from, module_refused, IsFrame, IsAllocating, IsMemoryNext, IsTableNext, IsSupported, AreSupported, IsNew, AreBegun, IsLeaseOf, AreLeasesOf, Progress, untested, uncounted, admitted, seeks_stack, tests_heap, seeks_heap, seeks_single, counts_heap, FindsNone, IsPageFaulted, Makes, MakesTable, IsUntested, Raises, Follows, grant_count, IsModule, kind_by, IsForInstance, info_wanted, memories_wanted, images_wanted, tables_wanted, memory_slots, stripe_allocator, allocator_of, allocator_for, kind_next, limit_of, IsTableLease, IsBegunTable, LeasedTable, AsksForTable, table_in, made_table, made_unless, table_refused, SlotKind, memory_kind, table_kind, ModuleInfo, TableType, type_maximum, PoolCore, Settings, Frame, Grant, instance, InstanceLease, of_kind, SlotName, Allocator, has_number, PlainHeap, Counts, counted_instance, counters_counted, frame_counted, only, grant_counted}
+use Rattle.pool_run.proofs.Imports.{kept_of, cases_eq, cases_lt, le-ltb, lt-ltb, All-get_or, slice_get_within, get_or_from_slice_get, MemoryDecl, Unsupported, Image, FitsInto, minimum_byte_size, minimum_asked, maximum_asked, MemoryState, AllocError, PartyTold, AsksForMemory, Lease, memory_slot, made_for, objects_in, objects_wanted, right_to, instance_count, slot_count, frame_count, kept_count, away_count, frame_instances, Asked, module_asked, MemoryWant, Want, new_memory, new_table, wants_from, module_refused, IsFrame, IsAllocating, IsMemoryNext, IsTableNext, IsSupported, AreSupported, IsNew, AreBegun, IsLeaseOf, AreLeasesOf, Progress, untested, uncounted, admitted, seeks_stack, tests_heap, seeks_heap, seeks_single, counts_heap, FindsNone, IsPageFaulted, Makes, MakesTable, IsUntested, Raises, Follows, grant_count, IsModule, kind_by, IsForObjects, info_wanted, memories_wanted, images_wanted, tables_wanted, memory_slots, stripe_allocator, allocator_of, allocator_for, kind_next, limit_of, IsTableLease, IsBegunTable, LeasedTable, AsksForTable, table_in, made_table, made_unless, table_refused, SlotKind, memory_kind, table_kind, ModuleInfo, TableType, type_maximum, PoolCore, Settings, Frame, Grant, instance, InstanceLease, of_kind, SlotName, Allocator, has_number, PlainHeap, Counts, counted_instance, counters_counted, frame_counted, only, grant_counted}
 use Rattle.pool_slots.specs.declared.errors.AllocError.TheVariants as refusal
 use Rattle.pool_run.proofs.SlotsMade.{made_slot}
 use Rattle.pool_run.specs.Private.{Grants, stripe_slots, PrivateMemory, instance_grant, module_of, Request, request_of, wants_of, begun, begun_memory, begun_table, begun_instance, own_refusal, slots_asked, table_room}
@@ -22,13 +22,13 @@ use Rattle.pool_run.proofs.Weighed.{alone_units, alone_counts}
 use Rattle.pool_run.proofs.StageSteps.{no_instance_counted}
 
 -- the tables of the module that is asked for
-tables_told_by : (asked : Asked) → tables_wanted asked ≡ (info_wanted asked).tables
-tables_told_by (module_asked m) = refl
-tables_told_by _ = refl
+tables_told_by : (asked : Asked) → IsModule asked → tables_wanted asked ≡ (info_wanted asked).tables
+tables_told_by (module_asked m) is = refl
+tables_told_by _ is = absurd is
 
 -- a module has memories and tables, and neither a stack nor a heap
-for_instance : (asked : Asked) → IsModule asked → IsForInstance asked
-for_instance (module_asked m) is = record { no_stack = refl; no_heap = refl; no_single = refl }
+for_instance : (asked : Asked) → IsModule asked → IsForObjects asked
+for_instance (module_asked m) is = record { no_stack = refl; no_heap = refl }
 for_instance _ is = absurd is
 
 kind_of_module : (asked : Asked) (n : ℕ) → IsModule asked → kind_by asked n ≡ (if nat_lt n (length (memories_wanted asked)) then memory_kind else table_kind)
@@ -111,7 +111,7 @@ module _ {P : Type 0} (w : World) (old new : PartyTold) (c : PoolCore P PlainHea
   next_table next = kind_of_module f.asked (length f.objects.memories.items) asked.of_module ∙ ap (λ b. if b then memory_kind else table_kind) (le-ltb (length f.objects.memories.items) (length (memories_wanted f.asked)) next.0)
 
   its_tables : tables_wanted f.asked ≡ request.tables
-  its_tables = tables_told_by f.asked ∙ ap (λ (m : ModuleInfo). m.tables) asked.info
+  its_tables = tables_told_by f.asked asked.of_module ∙ ap (λ (m : ModuleInfo). m.tables) asked.info
 
   pub memory_number : length (memories_wanted f.asked) ≡ length request.memories
   memory_number = sym (count_wanted (memories_wanted f.asked) (images_wanted f.asked)) ∙ ap (length {A = MemoryWant}) asked.memories
