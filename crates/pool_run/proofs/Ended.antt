@@ -19,7 +19,7 @@ module _ {P : Type 0} where
   pub few_told : (w : World) (commands : List Command) (replies : List Reply) (p : RunningParty P) → IsRunTo w commands replies p → length replies ≤ length p.live
   few_told w commands replies p to = omega (arith, no_more_replies (PooledStep (seen_by p w)) 0 commands replies (with_grants (no_grants commands)) to.private.told to.private.run, to.room)
 
-  turned_count : (modules : List ModuleAsked) (commands : List Command) (i : ℕ) (o : Option (RunningParty P)) (s new : RunState P) → TurnsIf modules commands i o s new → length new.parties ≡ length s.parties
+  pub turned_count : (modules : List ModuleAsked) (commands : List Command) (i : ℕ) (o : Option (RunningParty P)) (s new : RunState P) → TurnsIf modules commands i o s new → length new.parties ≡ length s.parties
   turned_count modules commands i None s new turns = ap (λ (x : RunState P). length x.parties) turns
   turned_count modules commands i (Some p) s new turns = ap (λ (x : RunState P). length x.parties) turns.2 ∙ length-set s.parties i turns.0.party
 

@@ -1,13 +1,13 @@
 -- What the files of proofs/ import from the crates below and from std, but for std's plainest words.
 pub use Rattle.std.proofs.Math.Nat.{mul-div_cancel, mul-le-mul_right, mul-mod_left}
 pub use Rattle.std.proofs.Math.Seq.{take-append_seam}
-pub use Rattle.std.proofs.lemmas.Bool.{and_from, and_parts, cases_Bool, cases_eq, cases_lt, eqb-true, le-leb, le-ltb, leb-false, leb-true, lt-ltb, ltb-false, ltb-true, not-false, not-true, or_from, or_left, or_right, true≢false}
+pub use Rattle.std.proofs.lemmas.Bool.{and_from, and_parts, cases_Bool, cases_eq, cases_lt, eq-eqb, eqb-true, le-leb, le-ltb, leb-false, leb-true, lt-ltb, ltb-false, ltb-true, not-false, not-true, or_from, or_left, or_right, true≢false}
 pub use Rattle.std.proofs.lemmas.Bool.Decides.{nat_tests}
 pub use Rattle.std.proofs.lemmas.List.{append-nil, at_drop_all, at_drop_more, get_or-append_right, get_or-map, get_or-replicate, get_or-set_other, get_or-set_same, get_or_append_left, get_or_past, length-append, length-map, length-replicate, length-set, length-take-le, length_push, map-append, map-set, places, replicate-append-replicate, replicate_more, same_lists, set-get_or, set-set, set_past, take-replicate, take_all, take_more}
 pub use Rattle.std.proofs.lemmas.List.Elements.{All-get_or, All-head, All-map, All-replicate, All-set, All-tail, recursion_from_All}
 pub use Rattle.std.proofs.lemmas.List.Folds.{list_any-append}
 pub use Rattle.std.proofs.lemmas.List.FromFn.{get_or-map-range_with_len, length-map-range_with_len}
-pub use Rattle.std.proofs.lemmas.List.Sums.{get_or-le-sum_by, sum_by-cons, sum_by-le-sum_by, sum_by-remove, sum_by-set}
+pub use Rattle.std.proofs.lemmas.List.Sums.{get_or-le-sum_by, sum_by-append, sum_by-cons, sum_by-le-sum_by, sum_by-remove, sum_by-set}
 pub use Rattle.std.proofs.lemmas.Option.{get_or_from_slice_get, same_Some, slice_get-get_or, slice_get-map, slice_get_past, slice_get_read, slice_get_within}
 pub use Rattle.std.specs.List.{AllByRecursion, AllZip, concat, list_all, list_any, range_with_len, slice_get}
 pub use Rattle.std.specs.Option.{option_and_then, option_map_or, option_or}
@@ -32,7 +32,7 @@ pub use Rattle.pool_alloc.proofs.UsedSlots.{kept_sum, picked_was_in, used_is_out
 pub use Rattle.pool_alloc.proofs.Weights.{conserves_units, frame_counts, frame_units, grant_counts, grant_units, no_total}
 pub use Rattle.pool_alloc.specs.PageCallAnswers.{AsksForMemory, AsksOf, ByImage, Decommits, DecommitsWhole, Drains, Empties, FlushPlanned, FlushTold, FollowsDrain, FollowsForget, FollowsPlan, FollowsPlanFor, FollowsReset, FollowsRun, Forgets, InstantiatesAs, InstantiatesFor, IsPlanned, MakesOf, MayBeTold, RemovesImage, Resets}
 pub use Rattle.pool_alloc.specs.PlainModules.{ModuleAsked}
-pub use Rattle.pool_alloc.specs.StepBounds.{bound_of, steps_left}
+pub use Rattle.pool_alloc.specs.StepBounds.{bound_of, sizes_of, steps_left}
 pub use Rattle.pool_alloc.specs.Calls.{IfGranted, IsGrant, IsGrantOf, IsHeapOf, IsIdle, MayBegin, begun_call, frame_made, lists_made}
 pub use Rattle.pool_alloc.specs.HeapLeases.{LeasedHeap, heap_slot_taken}
 pub use Rattle.pool_alloc.specs.Leases.{IsChanged, IsGrown, IsWritten, Lease, memory_slot, slot_taken}

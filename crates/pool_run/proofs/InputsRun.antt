@@ -1,9 +1,11 @@
 -- A run of an input: the program's conditions follow from those of the input, and its end from its turns.
-use Rattle.std.proofs.Common.{◌≡◌, ℕ, ◌+◌, ◌*◌, ◌^◌, ◌<◌, ◌≤◌, zero, suc, List, [], ◌∷◌, ◌++◌, length, map, get_or, replicate, refl, sym, ap, ◌∙◌, subst, arith, Option, None, Bool, true, false, slice_get, slice_index_or}
-use Rattle.pool_run.proofs.Imports.{eqb-true, ltb-true, length-map, length-replicate, sum_by-cons, slice_get-get_or, first_true, second_true, MakerTold, ModuleInfo, Tunables, IsCore, metrics_of, IsUntouched, Grant, ModuleAsked, PoolCore, Settings, made_untouched, PlainHeap}
+use Rattle.std.proofs.Common.{◌≡◌, ℕ, ◌+◌, ◌*◌, ◌^◌, ◌<◌, ◌≤◌, zero, suc, List, [], ◌∷◌, ◌++◌, length, map, get_or, replicate, refl, sym, ap, ◌∙◌, subst, arith, Option, None, Bool, true, false, slice_get, slice_index_or, ◌==◌}
+use Rattle.pool_run.proofs.Imports.{eqb-true, ltb-true, get_or-map, length-map, length-replicate, sum_by-append, sum_by-cons, one_if, is_idle, sizes_of, slice_get-get_or, first_true, second_true, MakerTold, ModuleInfo, Tunables, IsCore, metrics_of, IsUntouched, Grant, ModuleAsked, PoolCore, Settings, made_untouched, PlainHeap}
+use Rattle.pool_alloc.specs.StepBounds.{PoolSizes}
+use Rattle.pool_run.specs.Bounds.{own_turns}
 use Rattle.pool_run.specs.Built.{is_built}
 use Rattle.pool_run.specs.Agreeing.{IsRunnable}
-use Rattle.pool_run.specs.Folds.{RunParts, RunState, IsUnderWay, commands_of, replies_to, told_state}
+use Rattle.pool_run.specs.Folds.{RunParts, RunState, Folds, IsUnderWay, commands_of, party_by_party, replies_to, told_state}
 use Rattle.pool_run.specs.Made.{calls_made}
 use Rattle.pool_run.specs.Numbers.{calls_of_run}
 use Rattle.pool_run.specs.PartyRules.{host_for}
@@ -12,7 +14,7 @@ use Rattle.pool_run.specs.PrivateTables.{Host}
 use Rattle.pool_run.specs.Turns.{host_of_party}
 use Rattle.pool_run.specs.Rooms.{World, world_at, IsPooledRun}
 use Rattle.pool_run.specs.Progress.{IsRunOf}
-use Rattle.pool_run.specs.Runs.{Performs, IsToldBy, IsMadeRun, IsRun, world_of, world_seen, stripe_of, HoldsFromStart}
+use Rattle.pool_run.specs.Runs.{AreInTime, Performs, IsToldBy, IsMadeRun, IsRun, world_of, world_seen, stripe_of, HoldsFromStart}
 use Rattle.pool_run.specs.RunsMade.{Background, commands_in, party_made, party_made_for, parties_made, nothing_told, places_in}
 use Rattle.pool_run.specs.Schedules.{turns_of}
 use Rattle.pool_run.specs.Validity.{is_valid, is_valid_act, are_valid_after, most_commands}
@@ -26,7 +28,8 @@ use Rattle.pool_run.specs.declared.output.RunOutput.{RunOutput}
 use Rattle.pool_run.specs.declared.reply.Reply.{Reply}
 use Rattle.pool_run.specs.declared.running_party.RunningParty.{RunningParty}
 use Rattle.pool_run.proofs.Ended.{folds_count, run_count, all_replied}
-use Rattle.pool_run.proofs.Folding.{folds_under_way, run_under_way, replies_pooled, replies_private}
+use Rattle.pool_run.proofs.Folding.{folds_on, folds_under_way, run_under_way, replies_pooled, replies_private}
+use Rattle.pool_run.proofs.InTime.{Within, StepTo, folds_step, come_in_time}
 use Rattle.pool_run.proofs.RunMade.{are_made}
 use Rattle.pool_run.proofs.Started.{run_started}
 use Rattle.pool_run.proofs.Valid.{valid_parties, valid_home, few_commands, valid_commands, valid_entry}
@@ -115,7 +118,7 @@ module _ {P : Type 0} where
       let Way : List (RunningParty P) → Type 0 = λ ps. IsUnderWay (world_of input maker) run.modules (commands_in input.parties) (record { core = run.core; modules = run.modules; parties = ps; replies = nothing_told input.parties }) in
       subst Way (sym made.parties) (under_way input maker run.core run.modules core (made_untouched maker input.config input.tunables input.offered input.shards run.core made.made) (is_world input maker run.core (omega (arith, core.page, core.settings.page.at_least)) made.made) (calls_there input maker run.core run.modules runnable.built core made.calls))
 
-  made_count : (input : Input) (maker : MakerTold) (run : RunParts P) → IsMadeRun input maker run → length run.parties ≡ length input.parties
+  pub made_count : (input : Input) (maker : MakerTold) (run : RunParts P) → IsMadeRun input maker run → length run.parties ≡ length input.parties
   made_count input maker run made = ap (length {A = RunningParty P}) made.parties ∙ length-map input.parties (party_made_for {P = P} run.core.settings)
 
   -- The run as it is made, once the lists of its replies are there.
@@ -157,6 +160,38 @@ module _ {P : Type 0} where
       let inside : i < length end.parties = omega (arith, below, folds_count modules inputs schedule s end folds) in
       at_stripe (λ n. IsPrivateRun (world_at w i n).terms (commands_of inputs i) (replies_to i end.replies)) end.parties i d inside (replies_private w modules inputs end i d ended inside)
 
+  made_idle : (s : Settings) (given : List Party) (parties : List (RunningParty P)) (i : ℕ) (d : RunningParty P) → parties ≡ parties_made s given → i < length given → is_idle (slice_index_or parties i d).frame.phase ≡ true
+  made_idle s given parties i d made below =
+      let nobody : Party = record { home = 0; limits = None; gc_faults = []; heap_faults = []; commands = [] } in
+      let one : slice_index_or (parties_made s given) i d ≡ party_made_for s (slice_index_or given i nobody) = get_or-map (party_made_for {P = P} s) given i nobody d below in
+      ap (λ (ps : List (RunningParty P)). is_idle (slice_index_or ps i d).frame.phase) made ∙ ap (λ (p : RunningParty P). is_idle p.frame.phase) one
+
+  -- From its start on, whatever turns come first and whatever turns come then: each party has its replies in time in those.
+  pub replies_in_time : (input : Input) (maker : MakerTold) → IsRunnable input maker → (run : RunParts P) → IsMadeRun input maker run → (first turns : List ℕ) (s end : RunState P) → Folds run.modules (commands_in input.parties) first (told_state run (nothing_told input.parties)) s → Folds run.modules (commands_in input.parties) turns s end → AreInTime input run.core turns s.replies end.replies
+  replies_in_time input maker runnable run made first turns s end before folds i below =
+      let w : World = world_of input maker in
+      let inputs : List (List Command) = commands_in input.parties in
+      let start : RunState P = told_state run (nothing_told input.parties) in
+      let way : IsUnderWay w run.modules inputs start = made_under_way input maker run runnable made in
+      let z : PoolSizes = sizes_of run.core.settings run.core.plan in
+      let d : RunningParty P = party_made 0 None [] [] run.core.settings 0 in
+      let inside : i < length start.parties = omega (arith, below, made_count input maker run made) in
+      let idle : is_idle (slice_index_or start.parties i d).frame.phase ≡ true = made_idle run.core.settings input.parties run.parties i d made.parties below in
+      let within : Within w run.modules inputs i z start (slice_index_or start.parties i d) = λ busy. let wrong : true ≡ false = sym idle ∙ busy in absurd cc in
+      let led : StepTo w run.modules inputs i z (own_turns i first) start s d = folds_step w run.modules inputs i z first start s d refl inside way before in
+      come_in_time w run.modules inputs i z turns s end d led.0 (omega (arith, inside, folds_count run.modules inputs first start s before)) (folds_under_way w run.modules inputs first start s way before) folds (led.2 within)
+
+  -- So the schedule brings them in time, whatever turns come after it.
+  performed_in_time : (finish : Bool) (input : Input) (maker : MakerTold) (run : RunParts P) (end : RunState P) → IsRunnable input maker → IsMadeRun input maker run → Performs finish run.modules (commands_in input.parties) (turns_of input.schedule) (told_state run (nothing_told input.parties)) end → AreInTime input run.core (turns_of input.schedule) (nothing_told input.parties) end.replies
+  performed_in_time false input maker run end runnable made folds = replies_in_time input maker runnable run made [] (turns_of input.schedule) (told_state run (nothing_told input.parties)) end refl folds
+  performed_in_time true input maker run end runnable made runs =
+      λ i below n inside enough.
+      let start : RunState P = told_state run (nothing_told input.parties) in
+      let first : List ℕ = turns_of input.schedule in
+      let rest : List ℕ = party_by_party 0 runs.finishes.counts in
+      let folds = folds_on run.modules (commands_in input.parties) first rest start runs.scheduled end runs.folds runs.finishes.folds in
+      replies_in_time input maker runnable run made [] (first ++ rest) start end refl folds i below n inside (omega (arith, enough, sum_by-append (λ (k : ℕ). one_if (k == i)) first rest))
+
   -- So the output of its end is that of a run of the input.
   pub is_run : (input : Input) (maker : MakerTold) (run : RunParts P) (s end : RunState P) (output : RunOutput) → IsRunnable input maker → IsMadeRun input maker run → s ≡ told_state run (nothing_told input.parties)
       → Performs input.finish s.modules (commands_in input.parties) (turns_of input.schedule) s end
@@ -181,6 +216,7 @@ module _ {P : Type 0} where
             subst Told (sym replies)
             (at_stripe (λ n. IsPooledRun (world_at w i n) (commands_of (commands_in input.parties) i) (replies_to i end.replies)) end.parties i (party_made 0 None [] [] run.core.settings 0) inside
             (replies_pooled w run.modules (commands_in input.parties) end i (party_made 0 None [] [] run.core.settings 0) ended.0 inside));
+        in_time = subst (AreInTime input run.core (turns_of input.schedule) (nothing_told input.parties)) (sym replies) (performed_in_time input.finish input maker run end runnable made performed);
         metrics = metrics;
         calls_made = numbers;
       }

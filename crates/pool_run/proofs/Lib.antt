@@ -1,5 +1,6 @@
 pub mod Advanced
 pub mod Beginning
+pub mod BoundsFound
 pub mod BuiltInputs
 pub mod Bytes
 pub mod BytesMoved
@@ -14,6 +15,7 @@ pub mod Finishing
 pub mod Folding
 pub mod Following
 pub mod FreeSlots
+pub mod GrantSizes
 pub mod Grants
 pub mod Growths
 pub mod HeapCalls
@@ -21,6 +23,7 @@ pub mod HeapFaults
 pub mod HeapRequests
 pub mod HeldSlots
 mod Imports
+pub mod InTime
 pub mod InputsRun
 pub mod KeptBetweenTurns
 pub mod LeaseChanges
@@ -58,6 +61,7 @@ pub mod Sounds
 pub mod StackMoves
 pub mod StackRequests
 pub mod StageSteps
+pub mod StepsLeft
 pub mod Started
 pub mod Stepped
 pub mod Stripes

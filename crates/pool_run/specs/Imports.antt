@@ -3,7 +3,7 @@ pub use Rattle.std.specs.Int.{div_ceil}
 pub use Rattle.std.specs.List.{Any, concat, list_all, list_any, range_with_len, slice_get}
 pub use Rattle.std.specs.Option.{option_and_then, option_map_or, option_or}
 pub use Rattle.pool_alloc.specs.PlainModules.{ModuleAsked}
-pub use Rattle.pool_alloc.specs.StepBounds.{bound_of, steps_left}
+pub use Rattle.pool_alloc.specs.StepBounds.{PoolSizes, allocation_bound, bound_of, flush_bound, give_back_bound, heap_bound, instance_bound, purge_bound, release_bound, return_bound, sizes_of, steps_left}
 pub use Rattle.pool_alloc.specs.Calls.{IsGrant, IsIdle, begun_call, frame_made}
 pub use Rattle.pool_alloc.specs.HeapLeases.{LeasedHeap}
 pub use Rattle.pool_alloc.specs.Leases.{IsUsable, Lease}

@@ -1,11 +1,13 @@
 pub mod Acts
 pub mod Agreeing
 pub mod AtOnce
+pub mod Bounds
 pub mod Built
 pub mod Folds
 pub mod GrowthEnds
 pub mod HeapFaults
 mod Imports
+pub mod InTime
 pub mod Limits
 pub mod Made
 pub mod Numbers

@@ -1,7 +1,8 @@
 -- What a run of an input is: the turns of its schedule over a pool as it is made, and then of each party until it has
 -- nothing left; and the output, which tells each party a private run.
 use Rattle.std.specs.Prelude.{◌++◌, ◌≡◌, ℕ, ◌<◌, ◌&&◌, ◌||◌, ◌==◌, List, [], ◌∷◌, ◌+◌, length, map, slice_get, nat_lt, if◌then◌else◌, ◌⊎◌, Bool, true, false, Option, Some, None, IfSome}
-use Rattle.pool_run.specs.Imports.{Any, list_any, range_with_len, rounded_up, failing_maker, planned_faults, MakerTold, Planned, calls_of, fails_making, plan_for, slab_stripes, Told, Rose, BrokenRule, RegionName, memory_region, table_region, stack_region, ModuleInfo, Tunables, makes_listed_images, IsMadeCore, settings_of, metrics_of, ModuleAsked}
+use Rattle.pool_run.specs.Imports.{Any, list_any, range_with_len, rounded_up, failing_maker, planned_faults, MakerTold, Planned, calls_of, fails_making, plan_for, slab_stripes, Told, Rose, BrokenRule, RegionName, memory_region, table_region, stack_region, ModuleInfo, Tunables, makes_listed_images, IsMadeCore, settings_of, metrics_of, ModuleAsked, PlainHeap, PoolCore, sizes_of}
+use Rattle.pool_run.specs.Bounds.{IsInTime, own_turns}
 use Rattle.pool_run.specs.Folds.{RunParts, RunState, HoldsThroughout, Folds, Runs, commands_of, replies_to, told_state}
 use Rattle.pool_run.specs.Made.{calls_made}
 use Rattle.pool_run.specs.Numbers.{calls_of_run}
@@ -123,8 +124,14 @@ stripe_of (Some p) = p.frame.stripe
 abbrev pub world_seen : {P : Type 0} → Input → MakerTold → List (RunningParty P) → ℕ → World
 world_seen input maker parties i = world_at (world_of input maker) i (stripe_of (slice_get parties i))
 
+-- After these turns from the first state to the second the replies to each party have come in time: on a pool with this core's sizes, of
+-- commands of this input.
+abbrev pub AreInTime : {P : Type 0} → Input → PoolCore P PlainHeap → List ℕ → List (List Reply) → List (List Reply) → Type 0
+AreInTime input c turns before after =
+    (i : ℕ) → i < length input.parties → IsInTime (sizes_of c.settings c.plan) input.modules (commands_of (commands_in input.parties) i) (own_turns i turns) (replies_to i before) (replies_to i after)
+
 -- The output is that of a run of the input: the turns lead from the run as it is made to an end, of which the output
--- gives the replies and the numbers.
+-- gives the replies and the numbers. The turns that the schedule has for a party bring it their replies in time.
 pub record IsRun (P : Type 0) (input : Input) (maker : MakerTold) (output : RunOutput) : Type 0 where
   pub start : RunParts P
   pub made : IsMadeRun input maker start
@@ -133,6 +140,7 @@ pub record IsRun (P : Type 0) (input : Input) (maker : MakerTold) (output : RunO
   pub replies : output.replies ≡ end.replies
   pub told : (i : ℕ) → i < length input.parties → IsToldBy input.finish (world_seen input maker end.parties i).terms (commands_of (commands_in input.parties) i) (replies_to i output.replies)
   pub room : (i : ℕ) → i < length input.parties → IsPooledRun (world_seen input maker end.parties i) (commands_of (commands_in input.parties) i) (replies_to i output.replies)
+  pub in_time : AreInTime input start.core (turns_of input.schedule) (nothing_told input.parties) output.replies
   pub metrics : output.metrics ≡ metrics_of end.core
   pub calls_made : output.calls ≡ calls_of_run end.core end.parties
 

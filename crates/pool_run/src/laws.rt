@@ -1,5 +1,6 @@
 ghost use Rattle.pool_run.specs.Agreeing.{RunsAgree};
 ghost use Rattle.pool_run.specs.HeapFaults.{HeapFaultsAreListed};
+ghost use Rattle.pool_run.specs.InTime.{RepliesComeInTime};
 ghost use Rattle.pool_run.specs.Placed.{SlotsAreInOnePlace, UsedSlotsAreNotPicked};
 
 use pool_pages::Pages;
@@ -22,4 +23,10 @@ pub fn slots_have_places<P: Pages>()
     ensures one { SlotsAreInOnePlace P }
     // What a pick gives is free, in the shard where it is at home.
     ensures picked { UsedSlotsAreNotPicked P }
+{}
+
+/// The reply to a command comes within so many turns of its party as the command may take at most, whatever turns others make
+/// between. The bound is a number of the pool's sizes, the modules and the commands. It does nothing.
+pub fn replies_come_in_time<P: Pages>()
+    ensures { RepliesComeInTime P }
 {}

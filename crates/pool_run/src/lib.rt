@@ -21,7 +21,8 @@ mod command;
 mod input;
 mod validity;
 
-// What a run gives
+// What a run gives, and how many steps it takes at most
+mod bounds;
 mod output;
 mod replies;
 mod reply;
@@ -57,12 +58,13 @@ mod laws;
 
 pub use act::{Act, MemoryOp, TableOp, Wanted, act_of, heap_type};
 pub use at_once::act_on_stack;
+pub use bounds::StepBounds;
 pub use built::is_built;
 pub use calls::make_calls;
 pub use command::{Command, TableValue};
 pub use copies::zeros;
 pub use input::{Input, Party, PartyLimits, ScheduleEntry};
-pub use laws::{heap_faults_are_listed, runs_agree, slots_have_places};
+pub use laws::{heap_faults_are_listed, replies_come_in_time, runs_agree, slots_have_places};
 pub use leases::Leases;
 pub use limiter::limiter_of;
 pub use output::{RunFault, RunOutput};

@@ -1,9 +1,11 @@
-ghost use Rattle.std.specs.Prelude.{◌≡◌, ◌↔◌, ℕ, ◌+◌, ◌^◌, ◌<◌, ◌≤◌, Err, Some, length, map, replicate, slice_get, slice_index_or, true, false, fold, None, IfOk, IfErr, OnOk};
+ghost use Rattle.std.specs.Prelude.{◌≡◌, ◌↔◌, ℕ, ◌+◌, ◌^◌, ◌<◌, ◌≤◌, Err, Some, length, map, replicate, slice_get, slice_index_or, true, false, fold, None, IfOk, IfErr, IfSome, OnOk};
 ghost use Rattle.pool_pages.specs.MakerTold.{MakerTold};
 ghost use Rattle.pool_types.specs.declared.bad_config.BadConfig.{BadConfig};
 ghost use Rattle.pool_alloc.specs.BetweenSteps.{IsCore};
 ghost use Rattle.pool_alloc.specs.PoolAndHolders.{IsUntouched};
 ghost use Rattle.pool_alloc.specs.PoolTotals.{metrics_of};
+ghost use Rattle.pool_alloc.specs.StepBounds.{sizes_of};
+ghost use Rattle.pool_run.specs.Bounds.{bounds_on};
 ghost use Rattle.pool_run.specs.Built.{broken_rule, is_built};
 ghost use Rattle.pool_run.specs.Folds.{TurnsOf, commands_of, told_state, replies_after};
 ghost use Rattle.pool_run.specs.Numbers.{with_party, calls_of_run};
@@ -13,6 +15,7 @@ ghost use Rattle.pool_run.specs.RunsMade.{SoFar, IsKept, party_made_for, parties
 ghost use Rattle.pool_run.specs.Turns.{no_lists};
 ghost use Rattle.pool_run.specs.Validity.{is_valid};
 
+use crate::bounds::StepBounds;
 use crate::calls::make_calls;
 use crate::input::{Input, Party};
 use crate::leases::Leases;
@@ -176,6 +179,13 @@ impl<P: Pages> Run<P> {
         ensures { result ≡ commands_done (slice_get self.now.parties i) }
     {
         self.parties[i].done
+    }
+
+    /// How many steps the calls of this run take at most, on the pool that it has. None where a number on the way is above 2^64 - 1.
+    pub fn bounds(&self) -> Option<StepBounds>
+        ensures { IfSome result (λ b. b ≡ bounds_on (sizes_of self.now.core.settings self.now.core.plan)) }
+    {
+        StepBounds::of(&self.core.settings, &self.core.plan)
     }
 
     /// The pool's numbers.
