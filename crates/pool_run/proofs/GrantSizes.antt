@@ -4,7 +4,7 @@ use Rattle.pool_run.proofs.Imports.{length-set, Image, MemoryDecl, ModuleInfo, G
 use Rattle.pool_run.specs.Acts.{Act, requests, on_memory, on_table, drops, purges, releases, act_of, act_at, Wanted, an_instance, a_component, a_stack, a_heap, heap_type, MemoryOp}
 use Rattle.pool_run.specs.Bounds.{module_objects, objects_granted}
 use Rattle.pool_run.specs.Objects.{MovesNamed, object_at}
-use Rattle.pool_run.specs.Private.{PrivateGrant, PrivateMemory, instance_grant, component_grant, stack_grant, heap_grant, Grants, grant_at, Terms, module_of, images_of, request_of, begun, begun_memory, begun_table, Instantiates, AsksForComponent, AsksForStack, AsksForHeap, MemoryMoves, MovesBytes, Drops, put_memory, put_table, put_stack, private_memories, private_stacks, PrivateState, table_at, with_table, Requests, Moves, StepsBy, with_grants, no_grants}
+use Rattle.pool_run.specs.Private.{PrivateGrant, PrivateMemory, instance_grant, component_grant, memory_grant, table_grant, stack_grant, heap_grant, Grants, grant_at, Terms, module_of, images_of, request_of, begun, begun_memory, begun_table, Instantiates, AsksForComponent, AsksForStack, AsksForHeap, MemoryMoves, MovesBytes, Drops, put_memory, put_table, put_stack, private_memories, private_stacks, PrivateState, table_at, with_table, Requests, Moves, StepsBy, with_grants, no_grants}
 use Rattle.pool_run.specs.PrivateStacks.{PrivateStack, StackMoves}
 use Rattle.pool_run.specs.PrivateTables.{PrivateTable, StoredTable, TableMoves}
 use Rattle.pool_run.specs.Rooms.{World, PooledStep}
@@ -18,6 +18,8 @@ use Rattle.pool_run.proofs.Wants.{count_wanted}
 abbrev pub objects_of : PrivateGrant → ℕ
 objects_of (instance_grant g) = length g.memories + length g.tables
 objects_of component_grant = 0
+objects_of (memory_grant m) = 1
+objects_of (table_grant x) = 1
 objects_of (stack_grant s) = 1
 objects_of (heap_grant slot m) = 2
 
@@ -45,18 +47,24 @@ set_or (y ∷ ys) (suc i) (suc k) x d =
 put_memory_same : (k : ℕ) (m : PrivateMemory) (g : PrivateGrant) → objects_of (put_memory k m g) ≡ objects_of g
 put_memory_same k m (instance_grant g) = ap (λ (n : ℕ). n + length g.tables) (length-set g.memories k m)
 put_memory_same k m component_grant = refl
+put_memory_same k m (memory_grant old) = refl
+put_memory_same k m (table_grant x) = refl
 put_memory_same k m (stack_grant s) = refl
 put_memory_same k m (heap_grant slot old) = refl
 
 put_table_same : (k : ℕ) (x : PrivateTable) (g : PrivateGrant) → objects_of (put_table k x g) ≡ objects_of g
 put_table_same k x (instance_grant g) = ap (λ (n : ℕ). length g.memories + n) (length-set g.tables k x)
 put_table_same k x component_grant = refl
+put_table_same k x (memory_grant m) = refl
+put_table_same k x (table_grant old) = refl
 put_table_same k x (stack_grant s) = refl
 put_table_same k x (heap_grant slot m) = refl
 
 put_stack_same : (k : ℕ) (s : PrivateStack) (g : PrivateGrant) → objects_of (put_stack k s g) ≡ objects_of g
 put_stack_same k s (instance_grant g) = refl
 put_stack_same k s component_grant = refl
+put_stack_same k s (memory_grant m) = refl
+put_stack_same k s (table_grant x) = refl
 put_stack_same k s (stack_grant old) = refl
 put_stack_same k s (heap_grant slot m) = refl
 
@@ -102,6 +110,8 @@ module _ (t : Terms) (commands : List Command) where
   bytes_asked op rule None of k grants new reply are moves = on_memories op rule of k grants new reply are moves
   bytes_asked op rule (Some (instance_grant i)) of k grants new reply are moves = on_memories op rule of k grants new reply are moves
   bytes_asked op rule (Some component_grant) of k grants new reply are moves = on_memories op rule of k grants new reply are moves
+  bytes_asked op rule (Some (memory_grant m)) of k grants new reply are moves = on_memories op rule of k grants new reply are moves
+  bytes_asked op rule (Some (table_grant x)) of k grants new reply are moves = on_memories op rule of k grants new reply are moves
   bytes_asked op rule (Some (heap_grant slot m)) of k grants new reply are moves = on_memories op rule of k grants new reply are moves
   bytes_asked op rule (Some (stack_grant s)) of k grants new reply are moves =
       named_keeps (AreAsked t.modules commands) (StackMoves op) (object_at private_stacks of k grants) (λ x live. slice_set live of (option_map (put_stack k x) (slice_index_or live of None))) grants new reply (λ x. asked_put (put_stack k x) (put_stack_same k x) grants of are) are moves

@@ -65,6 +65,8 @@ module _ {P : Type 0} where
   returned_by : (c : PoolCore P PlainHeap) (g : Grant P PlainHeap) → bound_of c (call.GiveBack g) ≡ return_bound (sizes_of c.settings c.plan) (objects_of (private_grant g))
   returned_by c (grant.Instance lease) = ap (return_bound (sizes_of c.settings c.plan)) (omega (arith, length-map lease.memories.items private_memory, length-map lease.tables.items private_table))
   returned_by c grant.Component = omega arith
+  returned_by c (grant.Memory lease) = refl
+  returned_by c (grant.Table lease) = refl
   returned_by c (grant.Stack lease) = refl
   returned_by c (grant.Heap lease memory) = refl
 

@@ -9,15 +9,15 @@ returns c =
     let plan = c.args.plan.now in
     told_weaker _ _ c.add_shards-3.result
     (λ n is.
-      omega (
-        arith,
-        is,
-        c.in_ok-tables.ensures,
-        c.in_ok-memories.ensures,
-        ap all_shards c.as_slice.ensures,
-        ap all_shards c.as_slice-2.ensures,
-        ap all_shards c.as_slice-3.ensures,
-        all_append plan.memories (plan.tables ++ plan.stacks),
-        all_append plan.tables plan.stacks,
-      ))
+    omega (
+      arith,
+      is,
+      c.in_ok-tables.ensures,
+      c.in_ok-memories.ensures,
+      ap all_shards c.as_slice.ensures,
+      ap all_shards c.as_slice-2.ensures,
+      ap all_shards c.as_slice-3.ensures,
+      all_append plan.memories (plan.tables ++ plan.stacks),
+      all_append plan.tables plan.stacks,
+    ))
     c.add_shards-3.ensures
