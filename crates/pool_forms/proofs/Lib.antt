@@ -1,3 +1,4 @@
+pub mod Counts
 pub mod Items
 pub mod LineFeeds
 pub mod Lists

@@ -1,6 +1,7 @@
 pub mod Fields
 pub mod Forms
 mod Imports
+pub mod LoadOutput
 pub mod ModuleForms
 pub mod Output
 pub mod Ranges

@@ -1,7 +1,7 @@
 //! What programs over a pool read and write: JSON, lines of text, streams of bytes.
 //!
 //! `read_input` makes an `Input` of JSON, and `read_shared` a `SharedInput`; an `InputFault` says why a text is none.
-//! `output_text`, `replies_text` and `shared_text` make the text of what a run gave. `Source` and `Sink` are streams of
+//! `output_text`, `load_text`, `replies_text` and `shared_text` make the text of what a run gave. `Source` and `Sink` are streams of
 //! bytes, which `read_all` and `write_all` use up: over standard input and output they are `ReaderSource` and
 //! `WriterSink`, and in memory `MemorySource` and `MemorySink`.
 //!
@@ -35,6 +35,7 @@ mod shared_input;
 
 // Printing
 mod print;
+mod print_load;
 mod print_shared;
 
 // Streams of bytes
@@ -46,6 +47,7 @@ mod transfers;
 pub use json_input::{InputFault, read_input, read_shared};
 pub use memory_streams::{MemorySink, MemorySource};
 pub use print::{output_text, replies_text};
+pub use print_load::load_text;
 pub use print_shared::shared_text;
 pub use standard_streams::{ReaderSource, WriterSink};
 pub use streams::{Sink, Source};

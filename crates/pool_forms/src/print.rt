@@ -324,7 +324,7 @@ fn push_party_lines(
 }
 
 #[tactic(auto, unfolding(crate::specs::Output::named))]
-fn push_named(out: &mut String, name: &str, number: u64) -> Result<(), AllocError>
+pub(crate) fn push_named(out: &mut String, name: &str, number: u64) -> Result<(), AllocError>
     ensures { OnOk result (string_bytes out.new ≡ string_bytes out.old ++ named name.now number) }
 {
     write!(out, "{name}{number}")
@@ -372,7 +372,7 @@ fn push_warm(out: &mut String, m: &Metrics) -> Result<(), AllocError>
     Ok(())
 }
 
-fn push_metrics(out: &mut String, m: &Metrics) -> Result<(), AllocError>
+pub(crate) fn push_metrics(out: &mut String, m: &Metrics) -> Result<(), AllocError>
     ensures { OnOk result (string_bytes out.new ≡ string_bytes out.old ++ metrics_line m.now) }
 {
     push_live(out, m)?;
@@ -380,7 +380,7 @@ fn push_metrics(out: &mut String, m: &Metrics) -> Result<(), AllocError>
     out.push_str("\n")
 }
 
-fn push_pages(out: &mut String, calls: &PageCalls) -> Result<(), AllocError>
+pub(crate) fn push_pages(out: &mut String, calls: &PageCalls) -> Result<(), AllocError>
     ensures { OnOk result (string_bytes out.new ≡ string_bytes out.old ++ pages_line calls.now) }
 {
     push_named(out, "pages expose=", calls.expose)?;
