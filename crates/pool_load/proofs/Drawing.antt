@@ -47,3 +47,5 @@ pub draws_of_more : (k m x : ℕ) → state_after (k * (m + 1)) x ≡ state_afte
 draws_of_more k m x =
     let whole : k * (m + 1) ≡ k * m + k = omega arith in
     ap (λ (n : ℕ). state_after n x) whole ∙ draws_more (k * m) k x
+
+pub ruleset one_drawn = (mod_first, below_bound)

@@ -5,6 +5,7 @@ use Rattle.std.proofs.lemmas.Grind.{flat_map-append}
 use Rattle.std.specs.List.{flat_map, range_with_len}
 use Rattle.pool_run.specs.declared.command.Command.{Command}
 use Rattle.pool_run.specs.declared.command.Command.TheVariants.{Instantiate, Write, Grow, Read, Drop}
+use Rattle.pool_load.proofs.Drawing.{draw_more, draws_of_more, no_draw}
 use Rattle.pool_load.specs.Draws.{drawn, next_state, number_of, state_after}
 use Rattle.pool_load.specs.Load.{load_module, load_parties, load_party, load_schedule, round, rounds}
 
@@ -76,3 +77,10 @@ round_pushed of x s1 s2 s3 s4 s5 m at byte pages from hex c0 c1 c2 c3 c4 c5 d1 d
 pub five_draws : (x s1 s2 s3 s4 s5 : ℕ) → s1 ≡ next_state x → s2 ≡ next_state s1 → s3 ≡ next_state s2 → s4 ≡ next_state s3 → s5 ≡ next_state s4 → s5 ≡ state_after 5 x
 unfolding state_after
 five_draws x s1 s2 s3 s4 s5 d1 d2 d3 d4 d5 = rw (d5, d4, d3, d2, d1) refl
+
+-- what a loop over rounds, parties or steps needs
+pub ruleset round_by_round = (no_rounds, no_draw, rounds_more, draws_of_more)
+
+pub ruleset party_by_party = (no_parties, no_draw, parties_more, draws_of_more)
+
+pub ruleset step_by_step = (no_steps, no_draw, steps_more, draw_more)

@@ -166,3 +166,5 @@ load_built seed = refl
 pub load_rules : (seed : ℕ) → broken_rule (load_input seed) ≡ None
 unfolding load_input lib.Count.ones
 load_rules seed = refl
+
+pub ruleset load_accepted = (load_built, load_valid, load_rules)

@@ -14,7 +14,7 @@ pub struct Draws {
 
 impl Draws {
     /// Draws a number below this one.
-    #[tactic(auto, using(crate::proofs::Drawing::mod_first, crate::proofs::Drawing::below_bound), unfolding(crate::specs::Draws::next_state, crate::specs::Draws::number_of))]
+    #[tactic(auto, using(crate::proofs::Drawing::one_drawn), unfolding(crate::specs::Draws::next_state, crate::specs::Draws::number_of))]
     pub fn draw(&mut self, below: u64) -> u64
         requires { 0 < below }
         ensures state { self.new.state ≡ next_state self.old.state }

@@ -157,7 +157,7 @@ fn push_round(
 }
 
 // The commands of a party.
-#[tactic(auto, using(crate::proofs::Lists::no_rounds, crate::proofs::Drawing::no_draw, crate::proofs::Lists::rounds_more, crate::proofs::Drawing::draws_of_more))]
+#[tactic(auto, using(crate::proofs::Lists::round_by_round))]
 fn commands(alloc: Global, draws: &mut Draws) -> Result<PlainList<Command>, AllocError>
     ensures ok { IfOk result (λ commands. commands ≡ rounds 50 draws.old.state) }
     ensures state { OnOk result (draws.new.state ≡ state_after 250 draws.old.state) }
@@ -169,7 +169,7 @@ fn commands(alloc: Global, draws: &mut Draws) -> Result<PlainList<Command>, Allo
     Ok(PlainList::from_vec(commands))
 }
 
-#[tactic(auto, using(crate::proofs::Lists::no_parties, crate::proofs::Drawing::no_draw, crate::proofs::Lists::parties_more, crate::proofs::Drawing::draws_of_more), unfolding(crate::specs::Load::load_party))]
+#[tactic(auto, using(crate::proofs::Lists::party_by_party), unfolding(crate::specs::Load::load_party))]
 fn parties(alloc: Global, draws: &mut Draws) -> Result<PlainList<Party>, AllocError>
     ensures ok { IfOk result (λ parties. parties ≡ load_parties 8 draws.old.state) }
     ensures state { OnOk result (draws.new.state ≡ state_after 2000 draws.old.state) }
@@ -187,7 +187,7 @@ fn parties(alloc: Global, draws: &mut Draws) -> Result<PlainList<Party>, AllocEr
     Ok(PlainList::from_vec(parties))
 }
 
-#[tactic(auto, using(crate::proofs::Lists::no_steps, crate::proofs::Drawing::no_draw, crate::proofs::Lists::steps_more, crate::proofs::Drawing::draw_more))]
+#[tactic(auto, using(crate::proofs::Lists::step_by_step))]
 fn schedule(alloc: Global, draws: &mut Draws) -> Result<PlainList<ScheduleEntry>, AllocError>
     ensures { IfOk result (λ schedule. schedule ≡ load_schedule 20000 draws.old.state) }
 {
@@ -201,7 +201,7 @@ fn schedule(alloc: Global, draws: &mut Draws) -> Result<PlainList<ScheduleEntry>
 
 /// The input of the load of this seed. It is valid and breaks no rule of the settings, so a run of it is refused neither
 /// for its sizes nor for its settings.
-#[tactic(auto, using(crate::proofs::Valid::load_built, crate::proofs::Valid::load_valid, crate::proofs::Valid::load_rules), unfolding(crate::specs::Load::load_input))]
+#[tactic(auto, using(crate::proofs::Valid::load_accepted), unfolding(crate::specs::Load::load_input))]
 pub fn load_input(alloc: Global, seed: u64) -> Result<Input, AllocError>
     ensures input { IfOk result (λ input. input ≡ load_input seed) }
     ensures built { is_built (load_input seed) ≡ true }
