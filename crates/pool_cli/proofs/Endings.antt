@@ -8,17 +8,17 @@ use Rattle.pool_run.specs.declared.output.RunFault.TheVariants as fault
 use Rattle.pool_forms.specs.Reading.{Reading, not_built, invalid, accepted}
 use Rattle.pool_cli.specs.Lines.{line_of, status_of_failure}
 use Rattle.pool_cli.specs.Stages.{Ends, IsRunFailure, Refuses, WritesText}
-use Rattle.pool_cli.specs.Statuses.{Format, run_format, shared_format, HasRead, HasDone, HasReadInvalid, HasBadConfig, HasFaulted, BreaksRule, AsksForMore, Fails, FollowsBytes, IsHindrance, reads_input, status_of, status_of_limits}
+use Rattle.pool_cli.specs.Statuses.{Format, run_format, shared_format, HasRead, HasDone, HasReadInvalid, HasBadConfig, HasFaulted, BreaksRule, AsksForMore, Fails, FollowsBytes, IsHindrance, IsLoadStatus, runs, status_of, status_of_limits}
 use Rattle.pool_forms.specs.Streams.{SourceTold, SinkTold, Wrote, most_input}
 use Rattle.pool_cli.specs.declared.failure.Failure.{Failure}
 use Rattle.pool_cli.specs.declared.failure.Failure.TheVariants as failure
 use Rattle.pool_cli.specs.declared.status.Status.{Status}
 use Rattle.pool_cli.specs.declared.status.Status.TheVariants.{Ok as Success, BadUsage, BadInput, BadConfig as BadSettings, PageFault, ReadFault, WriteFault, NoMemory, TooLong, NotBuilt}
 use Rattle.pool_cli.specs.declared.words.Task.{Task}
-use Rattle.pool_cli.specs.declared.words.Task.TheVariants.{Run, RunOnDemand, Shared, Later, Unknown}
+use Rattle.pool_cli.specs.declared.words.Task.TheVariants.{Run, RunOnDemand, Shared, Load, Unknown}
 
--- settings that are refused are the cause of a failure of a task that reads an input
-refused_fails : (faulted : Type 0) (task : Task) (error : BadConfig) (cause : Failure) (so sn : SourceTold) → reads_input task ≡ true → HasBadConfig task error so sn → Refuses error cause → Fails faulted task cause so sn
+-- settings that are refused are the cause of a failure of a task that runs an input
+refused_fails : (faulted : Type 0) (task : Task) (error : BadConfig) (cause : Failure) (so sn : SourceTold) → runs task ≡ true → HasBadConfig task error so sn → Refuses error cause → Fails faulted task cause so sn
 refused_fails faulted task error failure.BadUsage so sn reads broken is = absurd is
 refused_fails faulted task error failure.BadInput so sn reads broken is = absurd is
 refused_fails faulted task error (failure.BadConfig line) so sn reads broken is = (error, broken, is)
@@ -62,7 +62,7 @@ no_limit None valid r is exact none = refl
 no_limit (Some e) valid r is exact none = absurd (none e ((exact e).1 (is, refl)))
 
 -- a run that isn't made is the cause of a failure
-run_fails : (faulted : Type 0) (task : Task) (why : RunFault) (cause : Failure) (so sn : SourceTold) → reads_input task ≡ true → (why ≡ fault.BadInput → HasReadInvalid task so sn) → ((e : BadConfig) → why ≡ fault.BadConfig e → HasBadConfig task e so sn) → (why ≡ fault.PageFault → faulted) → IsRunFailure why cause → Fails faulted task cause so sn
+run_fails : (faulted : Type 0) (task : Task) (why : RunFault) (cause : Failure) (so sn : SourceTold) → runs task ≡ true → (why ≡ fault.BadInput → HasReadInvalid task so sn) → ((e : BadConfig) → why ≡ fault.BadConfig e → HasBadConfig task e so sn) → (why ≡ fault.PageFault → faulted) → IsRunFailure why cause → Fails faulted task cause so sn
 run_fails faulted task fault.BadInput cause so sn reads bad broken making is = subst (λ (f : Failure). Fails faulted task f so sn) (sym is) (bad refl)
 run_fails faulted task (fault.BadConfig e) cause so sn reads bad broken making is = refused_fails faulted task e cause so sn reads (broken e refl) is
 run_fails faulted task fault.PageFault cause so sn reads bad broken making is = subst (λ (f : Failure). Fails faulted task f so sn) (sym is) (making refl)
@@ -73,7 +73,7 @@ abbrev none_for : (A : Type 0) → RunFault → Result A RunFault
 none_for A why = Err why
 
 -- an input was read and nothing was run, which is the cause of a failure
-pub not_run : {X : Type 0} (A : Type 0) (f : Format X) (faulted : Type 0) (task : Task) (input : X) (valid : Bool) (why : RunFault) (cause : Failure) (so sn : SourceTold) → reads_input task ≡ true → (HasRead f invalid so sn → HasReadInvalid task so sn) → ((e : BadConfig) → BreaksRule f e so sn → HasBadConfig task e so sn) → (HasRead f (accepted input) so sn → f.broken input ≡ None → why ≡ fault.PageFault → faulted) → HasRead f (cond valid (accepted input) invalid) so sn → (none_for A why ≡ none_for A fault.BadInput) ↔ (valid ≡ false) → ((e : BadConfig) → (none_for A why ≡ none_for A (fault.BadConfig e)) ↔ ((valid ≡ true) × (f.broken input ≡ Some e))) → IsRunFailure why cause → Fails faulted task cause so sn
+pub not_run : {X : Type 0} (A : Type 0) (f : Format X) (faulted : Type 0) (task : Task) (input : X) (valid : Bool) (why : RunFault) (cause : Failure) (so sn : SourceTold) → runs task ≡ true → (HasRead f invalid so sn → HasReadInvalid task so sn) → ((e : BadConfig) → BreaksRule f e so sn → HasBadConfig task e so sn) → (HasRead f (accepted input) so sn → f.broken input ≡ None → why ≡ fault.PageFault → faulted) → HasRead f (cond valid (accepted input) invalid) so sn → (none_for A why ≡ none_for A fault.BadInput) ↔ (valid ≡ false) → ((e : BadConfig) → (none_for A why ≡ none_for A (fault.BadConfig e)) ↔ ((valid ≡ true) × (f.broken input ≡ Some e))) → IsRunFailure why cause → Fails faulted task cause so sn
 not_run A f faulted task input valid why cause so sn reads invalid_is broken_is making read bad_input bad_config is =
     run_fails faulted task why cause so sn reads
     (λ bad. invalid_is (cannot_run f input valid so sn read (bad_input.0 (ap (none_for A) bad))))
@@ -156,6 +156,36 @@ follows_on_demand told task status so sn ko kn mo mn ends is =
 pub follows_shared : {P : Type 0} (told : P → Told) (task : Task) (status : Status) (so sn : SourceTold) (ko kn : SinkTold) (mo mn : MakerTold) → Ends told task status so sn ko kn mo mn → task ≡ Shared → IfSome so.rest (FollowsBytes shared_format status)
 follows_shared told task status so sn ko kn mo mn ends is =
     asked_follows shared_format told Shared task status so sn ko kn mo mn (λ x. cc) (λ text done. record { input = done.input; read = done.read; limits = done.page }) (λ h. h) (λ e h. h) (λ h. h) ends is
+
+-- a load ends well, unless a write or a making fails, or memory runs out
+load_status : {P : Type 0} (told : P → Told) (seed : ℕ) (status : Status) (so sn : SourceTold) (ko kn : SinkTold) (mo mn : MakerTold) → Ends told (Load seed) status so sn ko kn mo mn → IsLoadStatus status
+load_status told seed Success so sn ko kn mo mn ends = inl refl
+load_status told seed BadUsage so sn ko kn mo mn ends = absurd (let is : Load seed ≡ Unknown = ends.0.0 in cc)
+load_status told seed BadInput so sn ko kn mo mn ends = absurd ends.0
+load_status told seed BadSettings so sn ko kn mo mn ends = absurd ends.refused
+load_status told seed PageFault so sn ko kn mo mn ends = inr (inr (inl refl))
+load_status told seed ReadFault so sn ko kn mo mn ends = absurd (let is : false ≡ true = ends.0.0 in cc)
+load_status told seed WriteFault so sn ko kn mo mn ends = inr (inl refl)
+load_status told seed NoMemory so sn ko kn mo mn ends = inr (inr (inr refl))
+load_status told seed TooLong so sn ko kn mo mn ends = absurd (let is : false ≡ true = ends.0.0 in cc)
+load_status told seed NotBuilt so sn ko kn mo mn ends = absurd ends.0
+
+pub ends_load : {P : Type 0} (told : P → Told) (task : Task) (status : Status) (so sn : SourceTold) (ko kn : SinkTold) (mo mn : MakerTold) (seed : ℕ) → Ends told task status so sn ko kn mo mn → task ≡ Load seed → IsLoadStatus status
+ends_load told task status so sn ko kn mo mn seed ends is =
+    let E : Task → Type 0 = λ t. Ends told t status so sn ko kn mo mn in
+    load_status told seed status so sn ko kn mo mn (subst E is ends)
+
+-- no run of an input that is valid and breaks no rule is refused for the input
+load_fails : (faulted : Type 0) (seed : ℕ) (why : RunFault) (cause : Failure) (source : SourceTold) → (why ≡ fault.BadInput → ⊥) → ((e : BadConfig) → why ≡ fault.BadConfig e → ⊥) → (why ≡ fault.PageFault → faulted) → IsRunFailure why cause → Fails faulted (Load seed) cause source source
+load_fails faulted seed why cause source good held making is =
+    run_fails faulted (Load seed) why cause source source refl (λ bad. absurd (good bad)) (λ e bad. absurd (held e bad)) making is
+
+pub load_not_run : (A : Type 0) (faulted : Type 0) (seed : ℕ) (valid : Bool) (o : Option BadConfig) (why : RunFault) (cause : Failure) (source : SourceTold) → valid ≡ true → o ≡ None → (none_for A why ≡ none_for A fault.BadInput) ↔ (valid ≡ false) → ((e : BadConfig) → (none_for A why ≡ none_for A (fault.BadConfig e)) ↔ ((valid ≡ true) × (o ≡ Some e))) → (why ≡ fault.PageFault → faulted) → IsRunFailure why cause → Fails faulted (Load seed) cause source source
+load_not_run A faulted seed valid o why cause source is_valid no_rule bad_input bad_config making is =
+    load_fails faulted seed why cause source
+    (λ bad. let not : valid ≡ false = bad_input.0 (ap (none_for A) bad) in absurd cc)
+    (λ e bad. let broken : o ≡ Some e = ((bad_config e).0 (ap (none_for A) bad)).1 in absurd cc)
+    making is
 
 -- a run's text was to be written: all of it was, or a part
 pub ends_with_text : {P : Type 0} (told : P → Told) (task : Task) (text : List ℕ) (status : Status) (so sn : SourceTold) (ko kn : SinkTold) (mo mn : MakerTold) → HasDone P task text so sn mo mn → WritesText Success text ko kn status → Ends told task status so sn ko kn mo mn

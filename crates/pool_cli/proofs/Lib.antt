@@ -1,3 +1,4 @@
 pub mod Endings
+pub mod LoadReplies
 pub mod Marks
 pub mod Numerals

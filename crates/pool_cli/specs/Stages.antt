@@ -18,6 +18,7 @@ use Rattle.pool_cli.specs.declared.failure.Failure.TheVariants as failure
 use Rattle.pool_cli.specs.declared.status.Status.{Status}
 use Rattle.pool_cli.specs.declared.status.Status.TheVariants.{Ok as Success, BadUsage, BadInput, BadConfig as BadSettings, PageFault, ReadFault, WriteFault, NoMemory, TooLong, NotBuilt}
 use Rattle.pool_cli.specs.declared.words.Task.{Task}
+use Rattle.pool_cli.specs.declared.words.Task.TheVariants.{Load}
 
 -- the bytes were read, or each task that reads an input fails, and not for a making
 abbrev pub ReadsBytes : SourceTold → SourceTold → Result (List ℕ) Failure → Type 0
@@ -57,6 +58,10 @@ IsRunFailure run.Memory f = f ≡ failure.NoMemory
 abbrev pub Prepares : {P : Type 0} → (P → Told) → Task → SourceTold → SourceTold → MakerTold → MakerTold → Result (String Global) Failure → Type 0
 Prepares {P = P} told task source_old source_new maker_old maker_new (Ok text) = HasDone P task (string_bytes text) source_old source_new maker_old maker_new
 Prepares told task source_old source_new maker_old maker_new (Err failure) = Fails (HasFaulted told task source_old source_new maker_old maker_new) task failure source_old source_new
+
+-- The text of the output of a load, or why there is none; whatever the source, nothing is read of it.
+abbrev pub PreparesLoad : {P : Type 0} → (P → Told) → ℕ → MakerTold → MakerTold → Result (String Global) Failure → Type 0
+PreparesLoad told seed maker_old maker_new result = (source : SourceTold) → Prepares told (Load seed) source source maker_old maker_new result
 
 -- the text was written and the status stays, or a write failed
 abbrev pub WritesText : Status → List ℕ → SinkTold → SinkTold → Status → Type 0

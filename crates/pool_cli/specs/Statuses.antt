@@ -1,5 +1,5 @@
 -- Why the program ends with a status, and what it wrote.
-use Rattle.std.specs.Prelude.{◌≡◌, ℕ, ◌≤◌, ◌<◌, List, length, ◌⊎◌, Bool, true, false, Option, Some, None, string_bytes}
+use Rattle.std.specs.Prelude.{◌≡◌, ℕ, ◌≤◌, ◌<◌, List, length, ◌⊎◌, Bool, true, false, ◌||◌, Option, Some, None, string_bytes}
 use Rattle.pool_types.specs.declared.bad_config.BadConfig.{BadConfig}
 use Rattle.pool_pages.specs.declared.failing.Failing.{Failing}
 use Rattle.pool_pages.specs.FailingRegions.{with_failing}
@@ -10,12 +10,15 @@ use Rattle.pool_run.specs.Agreeing.{IsOnlyRun}
 use Rattle.pool_run.specs.Built.{broken_rule}
 use Rattle.pool_run_on_demand.specs.Runs.{IsOnDemand, HasFaultedImages}
 use Rattle.pool_run.specs.Runs.{IsRun, HoldsFromStart, HasFaultedMaking, with_faults}
+use Rattle.pool_run.specs.Validity.{is_valid}
 use Rattle.pool_run_shared.specs.Runs.{IsSharedRun, HasNoShared, with_page, broken_page}
 use Rattle.pool_run.specs.declared.input.Input.{Input}
 use Rattle.pool_run.specs.declared.output.RunOutput.{RunOutput}
 use Rattle.pool_run_shared.specs.declared.input.SharedInput.{SharedInput}
 use Rattle.pool_run_shared.specs.declared.reply.SharedReply.{SharedReply}
+use Rattle.pool_load.specs.Load.{load_input}
 use Rattle.pool_cli.specs.Lines.{config_line, line_of}
+use Rattle.pool_forms.specs.LoadOutput.{load_text}
 use Rattle.pool_forms.specs.Output.{output_text, replies_text}
 use Rattle.pool_forms.specs.Reading.{Reading, not_built, invalid, accepted, reading, shared_reading}
 use Rattle.pool_forms.specs.SharedOutput.{shared_text}
@@ -25,7 +28,7 @@ use Rattle.pool_cli.specs.declared.failure.Failure.TheVariants as failure
 use Rattle.pool_cli.specs.declared.status.Status.{Status}
 use Rattle.pool_cli.specs.declared.status.Status.TheVariants.{Ok as Success, BadInput, BadConfig as BadSettings, PageFault, ReadFault, WriteFault, NoMemory, TooLong, NotBuilt}
 use Rattle.pool_cli.specs.declared.words.Task.{Task}
-use Rattle.pool_cli.specs.declared.words.Task.TheVariants.{Run, RunOnDemand, Shared, Later, Unknown}
+use Rattle.pool_cli.specs.declared.words.Task.TheVariants.{Run, RunOnDemand, Shared, Load, Later, Unknown}
 
 -- how the bytes for a task are read, and which rule of its settings an input breaks
 pub record Format (X : Type 0) : Type 0 where
@@ -79,11 +82,29 @@ pub record HasRunShared (text : List ℕ) (source_old source_new : SourceTold) (
   pub run : IsSharedRun input (with_page input maker_old) replies
   pub text_is : text ≡ shared_text replies
 
+-- nothing was read
+abbrev pub Unread : SourceTold → SourceTold → Type 0
+Unread source_old source_new = source_new ≡ source_old
+
+-- The same of a run of the load of this seed, for which nothing is read: its input is made. That is valid, and no rule of its
+-- settings is broken. The text counts the replies.
+pub record HasRunLoad (P : Type 0) (seed : ℕ) (text : List ℕ) (source_old source_new : SourceTold) (maker_old maker_new : MakerTold) : Type 0 where
+  pub output : RunOutput
+  pub unread : Unread source_old source_new
+  pub valid : is_valid (load_input seed) ≡ true
+  pub limits : broken_rule (load_input seed) ≡ None
+  pub run : IsRun (Failing P) (load_input seed) (with_faults (load_input seed) maker_old) output
+  pub only : IsOnlyRun (Failing P) (load_input seed) (with_faults (load_input seed) maker_old) output
+  pub throughout : HoldsFromStart (Failing P) (load_input seed) (with_faults (load_input seed) maker_old)
+  pub makings : maker_new.faults ≡ maker_old.faults
+  pub text_is : text ≡ load_text seed output
+
 -- what the words ask for was run, and this is the text of its output
 abbrev pub HasDone : Type 0 → Task → List ℕ → SourceTold → SourceTold → MakerTold → MakerTold → Type 0
 HasDone P Run text source_old source_new maker_old maker_new = HasRun P text source_old source_new maker_old maker_new
 HasDone P RunOnDemand text source_old source_new maker_old maker_new = HasRunOnDemand text source_old source_new maker_old
 HasDone P Shared text source_old source_new maker_old maker_new = HasRunShared text source_old source_new maker_old
+HasDone P (Load seed) text source_old source_new maker_old maker_new = HasRunLoad P seed text source_old source_new maker_old maker_new
 HasDone P _ text source_old source_new maker_old maker_new = ⊥
 
 -- the words ask for a run, of which the input is read
@@ -92,6 +113,15 @@ reads_input Run = true
 reads_input RunOnDemand = true
 reads_input Shared = true
 reads_input _ = false
+
+-- The words ask for a load.
+abbrev pub is_load : Task → Bool
+is_load (Load seed) = true
+is_load _ = false
+
+-- the words ask for a run, of an input that is read or made, and a run takes memory
+abbrev pub runs : Task → Bool
+runs task = reads_input task || is_load task
 
 -- the bytes read are no JSON, or an input that breaks a limit or names what isn't there
 abbrev pub HasReadInvalid : Task → SourceTold → SourceTold → Type 0
@@ -137,16 +167,18 @@ pub record HasNoRegion (source_old source_new : SourceTold) (maker_old maker_new
   pub page : broken_page input ≡ None
   pub making : HasNoShared input (with_page input maker_old) maker_new
 
+-- Nothing was read, and a making, or the first call on a region, failed as the pool of the load of this seed was made.
+pub record HasNoLoadPool {P : Type 0} (told : P → Told) (seed : ℕ) (source_old source_new : SourceTold) (maker_old maker_new : MakerTold) : Type 0 where
+  pub unread : Unread source_old source_new
+  pub making : HasFaultedMaking (with_failing told) (load_input seed) maker_old maker_new
+
 -- a making failed before anything was run
 abbrev pub HasFaulted : {P : Type 0} → (P → Told) → Task → SourceTold → SourceTold → MakerTold → MakerTold → Type 0
 HasFaulted told Run source_old source_new maker_old maker_new = HasNoPool told source_old source_new maker_old maker_new
 HasFaulted told RunOnDemand source_old source_new maker_old maker_new = HasNoImages source_old source_new maker_old maker_new
 HasFaulted told Shared source_old source_new maker_old maker_new = HasNoRegion source_old source_new maker_old maker_new
+HasFaulted told (Load seed) source_old source_new maker_old maker_new = HasNoLoadPool told seed source_old source_new maker_old maker_new
 HasFaulted told _ source_old source_new maker_old maker_new = ⊥
-
--- nothing was read
-abbrev pub Unread : SourceTold → SourceTold → Type 0
-Unread source_old source_new = source_new ≡ source_old
 
 -- The words ask for what is not built yet, and nothing was read; or they ask for a run, and the bytes read are JSON of a
 -- form that is not accepted so far, or an input that asks for what is not built yet.
@@ -155,6 +187,7 @@ AsksForMore Run source_old source_new = HasRead run_format not_built source_old 
 AsksForMore RunOnDemand source_old source_new = HasRead run_format not_built source_old source_new
 AsksForMore Shared source_old source_new = HasRead shared_format not_built source_old source_new
 AsksForMore Later source_old source_new = Unread source_old source_new
+AsksForMore (Load seed) source_old source_new = ⊥
 AsksForMore Unknown source_old source_new = ⊥
 
 -- Why there is no output, by the failure. What has to hold of a failed making is for whoever names this to say.
@@ -164,7 +197,7 @@ Fails faulted task failure.BadInput source_old source_new = HasReadInvalid task 
 Fails faulted task (failure.BadConfig line) source_old source_new = (error : BadConfig) × HasBadConfig task error source_old source_new × (string_bytes line ≡ config_line error)
 Fails faulted task failure.PageFault source_old source_new = faulted
 Fails faulted task failure.ReadFault source_old source_new = (reads_input task ≡ true) × Rose source_old.faults source_new.faults
-Fails faulted task failure.NoMemory source_old source_new = reads_input task ≡ true
+Fails faulted task failure.NoMemory source_old source_new = runs task ≡ true
 Fails faulted task failure.TooLong source_old source_new = (reads_input task ≡ true) × ReadTooMuch source_old source_new
 Fails faulted task failure.NotBuilt source_old source_new = AsksForMore task source_old source_new
 
@@ -195,6 +228,10 @@ pub record WroteLess {P : Type 0} (told : P → Told) (task : Task) (source_old 
 -- a fault of the source, of the sink or of a making, or want of memory, stands in the way
 abbrev pub IsHindrance : Status → Type 0
 IsHindrance status = (status ≡ ReadFault) ⊎ (status ≡ WriteFault) ⊎ (status ≡ PageFault) ⊎ (status ≡ NoMemory)
+
+-- What a load ends with: success, unless a write or a making fails, or memory runs out.
+abbrev pub IsLoadStatus : Status → Type 0
+IsLoadStatus status = (status ≡ Success) ⊎ (status ≡ WriteFault) ⊎ (status ≡ PageFault) ⊎ (status ≡ NoMemory)
 
 -- the status of an input whose settings are so, where nothing stands in the way
 abbrev pub status_of_limits : Option BadConfig → Status

@@ -1,11 +1,11 @@
 -- What the program is asked for by its words.
-use Rattle.std.specs.Prelude.{ℕ, ◌+◌, ◌-◌, ◌*◌, ◌^◌, List, [], ◌∷◌, length, codes, ◌&&◌, ◌||◌, nat_lt, if◌then◌else◌, Bool, String, string_bytes}
+use Rattle.std.specs.Prelude.{ℕ, ◌+◌, ◌-◌, ◌*◌, ◌^◌, List, [], ◌∷◌, length, codes, ◌&&◌, nat_lt, if◌then◌else◌, Bool, Option, Some, None, String, string_bytes}
 use Rattle.std.specs.declared.alloc.Global.{Global}
 use Rattle.std.specs.Char.{is_ascii_digit}
 use Rattle.std.specs.List.{list_all}
 use Rattle.std.specs.Str.{bytes_eq}
 use Rattle.pool_cli.specs.declared.words.Task.{Task}
-use Rattle.pool_cli.specs.declared.words.Task.TheVariants.{Run, RunOnDemand, Shared, Later, Unknown}
+use Rattle.pool_cli.specs.declared.words.Task.TheVariants.{Run, RunOnDemand, Shared, Load, Later, Unknown}
 
 -- the number that decimal digits write after those of n
 abbrev pub number_after : ℕ → List ℕ → ℕ
@@ -24,14 +24,23 @@ one_word word =
     else if bytes_eq word (codes "threads") then Later
     else Unknown
 
--- What two words ask for: `run on-demand`, or `load` with a number, which isn't built; any others are unknown.
+-- The number that a text of digits alone writes.
+abbrev pub number_in : List ℕ → Option ℕ
+number_in text = if is_number text then Some (number_after 0 text) else None
+
+-- a load of this seed, where there is one
+abbrev pub load_of : Option ℕ → Task
+load_of (Some seed) = Load seed
+load_of None = Unknown
+
+-- What two words ask for: `run on-demand`, or `load` with a number; any others are unknown.
 abbrev pub two_words : List ℕ → List ℕ → Task
 two_words first second =
     if bytes_eq first (codes "run") && bytes_eq second (codes "on-demand") then RunOnDemand
-    else if bytes_eq first (codes "load") && is_number second then Later
+    else if bytes_eq first (codes "load") then load_of (number_in second)
     else Unknown
 
--- `run`, `run on-demand` and `shared` are built; `threads` and `load` with a number are not yet; there is nothing else
+-- `run`, `run on-demand`, `shared` and `load` with a number are built; `threads` is not yet; there is nothing else
 abbrev pub task_of : List (String Global) → Task
 task_of [] = Unknown
 task_of (word ∷ []) = one_word (string_bytes word)

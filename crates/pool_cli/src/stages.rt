@@ -3,7 +3,7 @@ ghost use Rattle.pool_types.specs.declared.bad_config.BadConfig.{BadConfig};
 ghost use Rattle.pool_run.specs.Built.{is_built};
 ghost use Rattle.pool_cli.specs.Lines.{config_line};
 ghost use Rattle.pool_forms.specs.Reading.{reading_of_fit, shared_reading_of_fit};
-ghost use Rattle.pool_cli.specs.Stages.{ReadsBytes, ReadsInput, Prepares, WritesText, Refuses, IsRunFailure, input_failure};
+ghost use Rattle.pool_cli.specs.Stages.{ReadsBytes, ReadsInput, Prepares, PreparesLoad, WritesText, Refuses, IsRunFailure, input_failure};
 ghost use Rattle.pool_cli.specs.Statuses.{run_format, shared_format};
 ghost use Rattle.pool_cli.specs.Words.{task_of};
 ghost use Rattle.pool_cli.specs.declared.words.Task.TheVariants.{Run, RunOnDemand, Shared};
@@ -12,9 +12,10 @@ use crate::failure::{Failure, config_line};
 use crate::status::Status;
 use crate::words::{Task, task_of};
 use pool_forms::{
-    InputFault, ReadFault, Sink, Source, output_text, read_all, read_input, read_shared,
+    InputFault, ReadFault, Sink, Source, load_text, output_text, read_all, read_input, read_shared,
     replies_text, shared_text, write_all,
 };
+use pool_load::load_input;
 use pool_pages::PageMaker;
 use pool_run::{Input, RunFault, run_schedule};
 use pool_run_on_demand::run_on_demand;
@@ -148,6 +149,23 @@ fn shared<S: Source, M: PageMaker>(
     }
 }
 
+/// Makes the load of this seed, runs it, and makes the output's text. Reads nothing.
+fn load<M: PageMaker>(alloc: Global, seed: u64, pages: &mut M) -> Result<String, Failure>
+    ensures { PreparesLoad M.Region.told seed (M.told pages.old) (M.told pages.new) result }
+{
+    let Ok(input) = load_input(alloc, seed) else {
+        return Err(Failure::NoMemory);
+    };
+    let output = match run_schedule(alloc, &input, pages) {
+        Ok(output) => output,
+        Err(fault) => return Err(run_failure(alloc, fault)),
+    };
+    match load_text(alloc, seed, &output) {
+        Ok(text) => Ok(text),
+        Err(_) => Err(Failure::NoMemory),
+    }
+}
+
 /// All that comes before the first write.
 pub fn prepare<S: Source, M: PageMaker>(
     alloc: Global,
@@ -161,6 +179,7 @@ pub fn prepare<S: Source, M: PageMaker>(
         Task::Run => run(alloc, source, pages),
         Task::RunOnDemand => on_demand(alloc, source, pages),
         Task::Shared => shared(alloc, source, pages),
+        Task::Load(seed) => load(alloc, seed, pages),
         Task::Later => Err(Failure::NotBuilt),
         Task::Unknown => Err(Failure::BadUsage),
     }

@@ -47,6 +47,18 @@ const GREATEST_LOAD: &str = "load 0018446744073709551615";
 
 const TOO_GREAT_LOAD: &str = "load 18446744073709551616";
 
+const GREATEST_LOAD_OUTPUT: &str = "\
+load 18446744073709551615: parties=8 commands=2000 granted=400 done=400 grown=400 bytes=400 returned=400 refused=0 trapped=0
+metrics core=0 component=0 memories=0 tables=0 stacks=0 heaps=0 warm_memories=65 memory_resident=0 warm_tables=48 table_resident=0 warm_stacks=0 stack_resident=none
+pages expose=415 hide=265 map_image=81 remap_zeros=0 erase=0 recolour=0 decommit=768
+";
+
+const LOAD_OUTPUT: &str = "\
+load 7: parties=8 commands=2000 granted=400 done=400 grown=400 bytes=400 returned=400 refused=0 trapped=0
+metrics core=0 component=0 memories=0 tables=0 stacks=0 heaps=0 warm_memories=54 memory_resident=0 warm_tables=48 table_resident=0 warm_stacks=0 stack_resident=none
+pages expose=410 hide=276 map_image=70 remap_zeros=0 erase=0 recolour=0 decommit=768
+";
+
 const CUT_OFF: &str = r#"{"parties":["#;
 
 const NO_HOME: &str = r#"{"parties":[{"home":65536}]}"#;
@@ -96,15 +108,19 @@ const GUARD: &str = r#"{"config":{"memory_protection_keys":"auto"},
 const GUARD_LINE: &str =
     "error BadConfig: pooling allocator requires memory_guard_size == gc_heap_guard_size\n";
 
-// Each status but those of success, of want of memory and of too long an input.
+// Each status but those of want of memory and of too long an input, and loads, which read nothing and print the same each time.
 #[test]
 fn statuses(rt: HostRuntime) -> Result<(), Fail> {
     let page = PageSize::new(4096)?;
     for (words, input, read, write, status, written) in [
         ("", "", 1, 0, Status::BadUsage, USAGE),
         (TOO_GREAT_LOAD, "", 1, 0, Status::BadUsage, USAGE),
-        (GREATEST_LOAD, "", 1, 0, Status::NotBuilt, NOT_BUILT),
+        (GREATEST_LOAD, "", 1, 0, Status::Ok, GREATEST_LOAD_OUTPUT),
+        ("load 007", "", 1, 0, Status::Ok, LOAD_OUTPUT),
+        ("load 7", "", 1, 0, Status::Ok, LOAD_OUTPUT),
+        ("load 7", "", 1, 2, Status::WriteFault, "load 7: pa"),
         ("threads", "", 1, 0, Status::NotBuilt, NOT_BUILT),
+        ("load", "", 1, 0, Status::BadUsage, USAGE),
         ("run", "", 1, 0, Status::ReadFault, ""),
         ("run on-demand", FIRST, 9, 0, Status::ReadFault, ""),
         ("run", FIRST, 0, 2, Status::WriteFault, "0.0: grant"),

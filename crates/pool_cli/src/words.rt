@@ -1,7 +1,7 @@
 ghost use Rattle.std.specs.Prelude.{◌≡◌, string_bytes};
 ghost use Rattle.std.specs.Char.{is_ascii_digit};
 ghost use Rattle.std.specs.List.{list_all};
-ghost use Rattle.pool_cli.specs.Words.{is_number, one_word, two_words, task_of};
+ghost use Rattle.pool_cli.specs.Words.{number_in, load_of, one_word, two_words, task_of};
 
 /// What the program is asked for.
 #[derive(Clone, Copy, Debug, PartialEq, Eq)]
@@ -12,6 +12,8 @@ pub enum Task {
     RunOnDemand,
     /// A run of events on a shared memory.
     Shared,
+    /// A run of the load of this seed.
+    Load(u64),
     /// What is not built yet.
     Later,
     /// Nothing that the program has.
@@ -24,13 +26,23 @@ fn all_digits(text: &str) -> bool
     text.bytes().all(|b| b.is_ascii_digit())
 }
 
-fn is_number(text: &str) -> bool
-    ensures { result ≡ is_number text.now }
+// The number that a text of digits alone writes.
+fn number_in(text: &str) -> Option<u64>
+    ensures { result ≡ number_in text.now }
 {
     if text.is_empty() || !all_digits(text) {
-        return false;
+        return None;
     }
-    text.parse::<u64>().is_ok()
+    text.parse::<u64>().ok()
+}
+
+fn load_of(seed: Option<u64>) -> Task
+    ensures { result ≡ load_of seed }
+{
+    match seed {
+        Some(seed) => Task::Load(seed),
+        None => Task::Unknown,
+    }
 }
 
 fn one_word(word: &str) -> Task
@@ -52,8 +64,8 @@ fn two_words(first: &str, second: &str) -> Task
 {
     if first == "run" && second == "on-demand" {
         Task::RunOnDemand
-    } else if first == "load" && is_number(second) {
-        Task::Later
+    } else if first == "load" {
+        load_of(number_in(second))
     } else {
         Task::Unknown
     }
