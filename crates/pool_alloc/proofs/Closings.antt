@@ -11,7 +11,7 @@ use Rattle.pool_alloc.specs.StepTable.{FlushStep, run, zero as zeroes, put, free
 use Rattle.pool_alloc.specs.BetweenSteps.{IsCore, IsFrame, IsShared, IsQueuedOf, IsPartFor}
 use Rattle.pool_alloc.specs.StepBounds.{steps_left}
 use Rattle.pool_alloc.specs.Stepping.{CanStep, CanCount, StepsTo, count_granted, is_idle, grant_weight}
-use Rattle.pool_alloc.specs.StepReads.{StepGiven, first_shard, queue_at, with_queue, stacks_wanted, heaps_wanted, IsQueuePart, queue_in, shard_in, shard_at, queues_searched}
+use Rattle.pool_alloc.specs.StepReads.{StepGiven, first_shard, queue_at, with_queue, stacks_wanted, heaps_wanted, IsQueuePart, queue_in, shard_in, shard_at, queues_searched, singles_wanted}
 use Rattle.pool_alloc.specs.TableLeases.{LeasedTable}
 use Rattle.pool_alloc.specs.Turns.{Left, Row, After, flush, all_returned, returned_next, next_by, is_flushed, after, stepped, gone_to, is_granting}
 use Rattle.pool_alloc.specs.PoolAndHolders.{Holding, HasSlots, held_by, IsUntouched}
@@ -233,7 +233,7 @@ module _ {P H : Type 0} (maker : MakerTold) where
   -- A queue is taken to be flushed.
   closing_frame : (c : PoolCore P H) (f : Frame P H) (b : Bool) → is_flushed f ≡ b → Held maker c.settings c.plan f → Bare f → IsFrame maker c.settings c.plan (gone_to (closing_phase b) f)
   closing_frame c f true is held bare =
-      frame_of maker c.settings c.plan (gone_to UncountInstance f) held (record { settled = flushed maker c.settings c.plan f held is; no_memories = bare.no_memories; no_tables = bare.no_tables }, ap is_granting bare.ending, record { no_stack = ap stacks_wanted bare.asked; no_heap = ap heaps_wanted bare.asked })
+      frame_of maker c.settings c.plan (gone_to UncountInstance f) held (record { settled = flushed maker c.settings c.plan f held is; no_memories = bare.no_memories; no_tables = bare.no_tables }, ap is_granting bare.ending, record { no_stack = ap stacks_wanted bare.asked; no_heap = ap heaps_wanted bare.asked; no_single = ap singles_wanted bare.asked })
   closing_frame c f false is held bare =
       frame_of maker c.settings c.plan (gone_to Flush f) held (aims_back c.settings c.plan f.ending f.asked f.queues f.objects (ap is_granting bare.ending), is)
 
