@@ -1,5 +1,5 @@
 -- What a call's end says of what it was for: a grant, a refusal, or a give-back.
-use Rattle.std.proofs.Common.{◌≡◌, ⊎_elim, ℕ, List, [], ◌∷◌, refl, sym, subst, ◌∙◌, Some}
+use Rattle.std.proofs.Common.{◌≡◌, ⊎_elim, inr, ℕ, List, [], ◌∷◌, refl, sym, subst, ◌∙◌, Some}
 use Rattle.pool_limits.specs.Exchanges.{Exchange}
 use Rattle.pool_limits.specs.LimiterTold.{LimiterTold}
 use Rattle.pool_slots.specs.HeapsTold.{HeapsTold}
@@ -7,6 +7,8 @@ use Rattle.pool_alloc.specs.PartyTold.{PartyTold}
 use Rattle.pool_driver.specs.Asking.{CallAsks, HasAsked}
 use Rattle.pool_hall.specs.declared.view.View.{View}
 use Rattle.pool_slots.specs.declared.errors.AllocError.{AllocError}
+use Rattle.pool_slots.specs.declared.errors.AllocError.TheVariants as refusal
+use Rattle.pool_slots.specs.declared.plan.Plan.{Plan}
 use Rattle.pool_alloc.specs.Calls.{IsGrantOf, IfGranted}
 use Rattle.pool_alloc.specs.Stepping.{count_granted}
 use Rattle.pool_alloc.specs.declared.frame.Asked.{Asked}
@@ -32,6 +34,7 @@ use Rattle.pool_driver.specs.Limits.{IfRefused, KeepsStripe, Names}
 use Rattle.pool_driver.specs.PageFaults.{CellFaulted, IfFaulted}
 use Rattle.pool_driver.specs.Spending.{RefusalFewer}
 use Rattle.pool_driver.specs.Telling.{AnswerTold, RefusalTold, WasOver, component_counter, instance_counter}
+use Rattle.pool_driver.specs.UnknownPuts.{AnswerCaused, UnknownCaused, UnlessUnmade}
 use Rattle.pool_driver.proofs.Calling.{grant_of, none_returned}
 use Rattle.pool_callers.specs.Callers.{Gives, Goes, IsBounded, IsGivenBack, IsGranted, IsKept, IsRefused, begun_from, given_for, given_in}
 use Rattle.pool_callers.specs.NoHeapsTold.{nobody_told}
@@ -46,6 +49,19 @@ returned x may = absurd may
 pub none_drawn : {P H : Type 0} (of : Grant P H → ℕ) (o : Outcome P H) → MayAnswer draws_key o → count_granted of (Some o) ≡ 0
 none_drawn of Key may = refl
 none_drawn of o may = absurd may
+
+-- What is known of it where a key was drawn,
+pub drawn_caused : {P H : Type 0} (known : Type 0) (o : Outcome P H) → MayAnswer draws_key o → AnswerCaused known o → known
+drawn_caused known Key may k = k
+drawn_caused known o may k = absurd may
+
+-- where a seat's view stays,
+pub stays_caused : {T : Type 0} (v : View T) (plan : Plan) → UnknownCaused v v plan
+stays_caused v plan = inr (λ place slot role. refl)
+
+-- and where a release is refused for want of memory.
+pub wants_caused : (known : Type 0) (e : AllocError) → e ≡ refusal.Memory → UnlessUnmade known e → known
+wants_caused known e is k = subst (UnlessUnmade known) is k
 
 module _ {T P H : Type 0} (places : ℕ) (a : About) (v w : View T) (first f : Frame P H) (o : Outcome P H) (ended : HasEnded a v w first f o) where
   goes_here : Goes v w
@@ -79,6 +95,7 @@ module _ {T P H : Type 0} (places : ℕ) (a : About) (v w : View T) (first f : F
         is = of;
         gains = gains places a v w f ended.idle grant has;
         gives = may_give places a v w f ended.idle grant (grant_of a.maker a.settings a.plan asked grant of) has;
+        unknown = subst (λ (x : Outcome P H). AnswerCaused (UnknownCaused v w a.plan) x) is ended.parts.unknown;
         bounds = asking asked asks kind;
         goes = goes_here;
       }
@@ -90,7 +107,8 @@ module _ {T P H : Type 0} (places : ℕ) (a : About) (v w : View T) (first f : F
         names = subst (λ (n : ℕ). Names a.settings a.plan n e) (same ∙ of) (subst (λ (x : Outcome P H). IfRefused (Names a.settings a.plan f.stripe) x) is ended.names);
         told = subst (λ (n : ℕ). RefusalTold v w (WasOver v w instance_counter) (WasOver v w component_counter) a.plan n e) at' (subst (λ (x : Outcome P H). AnswerTold v w a.plan first.home (Some x)) is ended.told);
         fewer = subst (λ (x : Asked). RefusalFewer v w a.plan x e) asks (subst (λ (x : Outcome P H). IfRefused (RefusalFewer v w a.plan first.asked) x) is ended.fewer);
-        fault = subst (λ (x : Outcome P H). IfRefused (IfFaulted (CellFaulted v w a.plan)) x) is ended.fault;
+        fault = subst (λ (x : Outcome P H). IfRefused (IfFaulted (CellFaulted v w a.plan)) x) is ended.parts.fault;
+        unknown = subst (λ (x : Outcome P H). AnswerCaused (UnknownCaused v w a.plan) x) is ended.parts.unknown;
         keeps = keeps places a v w f ended.idle (Some o) (λ of. subst (λ (x : Outcome P H). count_granted of (Some x) ≡ 0) (sym is) refl) driven;
         bounds = asking asked asks kind;
         goes = goes_here;
@@ -103,6 +121,7 @@ module _ {T P H : Type 0} (places : ℕ) (a : About) (v w : View T) (first f : F
   is_given_back grant kind may gives driven = record {
     loses = loses places a v w f ended.idle grant (Some o) (λ of. none_returned of o may) gives driven;
     none = subst (λ (x : Outcome P H). AnswerTold v w a.plan first.home (Some x)) (returned o may) ended.told;
+    unknown = subst (λ (x : Outcome P H). AnswerCaused (UnknownCaused v w a.plan) x) (returned o may) ended.parts.unknown;
     bounds = returning kind;
     goes = goes_here;
   }

@@ -14,7 +14,7 @@ use Rattle.pool_alloc.specs.Places.{Thing, both_count, leased_count, tables_coun
 use Rattle.pool_alloc.specs.Stepping.{grant_count}
 use Rattle.pool_alloc.specs.TableLeases.{LeasedTable, table_slot}
 use Rattle.pool_alloc.specs.declared.frame.Grant.{Grant}
-use Rattle.pool_alloc.specs.declared.frame.Grant.TheVariants.{Instance, Component, Stack, Heap}
+use Rattle.pool_alloc.specs.declared.frame.Grant.TheVariants.{Instance, Component, Memory, Table, Stack, Heap}
 use Rattle.pool_driver.proofs.Multisets.{same_totals}
 use Rattle.pool_callers.specs.GrantUnits.{both_units, taken_units, memory_units, table_units, grant_units}
 
@@ -44,6 +44,8 @@ tables_weigh t (lease ∷ leases) = omega (
 pub units_weigh : {P H : Type 0} (t : Thing) (grant : Grant P H) → total t (grant_units grant) ≡ grant_count t grant
 units_weigh t (Instance lease) = omega (arith, total_append t (memory_units lease.memories.items) (table_units lease.tables.items), memories_weigh t lease.memories.items, tables_weigh t lease.tables.items)
 units_weigh t Component = refl
+units_weigh t (Memory lease) = omega arith
+units_weigh t (Table lease) = omega arith
 units_weigh t (Stack lease) = omega arith
 units_weigh t (Heap lease memory) = omega (arith, total_append t (taken_units (heap_slot_taken lease)) (taken_units (slot_taken memory)))
 

@@ -1,6 +1,7 @@
 pub mod Answers
 pub mod Giving
 pub mod GrantUnits
+pub mod Granted
 pub mod Images
 pub mod Seats
 pub mod Sent

@@ -194,6 +194,8 @@ module _ {T P H : Type 0} (places : ℕ) (a : About) (v : View T) (f : Frame P H
   bringing call.Key brings = driven
   bringing (call.Module m) brings = driven
   bringing (call.Component info) brings = driven
+  bringing (call.Memory m) brings = driven
+  bringing (call.Table ty) brings = driven
   bringing call.Stack brings = driven
   bringing (call.Heap ty) brings = driven
   bringing (call.GiveBack grant) brings = returning grant brings

@@ -33,6 +33,7 @@ use Rattle.pool_driver.specs.Pools.{IsSharedOf}
 use Rattle.pool_driver.specs.Limits.{Names}
 use Rattle.pool_driver.specs.Spending.{ColdOf, RefusalFewer}
 use Rattle.pool_driver.specs.Telling.{AddsAtMost, CountsSince, HoldsMore, RefusalTold, NoneTaken, WasOver, instance_counter, component_counter}
+use Rattle.pool_driver.specs.UnknownPuts.{UnknownCaused, UnlessUnmade}
 use Rattle.pool_driver.specs.declared.open_pool.OpenPool.{OpenPool}
 use Rattle.pool_driver.specs.declared.part.HallPart.{HallPart}
 use Rattle.pool_driver.specs.declared.shared_pool.SharedPool.{SharedPool}
@@ -130,18 +131,22 @@ module _ {T : Type 0} where
     abbrev pub given_for : About → Call P H → View T → Given
     given_for a c v = record { about = a; rest = rest_for c v; counted = counted_for c v }
 
-    -- This was granted to who asked for that: it is as asked for, its units have come, and it may be given back.
+    -- This was granted to who asked for that: it is as asked for, its units have come, and it may be given back. A region of which nothing is
+    -- known was put into its cell only where a cell has faulted.
     pub record IsGranted (a : About) (asked : Asked) (grant : Grant P H) (v w : View T) : Type 0 where
       pub is : IsGrantOf a.maker a.settings a.plan asked grant
       pub gains : Gains grant v w
       pub gives : Gives a grant w
+      pub unknown : UnknownCaused v w a.plan
       pub bounds : IsBounded a.plan asks_for asked v w
       pub goes : Goes v w
 
-    -- This was given back, and no queue was taken for it.
+    -- This was given back, and no queue was taken for it. A region of which nothing is known was put into its cell only where a cell has
+    -- faulted.
     pub record IsGivenBack (a : About) (grant : Grant P H) (v w : View T) : Type 0 where
       pub loses : Loses grant v w
       pub none : NoneTaken v w a.plan
+      pub unknown : UnknownCaused v w a.plan
       pub bounds : IsBounded a.plan gives_back Nothing v w
       pub goes : Goes v w
 
@@ -154,12 +159,14 @@ module _ {T : Type 0} where
   -- the caller's stripe. Where it was refused for room, in this call each shard where it searched answered that it is full and each queue
   -- that it searches was taken, and fewer cold slots were picked than asked for; where by a counter, that was added on once, not low, and
   -- subtracted from once; where for a failed page call, a memory's region came back to its cell with more faults, or with as many
-  -- as can be counted.
+  -- as can be counted. A region of which nothing is known was put into its cell only where a cell has faulted, unless the refusal is by the
+  -- limiter, or because addresses can't hold a memory's least size.
   pub record IsRefused (a : About) (home stripe : ℕ) (asked : Asked) (e : AllocError) (v w : View T) : Type 0 where
     pub names : Names a.settings a.plan stripe e
     pub told : RefusalTold v w (WasOver v w instance_counter) (WasOver v w component_counter) a.plan home e
     pub fewer : RefusalFewer v w a.plan asked e
     pub fault : IfFaulted (CellFaulted v w a.plan) e
+    pub unknown : UnlessUnmade (UnknownCaused v w a.plan) e
     pub keeps : Keeps v w
     pub bounds : IsBounded a.plan asks_for asked v w
     pub goes : Goes v w

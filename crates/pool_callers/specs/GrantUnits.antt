@@ -7,9 +7,9 @@ use Rattle.pool_slots.specs.declared.slot_name.SlotName.{SlotName}
 use Rattle.pool_alloc.specs.HeapLeases.{heap_slot_taken}
 use Rattle.pool_alloc.specs.Leases.{Lease, memory_slot, slot_taken}
 use Rattle.pool_alloc.specs.StackLeases.{stack_taken}
-use Rattle.pool_alloc.specs.TableLeases.{LeasedTable, table_slot}
+use Rattle.pool_alloc.specs.TableLeases.{LeasedTable, table_slot, table_taken}
 use Rattle.pool_alloc.specs.declared.frame.Grant.{Grant}
-use Rattle.pool_alloc.specs.declared.frame.Grant.TheVariants.{Instance, Component, Stack, Heap}
+use Rattle.pool_alloc.specs.declared.frame.Grant.TheVariants.{Instance, Component, Memory, Table, Stack, Heap}
 use Rattle.pool_alloc.specs.declared.frame.TakenSlot.{TakenSlot}
 
 -- The units of a slot that is out.
@@ -33,5 +33,7 @@ table_units (lease ∷ leases) = both_units (table_slot lease.index) lease.numbe
 abbrev pub grant_units : {P H : Type 0} → Grant P H → List UnitName
 grant_units (Instance lease) = memory_units lease.memories.items ++ table_units lease.tables.items
 grant_units Component = []
+grant_units (Memory lease) = taken_units (slot_taken lease)
+grant_units (Table lease) = taken_units (table_taken lease)
 grant_units (Stack lease) = taken_units (stack_taken lease)
 grant_units (Heap lease memory) = taken_units (heap_slot_taken lease) ++ taken_units (slot_taken memory)

@@ -10,6 +10,7 @@ ghost use Rattle.pool_driver.specs.Calling.{draws_key, purges, releases};
 ghost use Rattle.pool_driver.specs.Purging.{HasMissed};
 ghost use Rattle.pool_driver.specs.Refusing.{HeapPasses, HeapRefused};
 ghost use Rattle.pool_driver.specs.Releasing.{HasTakenWarm};
+ghost use Rattle.pool_driver.specs.UnknownPuts.{UnknownCaused};
 ghost use Rattle.pool_callers.specs.Callers.{Gives, IsAllocator, IsBounded, IsCaller, IsGivenBack, IsGranted, IsKept, IsRefused, about_pool, outcome_of};
 
 use crate::allocator::PoolingInstanceAllocator;
@@ -102,6 +103,7 @@ impl<P: Pages, H: GcHeap, M: PageMaker> PoolingInstanceAllocator<PoolHall<P, H, 
         ensures stripe { seat.new.frame.stripe ≡ seat.old.frame.stripe }
         ensures bounds { IsBounded self.now.pool.plan purges asked.Nothing (view seat.old.seat) (view seat.new.seat) }
         ensures missed { HasMissed (view seat.old.seat) (view seat.new.seat) self.now.pool.plan self.now.pool.settings.max_memories_per_module result }
+        ensures unknown { UnknownCaused (view seat.old.seat) (view seat.new.seat) self.now.pool.plan }
     {
         match self.call(
             rt,
@@ -134,6 +136,7 @@ impl<P: Pages, H: GcHeap, M: PageMaker> PoolingInstanceAllocator<PoolHall<P, H, 
         ensures reason { IfErr result (λ e. e ≡ refusal.Memory) }
         ensures bounds { IsBounded self.now.pool.plan releases asked.Nothing (view seat.old.seat) (view seat.new.seat) }
         ensures taken { IfOk result (λ bytes. HasTakenWarm (view seat.old.seat) (view seat.new.seat) self.now.pool.plan) }
+        ensures unknown { IfErr result (λ e. UnknownCaused (view seat.old.seat) (view seat.new.seat) self.now.pool.plan) }
     {
         match self.call(
             rt,
@@ -166,6 +169,7 @@ impl<P: Pages, H: GcHeap, M: PageMaker> PoolingInstanceAllocator<PoolHall<P, H, 
         ensures stripe { IfSome result (λ stripe. (stripe < self.now.pool.settings.num_stripes) × (stripe ≡ seat.new.frame.stripe)) }
         ensures bounds { IsBounded self.now.pool.plan draws_key asked.Nothing (view seat.old.seat) (view seat.new.seat) }
         ensures some { is_some result ≡ self.now.has_keys }
+        ensures unknown { UnknownCaused (view seat.old.seat) (view seat.new.seat) self.now.pool.plan }
     {
         if !self.has_keys {
             return None;

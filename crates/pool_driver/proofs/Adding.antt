@@ -124,6 +124,8 @@ from_component k = ⊎_elim (λ (same : asks_component ≡ k). sym same) (λ (ot
 one_module : (what : Asked) → IsModule what → modules_asked what ≡ 1
 one_module (asked.Module m) is = refl
 one_module asked.Nothing is = absurd is
+one_module (asked.Memory m) is = absurd is
+one_module (asked.Table ty) is = absurd is
 one_module asked.Stack is = absurd is
 one_module (asked.Heap ty) is = absurd is
 

@@ -21,7 +21,7 @@ use Rattle.pool_index.specs.Shard.{pick_answer}
 use Rattle.pool_slots.specs.HeapLists.{heap_in}
 use Rattle.pool_alloc.specs.BetweenSteps.{IsShapedAt}
 use Rattle.pool_alloc.specs.Calls.{IfGranted, IsGrantOf, begun_call}
-use Rattle.pool_alloc.specs.CallStages.{Follows, Goes, IsBroken, Makes, MakesTable, Progress, Raises, Stage, untested, uncounted, admitted, seeks_stack, tests_heap, seeks_heap, counts_heap, no_call, keys, asks, tests_component, counts_component, returning, refusing, purging, reserving, releasing, progress_by, stage_at, stage_by, stage_of}
+use Rattle.pool_alloc.specs.CallStages.{Follows, Goes, IsBroken, Makes, MakesTable, Progress, Raises, Stage, untested, uncounted, admitted, seeks_single, seeks_stack, tests_heap, seeks_heap, counts_heap, no_call, keys, asks, tests_component, counts_component, returning, refusing, purging, reserving, releasing, progress_by, stage_at, stage_by, stage_of}
 use Rattle.pool_alloc.specs.MemorySteps.{made_for}
 use Rattle.pool_alloc.specs.PageCallAnswers.{AsksForMemory, AsksOf, LimiterHears, MakesOf}
 use Rattle.pool_alloc.specs.PartyTold.{PartyTold, MakesHeap}
@@ -40,7 +40,7 @@ use Rattle.pool_alloc.specs.declared.frame.Call.TheVariants as call
 use Rattle.pool_alloc.specs.declared.frame.Ending.{Ending}
 use Rattle.pool_alloc.specs.declared.frame.Ending.TheVariants.{Granted as granted}
 use Rattle.pool_alloc.specs.declared.frame.Frame.{Frame}
-use Rattle.pool_alloc.specs.declared.frame.Grant.TheVariants.{Instance, Component, Stack, Heap}
+use Rattle.pool_alloc.specs.declared.frame.Grant.TheVariants.{Instance, Component, Memory as memory_granted, Table as table_granted, Stack, Heap}
 use Rattle.pool_alloc.specs.declared.frame.Outcome.{Outcome}
 use Rattle.pool_alloc.specs.declared.frame.Outcome.TheVariants.{Key, Granted, Returned, Purged, Released, Refused}
 use Rattle.pool_alloc.specs.declared.frame.Phase.{Phase}
@@ -48,32 +48,39 @@ use Rattle.pool_alloc.specs.declared.frame.Phase.TheVariants.{Idle, Key as key_p
 use Rattle.pool_alloc.specs.declared.frame.TakenSlot.{TakenSlot}
 use Rattle.pool_alloc.specs.declared.leases.instance.InstanceLease.{InstanceLease}
 use Rattle.pool_alloc.specs.declared.pool_core.PoolCore.{PoolCore}
+use Rattle.pool_alloc.proofs.BeforeTheTurn.{kept_of}
 use Rattle.pool_alloc.proofs.SoundSteps.{sound_step}
 use Rattle.pool_driver.specs.Asking.{AnsweredAfter, AnswersMade, AskedSince, AskedSoFar, AsksNobody, CallAsks, HasAsked, HasCause, HasMade, IfRefused, IfRefusing, IsForHeap, IsQuiet, MayHaveMade, NamesObject, RefusedAfter, RequestAsked, YesTo, all_yes, questions}
 use Rattle.pool_driver.specs.Calling.{gives_back, kind_at}
 use Rattle.pool_driver.specs.Driving.{SeesStep}
 use Rattle.pool_driver.specs.Placed.{About}
 use Rattle.pool_driver.proofs.Calling.{begun_kind}
-use Rattle.pool_driver.proofs.MadeObjects.{HasNumber, IfInstance, KeepsMade, flush_row_keeps, heap_keeps, heap_made_keeps, made_until, no_stack_next, none_back, none_counted_back, none_released, not_stack, number_is, paged_keeps, picked_keeps, queue_keeps, region_keeps, at_most}
+use Rattle.pool_driver.proofs.MadeObjects.{HasAtMost, HasNumber, KeepsMade, flush_row_keeps, heap_keeps, heap_made_keeps, made_until, no_stack_next, none_back, none_counted_back, none_released, not_stack, number_is, paged_keeps, picked_keeps, queue_keeps, region_keeps, at_most}
 use Rattle.pool_driver.proofs.Causes.{broken_cause, cause_on, cause_since, exchanged_on, raise_cause, table_below, told_on}
 use Rattle.pool_driver.proofs.Questions.{AnswersSo, EndsSo, IsNoLimiter, all_asked, asked_after, first_at, later_at, mapped_at, memory_ends, no_tables, other_after, some_yes, table_ends, there_is, yes_here, yes_more, yes_there}
 
--- a call for an instance or a heap asks
+-- a call for a memory, or for objects of which one is a memory, asks
 with_memory : (a : Asked) (k : ℕ) → k < length (memories_wanted a) → stacks_wanted a ≡ 0
 with_memory asked_for.Nothing k below = refl
 with_memory (asked_for.Module m) k below = refl
+with_memory (asked_for.Memory m) k below = refl
+with_memory (asked_for.Table ty) k below = refl
 with_memory asked_for.Stack k below = absurd (omega (arith, below))
 with_memory (asked_for.Heap ty) k below = refl
 
 with_heap : (a : Asked) → heaps_wanted a ≡ 1 → stacks_wanted a ≡ 0
 with_heap asked_for.Nothing one = refl
 with_heap (asked_for.Module m) one = refl
+with_heap (asked_for.Memory m) one = refl
+with_heap (asked_for.Table ty) one = refl
 with_heap asked_for.Stack one = absurd (omega (arith, one))
 with_heap (asked_for.Heap ty) one = refl
 
 asks_some : (a : Asked) (n : ℕ) → stacks_wanted a ≡ 0 → AsksNobody (asks (progress_by a n)) → ⊥
 asks_some asked_for.Nothing n none quiet = quiet
 asks_some (asked_for.Module m) n none quiet = quiet
+asks_some (asked_for.Memory m) n none quiet = quiet
+asks_some (asked_for.Table ty) n none quiet = quiet
 asks_some asked_for.Stack n none quiet = omega (arith, none)
 asks_some (asked_for.Heap ty) n none quiet = quiet
 
@@ -83,6 +90,8 @@ asks_then s a aim n is grants none quiet = asks_some a n none (subst AsksNobody 
 not_made : (a : Asked) (n : ℕ) → MayHaveMade (asks (progress_by a n)) → ⊥
 not_made asked_for.Nothing n made = made
 not_made (asked_for.Module m) n made = made
+not_made (asked_for.Memory m) n made = made
+not_made (asked_for.Table ty) n made = made
 not_made asked_for.Stack n made = made
 not_made (asked_for.Heap ty) n made = made
 
@@ -180,7 +189,7 @@ module _ {T P H : Type 0} (about : T → About) (inner : T → PoolPart P H) (Pa
       let j : ℕ = length f.objects.tables.items in
       let ty = there_is (tables_wanted f.asked) j (table_below a.maker old new c f s.can.core.settings can.1 can.3) in
       let asked : AsksForTable s.row.0.limiter old.limiter new.limiter ty.0 = subst (λ (x : Option TableType). IfSome x (AsksForTable s.row.0.limiter old.limiter new.limiter)) ty.1 asks_so in
-      let last : length (memories_wanted f.asked) + j ≡ objects_in f.objects = omega (arith, can.1.to_grant.few, can.3.0) in
+      let last : length (memories_wanted f.asked) + j ≡ objects_in f.objects = omega (arith, can.1.to_grant.few, (kept_of f.asked).memories, can.3.0) in
       record {
         passed = may_grow (making_question ty.0) s.row.0.limiter ∷ [];
         passes = subst (λ (x : Option TableType). IfSome x (λ t. Passes (may_grow (making_question t) s.row.0.limiter ∷ []))) ty.1 hears;
@@ -390,6 +399,10 @@ module _ {T P H : Type 0} (about : T → About) (inner : T → PoolPart P H) (Pa
         (λ (same : m ≡ n). subst (λ (k : ℕ). YesTo f.asked k xs) (sym same) had)
         (λ (more : (m ≡ n + 1) × (((memory : MemoryState) × Makes old new c f n (Ok memory)) ⊎ ((lease : LeasedTable) × MakesTable old new c f n (Ok lease)))). absurd (not_one_more silent n m (subst HasNumber (sym was) tt) (ap made_until was) (ap made_until now) more.0 (admitted_number n more.1)))
         follows
+    silent_request (seeks_single n) (seeks_single m) was now follows had = ⊎_elim
+        (λ (same : m ≡ n). subst (λ (k : ℕ). YesTo f.asked k xs) (sym same) had)
+        (λ (more : (m ≡ n + 1) × (((memory : MemoryState) × Makes old new c f n (Ok memory)) ⊎ ((lease : LeasedTable) × MakesTable old new c f n (Ok lease)))). absurd (not_one_more silent n m (subst HasNumber (sym was) tt) (ap made_until was) (ap made_until now) more.0 (admitted_number n more.1)))
+        follows
     silent_request seeks_stack seeks_stack was now follows had = had
     silent_request tests_heap (seeks_heap n) was now follows had = subst (λ (m : ℕ). YesTo f.asked m xs) (sym follows.0) had
     silent_request (seeks_heap n) (seeks_heap m) was now follows had = ⊎_elim
@@ -417,9 +430,12 @@ module _ {T P H : Type 0} (about : T → About) (inner : T → PoolPart P H) (Pa
     stack_last seeks_stack follows had = had
     stack_last p follows had = absurd follows
 
+    granted_here : (x : Outcome P H) → o ≡ Some x → IfGranted (IsGrantOf a.maker c.settings c.plan f.asked) (Some x)
+    granted_here x some = subst (λ (z : Option (Outcome P H)). IfGranted (IsGrantOf a.maker c.settings c.plan f.asked) z) some (sound_step a.maker old new c f (record { core = s.left; frame = next; outcome = o }) s.can (s.row.0, s.row.1.0)).granted
+
     whole_instance : (lease : InstanceLease P) → o ≡ Some (Granted (Instance lease)) → objects_in lease ≡ objects_wanted f.asked
     whole_instance lease some =
-        let of = subst (λ (z : Option (Outcome P H)). IfGranted (IsGrantOf a.maker c.settings c.plan f.asked) z) some (sound_step a.maker old new c f (record { core = s.left; frame = next; outcome = o }) s.can (s.row.0, s.row.1.0)).granted in
+        let of = granted_here (Granted (Instance lease)) some in
         omega (arith, of.1, of.3, of.4.no_stack, of.4.no_heap)
 
     instance_last : (p : Progress) (lease : InstanceLease P) → stage_of f ≡ asks p → o ≡ Some (Granted (Instance lease)) → Follows old new c f p (admitted (objects_wanted f.asked)) → RequestAsked f.asked p xs → xs ≡ all_yes (questions f.asked)
@@ -430,19 +446,38 @@ module _ {T P H : Type 0} (about : T → About) (inner : T → PoolPart P H) (Pa
         ⊎_elim
         (λ (one : made_until (stage_of f) ≡ objects_in f.objects + 1). let was_so : made_until (stage_of f) ≡ n = ap made_until was in absurd (omega (arith, one, was_so, admitted_number n more.1)))
         (λ (kept : KeepsMade (objects_in f.objects) (record { frame = next; outcome = o })).
-        let most : objects_in lease ≤ objects_in f.objects = subst (IfInstance (λ l. objects_in l ≤ objects_in f.objects)) some kept.whole in
+        let most : objects_in lease ≤ objects_in f.objects = subst (HasAtMost (objects_in f.objects)) some kept.whole in
         absurd (omega (arith, most, whole_instance lease some, more.0, admitted_number n more.1)))
         (keeps silent (subst HasNumber (sym was) tt)))
         follows
     instance_last p lease was some follows had = absurd follows
 
+    -- A memory or a table by itself was asked for before it is granted.
+    single_last : (p : Progress) → stage_of f ≡ asks p → length (memories_wanted f.asked) + length (tables_wanted f.asked) ≤ 1 → (HasAtMost (objects_in f.objects) o → 1 ≤ objects_in f.objects) → Follows old new c f p (seeks_single 1) → RequestAsked f.asked p xs → xs ≡ all_yes (questions f.asked)
+    single_last (seeks_single n) was few one_has follows had = ⊎_elim
+        (λ (same : 1 ≡ n). had ∙ all_asked f.asked n (omega (arith, same, few)))
+        (λ (more : (1 ≡ n + 1) × (((memory : MemoryState) × Makes old new c f n (Ok memory)) ⊎ ((table : LeasedTable) × MakesTable old new c f n (Ok table)))).
+        ⊎_elim
+        (λ (one : made_until (stage_of f) ≡ objects_in f.objects + 1). let was_so : made_until (stage_of f) ≡ n = ap made_until was in absurd (omega (arith, one, was_so, admitted_number n more.1)))
+        (λ (kept : KeepsMade (objects_in f.objects) (record { frame = next; outcome = o })). absurd (omega (arith, one_has kept.whole, more.0, admitted_number n more.1)))
+        (keeps silent (subst HasNumber (sym was) tt)))
+        follows
+    single_last p was few one_has follows had = absurd follows
+
     silent_last : (p q : Stage) (x : Outcome P H) → stage_of f ≡ p → o ≡ Some x → Goes a.maker old new c f p q (Some x) → Goes a.maker other_old other_new c f p q (Some x) → AskedSoFar f.asked p xs → AnsweredAfter f.asked x xs
     silent_last no_call no_call x was some goes other had = absurd goes
     silent_last keys no_call Key was some goes other had = had
+    silent_last (asks p) no_call (Granted (memory_granted lease)) was some goes other had =
+        let of = granted_here (Granted (memory_granted lease)) some in
+        single_last p was (omega (arith, ap (λ (z : Asked). length (memories_wanted z) + length (tables_wanted z)) of.asked_for)) (λ most. subst (HasAtMost (objects_in f.objects)) some most) goes had
+    silent_last (asks p) no_call (Granted (table_granted lease)) was some goes other had =
+        let of = granted_here (Granted (table_granted lease)) some in
+        single_last p was (omega (arith, ap (λ (z : Asked). length (memories_wanted z) + length (tables_wanted z)) of.asked_for)) (λ most. subst (HasAtMost (objects_in f.objects)) some most) goes had
     silent_last (asks p) no_call (Granted (Stack lease)) was some goes other had = stack_last p goes.0 had
     silent_last (asks p) no_call (Granted (Instance lease)) was some goes other had = instance_last p lease was some goes.0 had
     silent_last (asks counts_heap) no_call (Granted (Heap lease memory)) was some goes other had = had
     silent_last (asks untested) no_call (Refused x) was some goes other had = silent_fails untested x xs other had
+    silent_last (asks (seeks_single n)) no_call (Refused x) was some goes other had = silent_fails (seeks_single n) x xs other.0 had
     silent_last (asks seeks_stack) no_call (Refused x) was some goes other had = silent_fails seeks_stack x xs other had
     silent_last (asks tests_heap) no_call (Refused x) was some goes other had = silent_fails tests_heap x xs other had
     silent_last (asks (seeks_heap n)) no_call (Refused x) was some goes other had = silent_fails (seeks_heap n) x xs other.0 had
@@ -547,6 +582,7 @@ module _ {T P H : Type 0} (about : T → About) (inner : T → PoolPart P H) (Pa
     cause_last purging no_call (Refused x) is goes = absurd goes
     cause_last releasing no_call (Refused x) is goes = absurd goes
     cause_last (asks untested) no_call (Refused x) is goes = raised untested x is goes
+    cause_last (asks (seeks_single n)) no_call (Refused x) is goes = raised (seeks_single n) x is goes.0
     cause_last (asks seeks_stack) no_call (Refused x) is goes = raised seeks_stack x is goes
     cause_last (asks tests_heap) no_call (Refused x) is goes = raised tests_heap x is goes
     cause_last (asks (seeks_heap n)) no_call (Refused x) is goes = raised (seeks_heap n) x is goes.0
@@ -662,6 +698,8 @@ module _ {P H : Type 0} where
   not_refusing Q call.Key f = tt
   not_refusing Q (call.Module m) f = tt
   not_refusing Q (call.Component info) f = tt
+  not_refusing Q (call.Memory m) f = tt
+  not_refusing Q (call.Table ty) f = tt
   not_refusing Q call.Stack f = tt
   not_refusing Q (call.Heap ty) f = tt
   not_refusing Q (call.GiveBack grant) f = (returning_kept Q (stage_of (begun_call (call.GiveBack grant) f)) (begun_kind (call.GiveBack grant) f)).0
@@ -672,27 +710,33 @@ module _ {P H : Type 0} where
   quiet_call call.Key f quiet = tt
   quiet_call (call.Module m) f quiet = absurd quiet
   quiet_call (call.Component info) f quiet = tt
+  quiet_call (call.Memory m) f quiet = absurd quiet
+  quiet_call (call.Table ty) f quiet = absurd quiet
   quiet_call call.Stack f quiet = tt
   quiet_call (call.Heap ty) f quiet = absurd quiet
   quiet_call (call.GiveBack grant) f quiet = (returning_kept (λ e. Unit {0}) (stage_of (begun_call (call.GiveBack grant) f)) (begun_kind (call.GiveBack grant) f)).1
   quiet_call (call.Purge id) f quiet = tt
   quiet_call call.Release f quiet = tt
 
-  none_asked : (c : Call P H) (f : Frame P H) → AskedSoFar (begun_call c f).asked (stage_of (begun_call c f)) []
-  none_asked call.Key f = refl
-  none_asked (call.Module m) f = refl
-  none_asked (call.Component info) f = refl
-  none_asked call.Stack f = refl
-  none_asked (call.Heap ty) f = refl
-  none_asked (call.GiveBack grant) f = returning_asked (begun_call (call.GiveBack grant) f).asked (stage_of (begun_call (call.GiveBack grant) f)) (begun_kind (call.GiveBack grant) f)
-  none_asked (call.Purge id) f = refl
-  none_asked call.Release f = refl
+  none_asked : (c : Call P H) (f : Frame P H) → objects_in f.objects ≡ 0 → AskedSoFar (begun_call c f).asked (stage_of (begun_call c f)) []
+  none_asked call.Key f none = refl
+  none_asked (call.Module m) f none = refl
+  none_asked (call.Component info) f none = refl
+  none_asked (call.Memory m) f none = subst (λ (n : ℕ). YesTo (asked_for.Memory m) n []) (sym none) refl
+  none_asked (call.Table ty) f none = subst (λ (n : ℕ). YesTo (asked_for.Table ty) n []) (sym none) refl
+  none_asked call.Stack f none = refl
+  none_asked (call.Heap ty) f none = refl
+  none_asked (call.GiveBack grant) f none = returning_asked (begun_call (call.GiveBack grant) f).asked (stage_of (begun_call (call.GiveBack grant) f)) (begun_kind (call.GiveBack grant) f)
+  none_asked (call.Purge id) f none = refl
+  none_asked call.Release f none = refl
 
   -- what passed in a call that asks, and in one that doesn't
   call_says : (c : Call P H) (f : Frame P H) (o : Outcome P H) (xs : List Exchange) → (IsQuiet c → xs ≡ []) → AnsweredAfter (begun_call c f).asked o xs → CallAsks c o xs
   call_says call.Key f o xs quiet says = quiet tt
   call_says (call.Module m) f o xs quiet says = says
   call_says (call.Component info) f o xs quiet says = quiet tt
+  call_says (call.Memory m) f o xs quiet says = says
+  call_says (call.Table ty) f o xs quiet says = says
   call_says call.Stack f o xs quiet says = quiet tt
   call_says (call.Heap ty) f o xs quiet says = says
   call_says (call.GiveBack grant) f o xs quiet says = quiet tt
@@ -704,6 +748,8 @@ module _ {P H : Type 0} where
   call_made Same Made call.Key f quiet made = inl (quiet tt)
   call_made Same Made (call.Module m) f quiet made = ⊎_elim (λ (same : Same). inl same) (λ (one : (heaps_wanted (begun_call (call.Module m) f).asked ≡ 1) × Made). absurd (omega (arith, one.0))) made
   call_made Same Made (call.Component info) f quiet made = inl (quiet tt)
+  call_made Same Made (call.Memory m) f quiet made = ⊎_elim (λ (same : Same). inl same) (λ (one : (heaps_wanted (begun_call (call.Memory m) f).asked ≡ 1) × Made). absurd (omega (arith, one.0))) made
+  call_made Same Made (call.Table ty) f quiet made = ⊎_elim (λ (same : Same). inl same) (λ (one : (heaps_wanted (begun_call (call.Table ty) f).asked ≡ 1) × Made). absurd (omega (arith, one.0))) made
   call_made Same Made call.Stack f quiet made = inl (quiet tt)
   call_made Same Made (call.Heap ty) f quiet made = ⊎_elim (λ (same : Same). inl same) (λ (one : (heaps_wanted (begun_call (call.Heap ty) f).asked ≡ 1) × Made). inr (tt, one.1)) made
   call_made Same Made (call.GiveBack grant) f quiet made = inl (quiet tt)
@@ -711,8 +757,8 @@ module _ {P H : Type 0} where
   call_made Same Made call.Release f quiet made = inl (quiet tt)
 
   module _ {L : Type 0} (leads : L → Exchange → L → Type 0) where
-    pub asked_begun : (limiter : L) (told : PartyTold) (c : Call P H) (f : Frame P H) → AskedSince leads limiter limiter told told (begun_call c f) (begun_call c f)
-    asked_begun limiter told c f = record { passed = []; exchanged = refl; told = refl; made = inl refl; quiet = λ quiet. (quiet, refl, refl); cause = not_refusing (HasCause told told) c f; so_far = none_asked c f }
+    pub asked_begun : (limiter : L) (told : PartyTold) (c : Call P H) (f : Frame P H) → objects_in f.objects ≡ 0 → AskedSince leads limiter limiter told told (begun_call c f) (begun_call c f)
+    asked_begun limiter told c f none = record { passed = []; exchanged = refl; told = refl; made = inl refl; quiet = λ quiet. (quiet, refl, refl); cause = not_refusing (HasCause told told) c f; so_far = none_asked c f none }
 
     -- What is so of a call that began is so of the call.
     pub call_asked : (first last : L) (old new : PartyTold) (c : Call P H) (f : Frame P H) (o : Outcome P H) → HasAsked leads (AsksNobody (stage_of (begun_call c f))) (heaps_wanted (begun_call c f).asked ≡ 1) (AnsweredAfter (begun_call c f).asked o) first last old new o → HasAsked leads (IsQuiet c) (IsForHeap c) (CallAsks c o) first last old new o

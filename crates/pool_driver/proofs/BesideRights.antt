@@ -14,7 +14,7 @@ use Rattle.pool_slots.specs.SlotQueues.{Queued}
 use Rattle.pool_slots.specs.declared.slot_name.RegionNumbers.{RegionNumbers}
 use Rattle.pool_slots.specs.declared.slot_name.SlotName.{SlotName}
 use Rattle.pool_alloc.specs.Leases.{Lease, memory_slot, slot_taken}
-use Rattle.pool_alloc.specs.TableLeases.{LeasedTable, table_slot}
+use Rattle.pool_alloc.specs.TableLeases.{LeasedTable, table_slot, table_taken}
 use Rattle.pool_alloc.specs.StackLeases.{stack_taken}
 use Rattle.pool_alloc.specs.HeapLeases.{heap_slot_taken}
 use Rattle.pool_alloc.specs.Objects.{slot_of_object}
@@ -23,7 +23,7 @@ use Rattle.pool_alloc.specs.Stepping.{grant_count, count_granted}
 use Rattle.pool_alloc.specs.declared.frame.Frame.{Frame}
 use Rattle.pool_alloc.specs.declared.frame.FreedSlot.{FreedSlot}
 use Rattle.pool_alloc.specs.declared.frame.TakenSlot.{TakenSlot}
-use Rattle.pool_alloc.specs.declared.frame.Grant.TheVariants.{Instance, Component, Stack, Heap}
+use Rattle.pool_alloc.specs.declared.frame.Grant.TheVariants.{Instance, Component, Memory, Table, Stack, Heap}
 use Rattle.pool_alloc.specs.declared.frame.Outcome.{Outcome}
 use Rattle.pool_alloc.specs.declared.frame.Outcome.TheVariants as answer
 use Rattle.pool_alloc.specs.declared.frame.Phase.{Phase}
@@ -153,6 +153,8 @@ module _ {P H : Type 0} where
   pairs_answer None = pairs_none
   pairs_answer (Some answer.Key) = pairs_none
   pairs_answer (Some (answer.Granted (Instance lease))) = pairs_instance lease
+  pairs_answer (Some (answer.Granted (Memory lease))) = pairs_taken (slot_taken lease)
+  pairs_answer (Some (answer.Granted (Table lease))) = pairs_taken (table_taken lease)
   pairs_answer (Some (answer.Granted (Stack lease))) = pairs_taken (stack_taken lease)
   pairs_answer (Some (answer.Granted (Heap lease memory))) = pairs_sum (λ t. taken_count t (heap_slot_taken lease)) (λ t. taken_count t (slot_taken memory)) (pairs_taken (heap_slot_taken lease)) (pairs_taken (slot_taken memory))
   pairs_answer (Some (answer.Granted Component)) = pairs_none

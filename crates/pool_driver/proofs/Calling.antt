@@ -1,5 +1,5 @@
 -- A call that a seat drives: it begins, goes on, and ends.
-use Rattle.std.proofs.Common.{◌≡◌, ◌⊎◌, ⊎_elim, inl, inr, ℕ, ◌+◌, Bool, true, false, List, [], ◌∷◌, refl, sym, ap, subst, ◌∙◌, arith, true≢false, Option, Some, None, IfSome}
+use Rattle.std.proofs.Common.{◌≡◌, ◌⊎◌, ⊎_elim, inl, inr, ℕ, ◌+◌, Bool, true, false, List, [], ◌∷◌, length, refl, sym, ap, subst, ◌∙◌, arith, true≢false, Option, Some, None}
 use Rattle.std.specs.Prelude.{not, ◌&&◌, is_some}
 use Rattle.pool_hall.specs.declared.view.View.{View}
 use Rattle.pool_limits.specs.Exchanges.{Exchange}
@@ -7,7 +7,7 @@ use Rattle.pool_slots.specs.declared.part.PoolPart.{PoolPart}
 use Rattle.pool_slots.specs.declared.plan.Plan.{Plan}
 use Rattle.pool_pages.specs.MakerTold.{MakerTold}
 use Rattle.pool_alloc.specs.CallStages.{Goes, Stage, no_call, keys, asks, tests_component, counts_component, returning, refusing, purging, reserving, releasing, stage_at, stage_by, stage_of}
-use Rattle.pool_alloc.specs.Calls.{IsGrant, IsGrantOf, IsIdle, IfGranted, MayBegin, begun_call}
+use Rattle.pool_alloc.specs.Calls.{IsGrant, IsGrantOf, IfGranted, MayBegin, begun_call}
 use Rattle.pool_alloc.specs.Leases.{Lease}
 use Rattle.pool_alloc.specs.PartyTold.{PartyTold}
 use Rattle.pool_alloc.specs.Places.{Counts, Thing, Weight, frame_count, frame_weight, of_counts, of_units, only, region_of, right_to}
@@ -26,26 +26,22 @@ use Rattle.pool_alloc.specs.declared.frame.Ending.{Ending}
 use Rattle.pool_alloc.specs.declared.frame.Ending.TheVariants.{Returned as returned}
 use Rattle.pool_alloc.specs.declared.frame.Frame.{Frame}
 use Rattle.pool_alloc.specs.declared.frame.Grant.{Grant}
-use Rattle.pool_alloc.specs.declared.frame.Grant.TheVariants.{Instance, Component, Stack, Heap}
+use Rattle.pool_alloc.specs.declared.frame.Grant.TheVariants.{Instance, Component, Memory, Table, Stack, Heap}
 use Rattle.pool_alloc.specs.declared.frame.Outcome.{Outcome}
 use Rattle.pool_alloc.specs.declared.frame.Outcome.TheVariants.{Key, Granted, Returned, Purged, Released, Refused}
 use Rattle.pool_alloc.specs.declared.frame.Phase.{Phase}
 use Rattle.pool_alloc.specs.declared.frame.Phase.TheVariants.{Idle, Key as key_phase}
 use Rattle.pool_alloc.specs.declared.pool_core.PoolCore.{PoolCore}
 use Rattle.pool_alloc.specs.declared.pool_core.Settings.{Settings}
-use Rattle.pool_alloc.proofs.BegunFrames.{begun_frame, begun_weight, call_has, idle_of}
+use Rattle.pool_alloc.proofs.BegunFrames.{at_rest, begun_frame, begun_weight, call_has, idle_of}
 use Rattle.pool_alloc.proofs.SoundSteps.{sound_step}
 use Rattle.pool_alloc.proofs.Weights.{frame_counts, frame_units, grant_counts, grant_units}
-use Rattle.pool_driver.specs.Calling.{Becomes, CallKind, GoesOnSince, HasEnded, IsAsking, MayAnswer, asks_component, asks_for, brought, gives_back, is_refused, kind_at, kind_of, purges, releases}
+use Rattle.pool_driver.specs.Calling.{Becomes, CallKind, GoesOnSince, HasEnded, IsAsking, MayAnswer, asks_component, asks_for, brought, gives_back, is_refused, kind_at, kind_of}
 use Rattle.pool_driver.specs.Counts.{counter_limits}
 use Rattle.pool_driver.specs.Driving.{Change, Given, IsDriven, SeesStep, StandsOn, StandsFor, changed, counted, uncounted, unchanged, view_after}
 use Rattle.pool_driver.specs.Faults.{AnswerKeeps, FrameKeeps}
-use Rattle.pool_driver.specs.PageFaults.{CellFaulted, IfFaulted}
 use Rattle.pool_driver.specs.Placed.{About}
-use Rattle.pool_driver.specs.Pools.{core_of}
 use Rattle.pool_driver.specs.Limits.{IfRefused, IfRefusing, Names}
-use Rattle.pool_driver.specs.Purging.{HasMissed, IfPurged}
-use Rattle.pool_driver.specs.Releasing.{HasTakenWarm, IfReleased}
 use Rattle.pool_driver.specs.Refusing.{AnswersCall, IsCallFor, MayEnd}
 use Rattle.pool_driver.specs.Spending.{AnswerSpends, RefusalFewer}
 use Rattle.pool_driver.specs.Telling.{HoldsMore, AnswerTold}
@@ -54,12 +50,8 @@ use Rattle.pool_driver.proofs.ColdPicks.{cold_begins, fewer_last, fewer_step, mo
 use Rattle.pool_driver.proofs.Driven.{stands_for}
 use Rattle.pool_driver.proofs.Holding.{holds_on, same_holds}
 use Rattle.pool_driver.proofs.Naming.{sees_more, sees_limits}
-use Rattle.pool_driver.proofs.PageFaultRows.{LeftFaulted}
-use Rattle.pool_driver.proofs.PageFaults.{faulted_begins, faulted_step}
-use Rattle.pool_driver.proofs.OtherKinds.{other_on}
-use Rattle.pool_driver.proofs.Purging.{LeftMissed, missed_begins, missed_step, none_missed_last, none_missed_on}
+use Rattle.pool_driver.proofs.PartsTold.{parts_begin, parts_last, parts_on}
 use Rattle.pool_driver.proofs.Raising.{key_answered}
-use Rattle.pool_driver.proofs.Releasing.{LeftTaken, none_taken_last, none_taken_on, taken_begins, taken_step}
 use Rattle.pool_driver.proofs.Limits.{answer_named, begun_named, names_ended, next_named, stripe_ended}
 use Rattle.pool_driver.proofs.Refusing.{ends_before, ends_so, stays_for}
 use Rattle.pool_driver.proofs.Spending.{asked_stays, spends_begin, spends_step}
@@ -82,10 +74,14 @@ module _ {P H : Type 0} where
   begun_busy call.Key f = refl
   begun_busy (call.Module m) f = refl
   begun_busy (call.Component info) f = refl
+  begun_busy (call.Memory m) f = refl
+  begun_busy (call.Table ty) f = refl
   begun_busy call.Stack f = refl
   begun_busy (call.Heap ty) f = refl
   begun_busy (call.GiveBack (Instance lease)) f = back_busy lease.memories.items lease.tables.items (record f { asked = asked.Nothing; objects = lease; ending = returned }) refl
   begun_busy (call.GiveBack Component) f = refl
+  begun_busy (call.GiveBack (Memory lease)) f = refl
+  begun_busy (call.GiveBack (Table lease)) f = refl
   begun_busy (call.GiveBack (Stack lease)) f = refl
   begun_busy (call.GiveBack (Heap lease memory)) f = refl
   begun_busy (call.Purge id) f = refl
@@ -96,6 +92,8 @@ module _ {P H : Type 0} where
   brought_keeps call.Key k = tt
   brought_keeps (call.Module m) k = tt
   brought_keeps (call.Component info) k = tt
+  brought_keeps (call.Memory m) k = tt
+  brought_keeps (call.Table ty) k = tt
   brought_keeps call.Stack k = tt
   brought_keeps (call.Heap ty) k = tt
   brought_keeps (call.GiveBack grant) k = k
@@ -106,6 +104,8 @@ module _ {P H : Type 0} where
   brought_units t call.Key = refl
   brought_units t (call.Module m) = refl
   brought_units t (call.Component info) = refl
+  brought_units t (call.Memory m) = refl
+  brought_units t (call.Table ty) = refl
   brought_units t call.Stack = refl
   brought_units t (call.Heap ty) = refl
   brought_units t (call.GiveBack grant) = grant_units t grant
@@ -116,6 +116,8 @@ module _ {P H : Type 0} where
   brought_counts n call.Key = refl
   brought_counts n (call.Module m) = refl
   brought_counts n (call.Component info) = refl
+  brought_counts n (call.Memory m) = refl
+  brought_counts n (call.Table ty) = refl
   brought_counts n call.Stack = refl
   brought_counts n (call.Heap ty) = refl
   brought_counts n (call.GiveBack grant) = grant_counts n grant
@@ -165,6 +167,8 @@ module _ {T P H : Type 0} (places : ℕ) (g : Given) (v : View T) (f : Frame P H
   begins_on call.Key is = asks_stands (λ of. ap (call_has of) is)
   begins_on (call.Module m) is = asks_stands (λ of. ap (call_has of) is)
   begins_on (call.Component info) is = asks_stands (λ of. ap (call_has of) is)
+  begins_on (call.Memory m) is = asks_stands (λ of. ap (call_has of) is)
+  begins_on (call.Table ty) is = asks_stands (λ of. ap (call_has of) is)
   begins_on call.Stack is = asks_stands (λ of. ap (call_has of) is)
   begins_on (call.Heap ty) is = asks_stands (λ of. ap (call_has of) is)
   begins_on (call.Purge id) is = asks_stands (λ of. ap (call_has of) is)
@@ -172,6 +176,8 @@ module _ {T P H : Type 0} (places : ℕ) (g : Given) (v : View T) (f : Frame P H
   begins_on (call.GiveBack (Instance lease)) is = subst (λ (z : Call P H). StandsFor (next_target g.about.settings g.about.plan (begun_call z f).phase (begun_call z f)) g.about places (begun_call z f)) (sym is)
       (back_stands g.about places lease.memories.items lease.tables.items (record f { asked = asked.Nothing; objects = lease; ending = returned }) refl (begun_call (call.GiveBack (Instance lease)) f))
   begins_on (call.GiveBack Component) is = subst (λ (z : Call P H). StandsFor (next_target g.about.settings g.about.plan (begun_call z f).phase (begun_call z f)) g.about places (begun_call z f)) (sym is) tt
+  begins_on (call.GiveBack (Memory lease)) is = subst (λ (z : Call P H). StandsFor (next_target g.about.settings g.about.plan (begun_call z f).phase (begun_call z f)) g.about places (begun_call z f)) (sym is) tt
+  begins_on (call.GiveBack (Table lease)) is = subst (λ (z : Call P H). StandsFor (next_target g.about.settings g.about.plan (begun_call z f).phase (begun_call z f)) g.about places (begun_call z f)) (sym is) tt
   begins_on (call.GiveBack (Stack lease)) is = subst (λ (z : Call P H). StandsFor (next_target g.about.settings g.about.plan (begun_call z f).phase (begun_call z f)) g.about places (begun_call z f)) (sym is) tt
   begins_on (call.GiveBack (Heap lease memory)) is = subst (λ (z : Call P H). StandsFor (next_target g.about.settings g.about.plan (begun_call z f).phase (begun_call z f)) g.about places (begun_call z f)) (sym is) tt
 
@@ -188,6 +194,10 @@ module _ {T P H : Type 0} (places : ℕ) (g : Given) (v : View T) (f : Frame P H
     counted = λ k. omega (arith, driven.counted k, weighs (of_counts (only k)), brought_counts (only k) c, frame_counts (only k) f, frame_counts (only k) (begun_call c f));
     stands = begins_on c refl;
   }
+
+  -- Its frame had no objects.
+  pub none_had : objects_in f.objects ≡ 0
+  none_had = let rest = at_rest g.about.maker g.about.settings g.about.plan f driven.frame (idle_of g.about.maker g.about.settings g.about.plan c f may) in omega (arith, ap length rest.no_memories, ap length rest.no_tables)
 
 module _ {P H : Type 0} (maker : MakerTold) (old new : PartyTold) (c : PoolCore P H) (f : Frame P H) where
   -- a step leaves a call of its kind, or refuses it, or answers it so
@@ -209,6 +219,8 @@ module _ {P H : Type 0} (maker : MakerTold) (old new : PartyTold) (c : PoolCore 
   kind_answers no_call no_call o goes = absurd goes
   kind_answers keys no_call Key goes = tt
   kind_answers (asks p) no_call (Granted (Instance lease)) goes = tt
+  kind_answers (asks p) no_call (Granted (Memory lease)) goes = tt
+  kind_answers (asks p) no_call (Granted (Table lease)) goes = tt
   kind_answers (asks p) no_call (Granted (Stack lease)) goes = tt
   kind_answers (asks p) no_call (Granted (Heap lease memory)) goes = tt
   kind_answers (asks p) no_call (Refused e) goes = tt
@@ -256,10 +268,14 @@ module _ {P H : Type 0} where
   begun_kind call.Key f = refl
   begun_kind (call.Module m) f = refl
   begun_kind (call.Component info) f = refl
+  begun_kind (call.Memory m) f = refl
+  begun_kind (call.Table ty) f = refl
   begun_kind call.Stack f = refl
   begun_kind (call.Heap ty) f = refl
   begun_kind (call.GiveBack (Instance lease)) f = back_kind lease.memories.items lease.tables.items (record f { asked = asked.Nothing; objects = lease; ending = returned }) refl refl
   begun_kind (call.GiveBack Component) f = refl
+  begun_kind (call.GiveBack (Memory lease)) f = refl
+  begun_kind (call.GiveBack (Table lease)) f = refl
   begun_kind (call.GiveBack (Stack lease)) f = refl
   begun_kind (call.GiveBack (Heap lease memory)) f = refl
   begun_kind (call.Purge id) f = refl
@@ -282,6 +298,8 @@ begun_sort : {P H : Type 0} (c : Call P H) (f : Frame P H) → IsCallFor (stage_
 begun_sort call.Key f = tt
 begun_sort (call.Module m) f = tt
 begun_sort (call.Component info) f = tt
+begun_sort (call.Memory m) f = refl
+begun_sort (call.Table ty) f = refl
 begun_sort call.Stack f = refl
 begun_sort (call.Heap ty) f = refl
 begun_sort (call.GiveBack grant) f = returning_sort (stage_of (begun_call (call.GiveBack grant) f)) (begun_call (call.GiveBack grant) f).asked (begun_kind (call.GiveBack grant) f)
@@ -298,6 +316,12 @@ answers_call s plan (call.Module m) f o kind may = absurd may
 answers_call s plan (call.Component info) f (Granted Component) kind may = may
 answers_call s plan (call.Component info) f (Refused e) kind may = may
 answers_call s plan (call.Component info) f o kind may = absurd may
+answers_call s plan (call.Memory m) f (Granted (Memory lease)) kind may = tt
+answers_call s plan (call.Memory m) f (Refused e) kind may = may
+answers_call s plan (call.Memory m) f o kind may = absurd may
+answers_call s plan (call.Table ty) f (Granted (Table lease)) kind may = tt
+answers_call s plan (call.Table ty) f (Refused e) kind may = may
+answers_call s plan (call.Table ty) f o kind may = absurd may
 answers_call s plan call.Stack f (Granted (Stack lease)) kind may = may
 answers_call s plan call.Stack f (Refused e) kind may = may
 answers_call s plan call.Stack f o kind may = absurd may
@@ -314,7 +338,7 @@ answers_call s plan call.Release f o kind may = absurd may
 
 -- A call that begins goes on since then.
 pub goes_begun : {T P H : Type 0} (a : About) (v : View T) (c : Call P H) (f : Frame P H) → v.limits ≡ counter_limits a.settings → GoesOnSince a v v (begun_call c f) (begun_call c f)
-goes_begun a v c f limits = record { busy = begun_busy c f; tells = tells_begin v a.plan c f; spends = spends_begin v a.plan (begun_call c f); cold = cold_begins a.plan v (begun_call c f); fewer = begun_named (RefusalFewer v v a.plan (begun_call c f).asked) c (stage_of (begun_call c f)) (begun_kind c f); fault = faulted_begins (CellFaulted v v a.plan) c f; warm = taken_begins v v a.plan c f (begun_kind c f); missed = missed_begins v a.plan a.settings.max_memories_per_module c f (begun_kind c f); more = same_holds v v refl; limits = limits; portions = refl; home = refl; asked = refl; kind = inl refl; instances = adds_begin v _ _; components = adds_begin v _ _; stripe = refl; names = begun_named (Names a.settings a.plan (begun_call c f).stripe) c (stage_of (begun_call c f)) (begun_kind c f); sort = begun_sort c f; ends = λ o may. may }
+goes_begun a v c f limits = record { busy = begun_busy c f; tells = tells_begin v a.plan c f; spends = spends_begin v a.plan (begun_call c f); cold = cold_begins a.plan v (begun_call c f); fewer = begun_named (RefusalFewer v v a.plan (begun_call c f).asked) c (stage_of (begun_call c f)) (begun_kind c f); parts = parts_begin a v c f (begun_kind c f); more = same_holds v v refl; limits = limits; portions = refl; home = refl; asked = refl; kind = inl refl; instances = adds_begin v _ _; components = adds_begin v _ _; stripe = refl; names = begun_named (Names a.settings a.plan (begun_call c f).stripe) c (stage_of (begun_call c f)) (begun_kind c f); sort = begun_sort c f; ends = λ o may. may }
 
 module _ {T P H : Type 0} (about : T → About) (inner : T → PoolPart P H) (Passes : List Exchange → Type 0) (old new : PartyTold) (a : About) (base v w : View T) (first f next : Frame P H) (o : Option (Outcome P H)) (goes : GoesOnSince a base v first f) (sees : SeesStep about inner Passes old new a v w f next o) (keeps : FrameKeeps f) where
   sound_here : IsSoundStep a.maker old new sees.core f (record { core = sees.left; frame = next; outcome = o })
@@ -372,15 +396,6 @@ module _ {T P H : Type 0} (about : T → About) (inner : T → PoolPart P H) (Pa
       let by_plan : IfRefused (Names a.settings a.plan f.stripe) answer = subst (λ (p : Plan). IfRefused (Names a.settings p f.stripe) answer) sees.plan by_settings in
       names_ended a.settings a.plan answer f.stripe next.stripe by_plan (stripe_here (Some answer) some)
 
-  fault_here : LeftFaulted {P = P} {H = H} (CellFaulted base w a.plan) (record { frame = next; outcome = o })
-  fault_here = faulted_step about inner Passes old new a base v w f next o goes.more keeps sees goes.busy goes.fault
-
-  warm_here : LeftTaken {P = P} {H = H} base w a.plan (record { frame = next; outcome = o }) ⊎ (kind_at (stage_of f) ≡ releases → ⊥)
-  warm_here = taken_step about inner Passes old new a base v w f next o goes.more sees goes.warm
-
-  missed_here : LeftMissed {P = P} {H = H} base w a.plan a.settings.max_memories_per_module (record { frame = next; outcome = o }) ⊎ (kind_at (stage_of f) ≡ purges → ⊥)
-  missed_here = missed_step about inner Passes old new a base v w f next o goes.more sees goes.missed
-
   -- After a step without an answer it goes on,
   pub goes_on : o ≡ None → GoesOnSince a base w first next
   goes_on none =
@@ -395,15 +410,7 @@ module _ {T P H : Type 0} (about : T → About) (inner : T → PoolPart P H) (Pa
         spends = (spends_step about inner Passes old new a base v w f next o sees goes.spends).0;
         cold = λ kind. record { most = most_step about inner Passes old new a base v w first f next o goes sees kind; now = λ on. now_step about inner Passes old new a base v w first f next o goes sees (asks_before on) on kind };
         fewer = fewer_step about inner Passes old new a base v w first f next o goes sees none;
-        fault = fault_here.frame;
-        warm = ⊎_elim
-            (λ (left : LeftTaken {P = P} {H = H} base w a.plan (record { frame = next; outcome = o })). left.frame)
-            (λ (other : kind_at (stage_of f) ≡ releases → ⊥). none_taken_on base w a.plan next (other_on releases (kind_at (stage_of f)) (kind_at (stage_of next)) (λ (is : releases ≡ is_refused). absurd cc) becomes other))
-            warm_here;
-        missed = ⊎_elim
-            (λ (left : LeftMissed {P = P} {H = H} base w a.plan a.settings.max_memories_per_module (record { frame = next; outcome = o })). left.frame)
-            (λ (other : kind_at (stage_of f) ≡ purges → ⊥). none_missed_on base w a.plan a.settings.max_memories_per_module next (other_on purges (kind_at (stage_of f)) (kind_at (stage_of next)) (λ (is : purges ≡ is_refused). absurd cc) becomes other))
-            missed_here;
+        parts = parts_on about inner Passes old new a base v w f next o goes.more keeps sees goes.busy goes.parts becomes;
         more = more_here;
         limits = sees_limits about inner Passes old new a v w f next o sees ∙ goes.limits;
         portions = portions_here;
@@ -434,21 +441,13 @@ module _ {T P H : Type 0} (about : T → About) (inner : T → PoolPart P H) (Pa
         kind = first_may (kind_at (stage_of first)) (kind_at (stage_of f)) answer goes.kind (kind_answers a.maker old new sees.core f (stage_of f) (stage_of next) answer (way_here (Some answer) some));
         names = names_last answer some;
         stripe = stripe_ended answer first.stripe f.stripe next.stripe goes.stripe (stripe_here (Some answer) some);
-        ends = goes.ends answer (may_here f.asked (stage_of f) answer (ends_so a.maker old new sees.core f sees.can.core.settings (stage_of f) (stage_of next) answer goes.sort way));
+        ends = goes.ends answer (may_here f.asked (stage_of f) answer (ends_so a.maker old new sees.core f sees.can.core.settings (stage_of f) (stage_of next) answer goes.sort (subst (λ (z : Option (Outcome P H)). IfGranted (IsGrantOf a.maker sees.core.settings sees.core.plan f.asked) z) some sound_here.granted) way));
         granted = subst (λ (z : Option (Outcome P H)). IfGranted (IsGrantOf a.maker a.settings a.plan first.asked) z) some (subst (λ (z : Asked). IfGranted (IsGrantOf a.maker a.settings a.plan z) o) goes.asked granted);
         told = subst (λ (z : Option (Outcome P H)). AnswerTold base w a.plan first.home z) some (subst (λ (n : ℕ). AnswerTold base w a.plan n o) goes.home told);
         spends = subst (λ (z : Option (Outcome P H)). AnswerSpends base w a.plan first.asked z) some (subst (λ (z : Asked). AnswerSpends base w a.plan z o) goes.asked spends);
         cold = most_step about inner Passes old new a base v w first f next o goes sees;
         fewer = fewer_last about inner Passes old new a base v w first f next o goes sees answer some;
-        fault = subst (λ (z : Option (Outcome P H)). IfSome z (IfRefused (IfFaulted (CellFaulted base w a.plan)))) some fault_here.answer;
-        warm = ⊎_elim
-            (λ (left : LeftTaken {P = P} {H = H} base w a.plan (record { frame = next; outcome = o })). subst (λ (z : Option (Outcome P H)). IfSome z (IfReleased (HasTakenWarm base w a.plan))) some left.answer)
-            (λ (other : kind_at (stage_of f) ≡ releases → ⊥). none_taken_last base w a.plan (kind_at (stage_of f)) answer (kind_answers a.maker old new sees.core f (stage_of f) (stage_of next) answer (way_here (Some answer) some)) other)
-            warm_here;
-        missed = ⊎_elim
-            (λ (left : LeftMissed {P = P} {H = H} base w a.plan a.settings.max_memories_per_module (record { frame = next; outcome = o })). subst (λ (z : Option (Outcome P H)). IfSome z (IfPurged (HasMissed base w a.plan a.settings.max_memories_per_module))) some left.answer)
-            (λ (other : kind_at (stage_of f) ≡ purges → ⊥). none_missed_last base w a.plan a.settings.max_memories_per_module (kind_at (stage_of f)) answer (kind_answers a.maker old new sees.core f (stage_of f) (stage_of next) answer (way_here (Some answer) some)) other)
-            missed_here;
+        parts = parts_last about inner Passes old new a base v w f next o goes.more keeps sees goes.busy goes.parts answer some (kind_answers a.maker old new sees.core f (stage_of f) (stage_of next) answer (way_here (Some answer) some));
         more = more_here;
         instances = instances_step about inner Passes old new a base v w first f next o goes sees;
         components = components_step about inner Passes old new a base v w first f next o goes sees;
@@ -461,6 +460,8 @@ module _ {P H : Type 0} where
   pub grant_of : (maker : MakerTold) (s : Settings) (plan : Plan) (asked : Asked) (grant : Grant P H) → IsGrantOf maker s plan asked grant → IsGrant maker s plan grant
   grant_of maker s plan asked (Instance lease) is = is.0
   grant_of maker s plan asked Component is = is
+  grant_of maker s plan asked (Memory lease) is = is.memory_is
+  grant_of maker s plan asked (Table lease) is = is.table_is
   grant_of maker s plan asked (Stack lease) is = is.0
   grant_of maker s plan asked (Heap lease memory) is = (is.heap, is.memory_is)
 

@@ -1,5 +1,5 @@
 -- What stands behind a refusal for which the limiter or the maker of heaps is the reason: a count that rose.
-use Rattle.std.proofs.Common.{◌≡◌, ◌⊎◌, ⊎_elim, ℕ, ◌+◌, ◌-◌, ◌<◌, ◌≤◌, ◌^◌, min, Bool, true, false, List, [], ◌∷◌, ◌++◌, length, refl, sym, ap, subst, ◌∙◌, arith, Option, Some, None, Result, Ok, Err, slice_get}
+use Rattle.std.proofs.Common.{◌≡◌, ◌⊎◌, ⊎_elim, ℕ, ◌-◌, ◌<◌, ◌≤◌, ◌^◌, min, Bool, true, false, List, [], ◌∷◌, ◌++◌, length, refl, sym, ap, subst, ◌∙◌, arith, Option, Some, None, Result, Ok, Err, slice_get}
 use Rattle.pool_types.specs.Rising.{Rose, risen}
 use Rattle.pool_types.specs.declared.unsupported.Unsupported.{Unsupported}
 use Rattle.pool_pages.specs.MakerTold.{MakerTold}
@@ -13,7 +13,7 @@ use Rattle.pool_slots.specs.declared.errors.AllocError.TheVariants as refusal
 use Rattle.pool_slots.specs.declared.heap_maker.HeapMakeFault.{HeapMakeFault}
 use Rattle.pool_slots.specs.declared.heap_maker.HeapMakeFault.TheVariants as no_heap
 use Rattle.pool_alloc.specs.BetweenSteps.{IsAllocating, IsSettings, IsTableNext}
-use Rattle.pool_alloc.specs.CallStages.{FailsHeap, FindsNone, IsBroken, IsPageFaulted, IsUntested, Makes, MakesTable, Progress, Raises, untested, uncounted, admitted, seeks_stack, tests_heap, seeks_heap, counts_heap}
+use Rattle.pool_alloc.specs.CallStages.{FailsHeap, FindsNone, IsBroken, IsPageFaulted, IsUntested, Makes, MakesTable, Progress, Raises, untested, uncounted, admitted, seeks_single, seeks_stack, tests_heap, seeks_heap, counts_heap}
 use Rattle.pool_alloc.specs.MemorySteps.{heap_refusal}
 use Rattle.pool_alloc.specs.PageCallAnswers.{AsksForMemory}
 use Rattle.pool_alloc.specs.PartyTold.{PartyTold, MakesHeap}
@@ -132,23 +132,23 @@ faulted_rose old new given x left is = let e : errors new ≡ risen (errors old)
 -- Why a step fails a request has its cause in the step.
 module _ {P H : Type 0} (maker : MakerTold) (old new : PartyTold) (c : PoolCore P H) (f : Frame P H) (settings : IsSettings c.settings) where
   pub table_below : IsAllocating c.settings c.plan f → IsTableNext f → length f.objects.tables.items < length (tables_wanted f.asked)
-  table_below allocating table = omega (arith, allocating.more, allocating.to_grant.few, table.0, table.1.no_stack, table.1.no_heap)
+  table_below allocating table = omega (arith, allocating.more, table.0, table.1.no_stack, table.1.no_heap)
 
   memory_cause : (n : ℕ) (x : AllocError) → Makes old new c f n (Err x) → HasCause old new x
   memory_cause n x makes =
       let left : new.limiter ≡ after_answer makes.given old.limiter = told_there (new.limiter ≡ after_answer makes.given old.limiter) (memories_wanted f.asked) (length f.objects.memories.items) makes.next
       (told_weaker (AsksForMemory makes.given old.limiter new.limiter) (λ d. new.limiter ≡ after_answer makes.given old.limiter) (slice_get (memories_wanted f.asked) (length f.objects.memories.items)) (λ d asked. asked.left) makes.asked) in
       failed_so (HasCause old new) _ x makes.is
-      (memory_fails (HasCause old new) makes.given tt (λ min' is. denied_rose old.limiter new.limiter makes.given left is) (λ y is. faulted_rose old.limiter new.limiter makes.given y left is) (λ is. tt)
-      c.settings settings makes.held _ (slice_get (memories_wanted f.asked) (length f.objects.memories.items)) (makes.allocating.to_grant.supported.each (length f.objects.memories.items)))
+      (memory_fails (HasCause old new) makes.given (λ min' is. denied_rose old.limiter new.limiter makes.given left is) (λ y is. faulted_rose old.limiter new.limiter makes.given y left is) (λ is. tt)
+      c.settings settings makes.held _ (slice_get (memories_wanted f.asked) (length f.objects.memories.items)) (λ none. tt) (makes.allocating.to_grant.supported.each (length f.objects.memories.items)))
 
   table_cause : (n : ℕ) (x : AllocError) → MakesTable old new c f n (Err x) → HasCause old new x
   table_cause n x makes =
       let left : new.limiter ≡ after_answer makes.given old.limiter = told_there (new.limiter ≡ after_answer makes.given old.limiter) (tables_wanted f.asked) (length f.objects.tables.items) (table_below makes.allocating makes.next)
       (told_weaker (AsksForTable makes.given old.limiter new.limiter) (λ ty. new.limiter ≡ after_answer makes.given old.limiter) (slice_get (tables_wanted f.asked) (length f.objects.tables.items)) (λ ty asked. asked.leaves) makes.asked) in
       failed_so (HasCause old new) _ x makes.is
-      (table_fails (HasCause old new) makes.given tt (λ min' is. denied_rose old.limiter new.limiter makes.given left is) (λ y is. faulted_rose old.limiter new.limiter makes.given y left is) (λ min' room is long. tt)
-      c.settings makes.at makes.region (slice_get (tables_wanted f.asked) (length f.objects.tables.items)) makes.given refl)
+      (table_fails (HasCause old new) makes.given (λ min' is. denied_rose old.limiter new.limiter makes.given left is) (λ y is. faulted_rose old.limiter new.limiter makes.given y left is) (λ min' room is long. tt)
+      c.settings makes.at makes.region (slice_get (tables_wanted f.asked) (length f.objects.tables.items)) (λ none. tt) makes.given refl)
 
   fault_cause : (fault : HeapMakeFault) → MakesHeap {H = H} (Err fault) old.heaps new.heaps → HasCause old new (heap_refusal fault)
   fault_cause no_heap.Memory makes = tt
@@ -163,6 +163,7 @@ module _ {P H : Type 0} (maker : MakerTold) (old new : PartyTold) (c : PoolCore 
   pub raise_cause : (p : Progress) (x : AllocError) → Raises maker old new c f p x → HasCause old new x
   raise_cause untested x raises = rule_cause old new _ x raises
   raise_cause uncounted x raises = subst (HasCause old new) (sym raises.0) tt
+  raise_cause (seeks_single n) x raises = ⊎_elim (none_cause n x) (⊎_elim (page_cause n x) (⊎_elim (memory_cause n x) (table_cause n x))) raises
   raise_cause seeks_stack x raises = ⊎_elim (λ (disabled : (x ≡ refusal.StacksDisabled) × (c.settings.stack_size ≡ 0)). subst (HasCause old new) (sym disabled.0) tt) (none_cause 0 x) raises
   raise_cause tests_heap x raises = ⊎_elim
       (λ (disabled : (c.settings.tunables.tunables.collector ≡ false) × (x ≡ refusal.HeapsDisabled)). subst (HasCause old new) (sym disabled.1) tt)

@@ -23,7 +23,6 @@ use Rattle.pool_alloc.specs.BetweenSteps.{IsFrame}
 use Rattle.pool_alloc.specs.Stepping.{CanStep, StepsTo}
 use Rattle.pool_alloc.specs.StepReads.{StepGiven, cell_named, queue_tried, shard_tried}
 use Rattle.pool_alloc.specs.Turns.{After, ends, goes, stepped}
-use Rattle.pool_alloc.specs.declared.frame.Ending.{Ending}
 use Rattle.pool_alloc.specs.declared.frame.Frame.{Frame}
 use Rattle.pool_alloc.specs.declared.frame.FreedSlot.{FreedSlot}
 use Rattle.pool_alloc.specs.declared.frame.Outcome.TheVariants as answer
@@ -39,7 +38,6 @@ use Rattle.pool_alloc.specs.declared.release.ReleaseStep.TheVariants as releasin
 use Rattle.pool_alloc.proofs.BeforeTheTurn.{in_phase}
 use Rattle.pool_alloc.proofs.StepNeeds.{can_still}
 use Rattle.pool_driver.specs.Faults.{AnswerKeeps, FrameKeeps, KeepsFaults, PartKeeps, PhaseKeeps, PurgeKeeps, ReleaseKeeps}
-use Rattle.pool_driver.specs.FaultsTold.{FaultTold}
 use Rattle.pool_driver.specs.Growing.{AreKept}
 use Rattle.pool_driver.proofs.QueueFaults.{by_choice}
 use Rattle.pool_driver.proofs.RegionFaults.{drains_keep, forgets_keep}
@@ -53,30 +51,30 @@ in_hand_keeps P kind out (unknown held) there small = record { least = omega ari
 in_hand_keeps P kind out (previously_used held) there small = record { least = omega arith; small = small }
 in_hand_keeps P kind out taken there small = absurd cc
 
-module _ (P H : Type 0) (e : Ending) where
+module _ (P H : Type 0) where
   -- how a purge goes on,
-  purge_to_keeps : (p : PurgeCursor) (o : Option PurgeCursor) → TurnKeeps {P = P} {H = H} e (purge_to p o)
+  purge_to_keeps : (p : PurgeCursor) (o : Option PurgeCursor) → TurnKeeps {P = P} {H = H} (purge_to p o)
   purge_to_keeps p None = tt
   purge_to_keeps p (Some next) = tt
 
-  affine_keeps : (per_module : ℕ) (plan : Plan) (p : PurgeCursor) (o : Option SlotId) (shard : ShardState) (tried : ℕ) → TurnKeeps {P = P} {H = H} e (affine_picked per_module plan p o shard tried)
+  affine_keeps : (per_module : ℕ) (plan : Plan) (p : PurgeCursor) (o : Option SlotId) (shard : ShardState) (tried : ℕ) → TurnKeeps {P = P} {H = H} (affine_picked per_module plan p o shard tried)
   affine_keeps per_module plan p (Some slot) shard tried = tt
   affine_keeps per_module plan p None shard tried =
-      by_choice (TurnKeeps {P = P} {H = H} e) (nat_lt (tried + 1) (purged_stripe plan p).shards) (goes (Purge p (purging_step.Pick (tried + 1)))) (purge_to p (behind_memory per_module plan p)) tt (purge_to_keeps p (behind_memory per_module plan p))
+      by_choice (TurnKeeps {P = P} {H = H}) (nat_lt (tried + 1) (purged_stripe plan p).shards) (goes (Purge p (purging_step.Pick (tried + 1)))) (purge_to p (behind_memory per_module plan p)) tt (purge_to_keeps p (behind_memory per_module plan p))
 
   -- and a release
-  stripe_keeps : (plan : Plan) (r : ReleaseCursor) → TurnKeeps {P = P} {H = H} e (behind_stripe plan r)
-  stripe_keeps plan r = by_choice (TurnKeeps {P = P} {H = H} e) (nat_lt (r.stripe + 1) (length plan.memories)) (goes (Release (releasing_step.TakeWarm (record r { stripe = r.stripe + 1; taken = record r.taken { items = [] }; failed = false }) 0))) (ends (answer.Released r.released)) tt tt
+  stripe_keeps : (plan : Plan) (r : ReleaseCursor) → TurnKeeps {P = P} {H = H} (behind_stripe plan r)
+  stripe_keeps plan r = by_choice (TurnKeeps {P = P} {H = H}) (nat_lt (r.stripe + 1) (length plan.memories)) (goes (Release (releasing_step.TakeWarm (record r { stripe = r.stripe + 1; taken = record r.taken { items = [] }; failed = false }) 0))) (ends (answer.Released r.released)) tt tt
 
-  free_first_keeps : (plan : Plan) (slots : List FreedSlot) (r : ReleaseCursor) → TurnKeeps {P = P} {H = H} e (free_first plan slots r)
+  free_first_keeps : (plan : Plan) (slots : List FreedSlot) (r : ReleaseCursor) → TurnKeeps {P = P} {H = H} (free_first plan slots r)
   free_first_keeps plan [] r = stripe_keeps plan r
   free_first_keeps plan (x ∷ rest) r = tt
 
-  drain_keeps : (plan : Plan) (r : ReleaseCursor) (k : ℕ) → TurnKeeps {P = P} {H = H} e (drain_at plan r k)
-  drain_keeps plan r k = by_choice (TurnKeeps {P = P} {H = H} e) (nat_lt k (length r.taken.items)) (goes (Release (releasing_step.TakeRegion r k))) (free_first plan r.taken.items r) tt (free_first_keeps plan r.taken.items r)
+  drain_keeps : (plan : Plan) (r : ReleaseCursor) (k : ℕ) → TurnKeeps {P = P} {H = H} (drain_at plan r k)
+  drain_keeps plan r k = by_choice (TurnKeeps {P = P} {H = H}) (nat_lt k (length r.taken.items)) (goes (Release (releasing_step.TakeRegion r k))) (free_first plan r.taken.items r) tt (free_first_keeps plan r.taken.items r)
 
-  warm_keeps : (plan : Plan) (r : ReleaseCursor) (j : ℕ) → TurnKeeps {P = P} {H = H} e (warm_taken plan r j)
-  warm_keeps plan r j = by_choice (TurnKeeps {P = P} {H = H} e) (nat_lt (j + 1) (released_stripe plan r).shards) (goes (Release (releasing_step.TakeWarm r (j + 1)))) (drain_from plan r 0) tt (drain_keeps plan r _)
+  warm_keeps : (plan : Plan) (r : ReleaseCursor) (j : ℕ) → TurnKeeps {P = P} {H = H} (warm_taken plan r j)
+  warm_keeps plan r j = by_choice (TurnKeeps {P = P} {H = H}) (nat_lt (j + 1) (released_stripe plan r).shards) (goes (Release (releasing_step.TakeWarm r (j + 1)))) (drain_from plan r 0) tt (drain_keeps plan r _)
 
 module _ {P H : Type 0} where
   -- the frame after a step, by which a region is there that was taken
@@ -86,7 +84,7 @@ module _ {P H : Type 0} where
 -- the rows of a purge and of a release
 module _ {P H : Type 0} (maker : MakerTold) (c : PoolCore P H) (f : Frame P H) (hand : HandKeeps f) (parts : QueuesKeep c) (small : AreSmall c) where
   pick_affine_keeps : (b : Bool) (p : PurgeCursor) (tried : ℕ) → RowKeeps (pick_affine_row b p tried c f)
-  pick_affine_keeps true p tried = record { hand = hand; turn = affine_keeps P H f.ending c.settings.max_memories_per_module c.plan p _ _ tried; parts = shard_set _ _ c parts }
+  pick_affine_keeps true p tried = record { hand = hand; turn = affine_keeps P H c.settings.max_memories_per_module c.plan p _ _ tried; parts = shard_set _ _ c parts }
   pick_affine_keeps false p tried = record { hand = hand; turn = tt; parts = parts }
 
   purge_keeps : (g : StepGiven H) (p : PurgeCursor) (step : PurgeStep P) → PurgeTold g step → PurgeKeeps step → IsFrameAfter maker (stepped (purge_row g p step c f)) → RowKeeps (purge_row g p step c f)
@@ -96,7 +94,7 @@ module _ {P H : Type 0} (maker : MakerTold) (c : PoolCore P H) (f : Frame P H) (
       record { hand = hand; turn = in_hand_keeps P cell.name.kind cell.out cell.holds after.shape.1.1.there (small (cell_place c.plan name)); parts = cell_set name _ c parts }
   purge_keeps g p (purging_step.Forget at held) told one after = record { hand = hand; turn = forgets_keep at.numbers.faults g.fault held g.slot told one; parts = parts }
   purge_keeps g p (purging_step.PutRegion at held) told one after = record { hand = hand; turn = tt; parts = cell_set at.name _ c parts }
-  purge_keeps g p (purging_step.Free name) told one after = record { hand = hand; turn = purge_to_keeps P H f.ending p (behind_turn c.settings.max_memories_per_module c.plan p); parts = shard_set _ _ c parts }
+  purge_keeps g p (purging_step.Free name) told one after = record { hand = hand; turn = purge_to_keeps P H p (behind_turn c.settings.max_memories_per_module c.plan p); parts = shard_set _ _ c parts }
 
   reserve_keeps : (b : Bool) → RowKeeps (reserve_row b c f)
   reserve_keeps true = record { hand = hand; turn = tt; parts = parts }
@@ -104,20 +102,20 @@ module _ {P H : Type 0} (maker : MakerTold) (c : PoolCore P H) (f : Frame P H) (
 
   release_keeps : (g : StepGiven H) (step : ReleaseStep P) → ReleaseTold c.settings g step → ReleaseKeeps step → IsFrameAfter maker (stepped (release_row g step c f)) → RowKeeps (release_row g step c f)
   release_keeps g releasing_step.Reserve told one after = reserve_keeps g.wants
-  release_keeps g (releasing_step.TakeWarm r j) told one after = record { hand = hand; turn = warm_keeps P H f.ending c.plan _ j; parts = shard_set _ _ c parts }
+  release_keeps g (releasing_step.TakeWarm r j) told one after = record { hand = hand; turn = warm_keeps P H c.plan _ j; parts = shard_set _ _ c parts }
   release_keeps g (releasing_step.TakeRegion r k) told one after =
       let name : SlotName = (nth_taken r k).name in
       let cell : CellState = cell_named name c in
       record { hand = hand; turn = in_hand_keeps P cell.name.kind cell.out cell.holds after.shape.1.region.there (small (cell_place c.plan name)); parts = cell_set name _ c parts }
   release_keeps g (releasing_step.Decommit r k at held) told one after = record { hand = hand; turn = drains_keep at.numbers.faults c.settings g.fault held g.slot told one; parts = parts }
-  release_keeps g (releasing_step.PutRegion r k at held) told one after = record { hand = hand; turn = drain_keeps P H f.ending c.plan r _; parts = cell_set at.name _ c parts }
-  release_keeps g (releasing_step.Free r x) told one after = record { hand = hand; turn = free_first_keeps P H f.ending c.plan r.taken.items (releasing r x); parts = shard_set _ _ c parts }
+  release_keeps g (releasing_step.PutRegion r k at held) told one after = record { hand = hand; turn = drain_keeps P H c.plan r _; parts = cell_set at.name _ c parts }
+  release_keeps g (releasing_step.Free r x) told one after = record { hand = hand; turn = free_first_keeps P H c.plan r.taken.items (releasing r x); parts = shard_set _ _ c parts }
 
 module _ {P H : Type 0} (maker : MakerTold) (old new : PartyTold) where
   -- Each row of the table keeps the faults.
   rows_keep : (g : StepGiven H) (p : Phase P H) (c : PoolCore P H) (f : Frame P H) → CanStep maker c (in_phase p f) → MayBeTold c.settings g p (in_phase p f) → IsFrameAfter maker (stepped (row_of g p c (in_phase Idle f))) → HandKeeps f → PhaseKeeps p → QueuesKeep c → AreSmall c →
       AfterKeeps (stepped (row_of g p c (in_phase Idle f)))
-  rows_keep g Idle c f can told after hand one parts small = record { frame = record { objects = hand.0; local = hand.1; phase = tt }; told = λ is. tt; answer = tt; parts = parts }
+  rows_keep g Idle c f can told after hand one parts small = record { frame = record { objects = hand.0; local = hand.1; phase = tt }; answer = tt; parts = parts }
   rows_keep g Key c f can told after hand one parts small = stepped_keeps _ (key_keeps c (in_phase Idle f) hand parts)
   rows_keep g Validate c f can told after hand one parts small = stepped_keeps _ (validated_keeps c (in_phase Idle f) hand parts _ g.wants CountInstance tt)
   rows_keep g TestStack c f can told after hand one parts small = stepped_keeps _ (stacks_keep c (in_phase Idle f) hand parts _)
@@ -166,7 +164,3 @@ pub keeps_step : {P H : Type 0} (maker : MakerTold) (old new : PartyTold) (c : P
 keeps_step maker old new c f a can steps kept k =
     let all = step_keeps maker old new c f a can steps kept k in
     (all.frame, all.answer, λ p below. all.parts p)
-
--- Where the call is to be refused for a failed page call then, a region that it puts back next has more faults than its unit tells.
-pub tells_step : {P H : Type 0} (maker : MakerTold) (old new : PartyTold) (c : PoolCore P H) (f : Frame P H) (a : After P H) → CanStep maker c f → StepsTo old new c f a → AreKept c.parts → FrameKeeps f → FaultTold a.frame
-tells_step maker old new c f a can steps kept k = (step_keeps maker old new c f a can steps kept k).told

@@ -59,7 +59,7 @@ known_faults : (known : Bool) (slot : Slot) → faults_in (if known then previou
 known_faults true slot = refl
 known_faults false slot = refl
 
-faults_returned : (kind : SlotKind) (m : Queued) → faults_in (returned_as kind m) ≡ m.slot.region.faults
+pub faults_returned : (kind : SlotKind) (m : Queued) → faults_in (returned_as kind m) ≡ m.slot.region.faults
 faults_returned memory_kind m = known_faults m.known m.slot
 faults_returned table_kind m = refl
 faults_returned stack_kind m = refl

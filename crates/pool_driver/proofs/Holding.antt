@@ -1,5 +1,6 @@
 -- What a step on the hall changes in a seat's view: counts only rise, what is noted stays, and so what was told of a call stays told.
-use Rattle.std.proofs.Common.{◌≡◌, ℕ, ◌+◌, ◌<◌, ◌≤◌, Bool, true, false, ◌∷◌, refl, ap, ◌∙◌, arith, eq-eqb}
+use Rattle.std.proofs.Common.{◌≡◌, ⊎_elim, ℕ, ◌+◌, ◌<◌, ◌≤◌, Bool, true, false, ◌∷◌, refl, sym, ap, subst, ◌∙◌, arith, eq-eqb}
+use Rattle.std.proofs.lemmas.Bool.{cases_lt}
 use Rattle.std.specs.Prelude.{◌==◌, nat_lt, if◌then◌else◌, slice_index}
 use Rattle.pool_hall.specs.Meaning.{Meaning}
 use Rattle.pool_hall.specs.Step.{add_view, subtract_view, put_view}
@@ -17,10 +18,10 @@ use Rattle.pool_slots.specs.declared.errors.ConcurrencyKind.TheVariants.{CoreIns
 use Rattle.pool_slots.specs.declared.plan.Allocator.{Allocator}
 use Rattle.pool_slots.specs.declared.plan.Plan.{Plan}
 use Rattle.pool_alloc.specs.Searches.{IsSearchedBy}
-use Rattle.pool_alloc.specs.StepReads.{allocator_of}
+use Rattle.pool_alloc.specs.StepReads.{allocator_of, stripe_allocator}
 use Rattle.pool_alloc.specs.declared.frame.Ending.{Ending}
 use Rattle.pool_alloc.specs.declared.frame.Ending.TheVariants.{Granted as granted, Returned as returned, Refused as refused}
-use Rattle.pool_driver.specs.Telling.{HoldsMore, HasMore, IsFullSince, AreFullSince, AreTakenSince, CountsSince, RoomTold, LimitTold, RefusalTold, EndingTold, NoneTaken, IsReturnedBy, IsGoing, IsEnding, queue_takes}
+use Rattle.pool_driver.specs.Telling.{HoldsMore, HasMore, HasSoManyMore, ShardsHaveMore, StripesHaveMore, stripe_shard, IsFullSince, AreFullSince, AreTakenSince, CountsSince, RoomTold, LimitTold, RefusalTold, EndingTold, NoneTaken, IsReturnedBy, IsGoing, IsEnding, queue_takes}
 
 module _ {T : Type 0} (m : Meaning T) (p : ℕ) (x y : T) (v w : View T) (put : w ≡ put_view m p x y v) where
   -- what a part at a place counts more once it is put
@@ -111,8 +112,17 @@ module _ {T : Type 0} (base v w : View T) (c more lower fewer : ℕ) (had : Coun
 
 -- What was told of a search stays told.
 module _ {T : Type 0} (base v w : View T) (more : HoldsMore v w) where
+  pub so_many_held : (q i n : ℕ) → HasSoManyMore base v q i n → HasSoManyMore base w q i n
+  so_many_held q i n had = let e = more.counts q i in omega arith
+
   pub more_held : (q i : ℕ) → HasMore base v q i → HasMore base w q i
-  more_held q i had = let e = more.counts q i in omega arith
+  more_held q i had = so_many_held q i 1 had
+
+  pub shards_held : (plan : Plan) (i times stripe n : ℕ) → ShardsHaveMore base v plan i times stripe n → ShardsHaveMore base w plan i times stripe n
+  shards_held plan i times stripe n had j below = so_many_held (stripe_shard plan stripe j) i times (had j below)
+
+  pub stripes_held : (plan : Plan) (i times n : ℕ) → StripesHaveMore base v plan i times n → StripesHaveMore base w plan i times n
+  stripes_held plan i times n had stripe below = shards_held plan i times stripe (stripe_allocator plan stripe).shards (had stripe below)
 
   pub full_held : (a : Allocator) (home n : ℕ) → AreFullSince base v a home n → AreFullSince base w a home n
   full_held a home n full j below = (more_held (shard_tried a home j) full_answers (full j below).0, (let e = more.noted (shard_tried a home j) in let h = (full j below).1 in omega arith))
@@ -163,3 +173,24 @@ module _ {T : Type 0} (base v w : View T) (more : HoldsMore v w) where
     none = none_held plan e still over.none;
     ending = ending_held I J C D instances components plan home e over.ending;
   }
+
+-- A walk through shards and stripes, each of which has counted so much more.
+module _ {T : Type 0} (base w : View T) (plan : Plan) (i : ℕ) where
+  -- One shard more has,
+  pub one_shard_more : (times stripe n : ℕ) → ShardsHaveMore base w plan i times stripe n → HasSoManyMore base w (stripe_shard plan stripe n) i times → ShardsHaveMore base w plan i times stripe (n + 1)
+  one_shard_more times stripe n had here k below = ⊎_elim
+      (λ (less : k < n). had k less)
+      (λ (last : n ≤ k). let same : k ≡ n = omega (arith, below, last) in subst (λ (j : ℕ). HasSoManyMore base w (stripe_shard plan stripe j) i times) (sym same) here)
+      (cases_lt k n)
+
+  -- and one stripe more, where all its shards have, as those of the stripes before it.
+  pub one_stripe_more : (least times stripe n : ℕ) → StripesHaveMore base w plan i least stripe → ShardsHaveMore base w plan i times stripe n → (stripe_allocator plan stripe).shards ≤ n → least ≤ times → StripesHaveMore base w plan i least (stripe + 1)
+  one_stripe_more least times stripe n had here all enough k below j inside = ⊎_elim
+      (λ (less : k < stripe). had k less j inside)
+      (λ (most : stripe ≤ k).
+      let same : k ≡ stripe = omega (arith, below, most) in
+      let within : j < (stripe_allocator plan stripe).shards = subst (λ (s : ℕ). j < (stripe_allocator plan s).shards) same inside in
+      let there : HasSoManyMore base w (stripe_shard plan stripe j) i times = here j (omega (arith, within, all)) in
+      let least_there : HasSoManyMore base w (stripe_shard plan stripe j) i least = omega (arith, there, enough) in
+      subst (λ (s : ℕ). HasSoManyMore base w (stripe_shard plan s j) i least) (sym same) least_there)
+      (cases_lt k stripe)

@@ -3,6 +3,7 @@ pub mod Asking
 pub mod BesideRights
 pub mod Calling
 pub mod Causes
+pub mod CellPuts
 pub mod ColdPicks
 pub mod Conserving
 pub mod Cores
@@ -35,6 +36,7 @@ pub mod OtherKinds
 pub mod OwnNumbers
 pub mod PageFaultRows
 pub mod PageFaults
+pub mod PartsTold
 pub mod Picking
 pub mod Purging
 pub mod Puts
@@ -56,3 +58,7 @@ pub mod Telling
 pub mod TellingRows
 pub mod TurnFaults
 pub mod Turning
+pub mod UnknownPuts
+pub mod UnknownRows
+pub mod UnknownSlots
+pub mod UnknownTurns

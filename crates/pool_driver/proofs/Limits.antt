@@ -56,6 +56,8 @@ module _ {P H : Type 0} where
   not_refused call.Key is = absurd cc
   not_refused (call.Module m) is = absurd cc
   not_refused (call.Component info) is = absurd cc
+  not_refused (call.Memory m) is = absurd cc
+  not_refused (call.Table ty) is = absurd cc
   not_refused call.Stack is = absurd cc
   not_refused (call.Heap ty) is = absurd cc
   not_refused (call.GiveBack grant) is = absurd cc

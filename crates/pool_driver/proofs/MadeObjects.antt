@@ -13,7 +13,7 @@ use Rattle.pool_slots.specs.declared.errors.AllocError.TheVariants as refusal
 use Rattle.pool_slots.specs.declared.heap_maker.HeapMakeFault.{HeapMakeFault}
 use Rattle.pool_slots.specs.declared.plan.Plan.{Plan}
 use Rattle.pool_slots.specs.declared.slot_name.SlotName.{SlotName}
-use Rattle.pool_alloc.specs.CallStages.{Progress, untested, uncounted, admitted, seeks_stack, tests_heap, seeks_heap, counts_heap, Stage, no_call, keys, asks, tests_component, counts_component, returning, refusing, purging, reserving, releasing, stage_at, stage_back, stage_by, stage_of, stage_of_release}
+use Rattle.pool_alloc.specs.CallStages.{Progress, untested, uncounted, admitted, seeks_single, seeks_stack, tests_heap, seeks_heap, counts_heap, Stage, no_call, keys, asks, tests_component, counts_component, returning, refusing, purging, reserving, releasing, stage_at, stage_back, stage_by, stage_of, stage_of_release}
 use Rattle.pool_alloc.specs.Leases.{Lease}
 use Rattle.pool_alloc.specs.MemorySteps.{heap_refusal}
 use Rattle.pool_alloc.specs.Objects.{no_objects, objects_in, objects_wanted}
@@ -26,13 +26,12 @@ use Rattle.pool_alloc.specs.declared.frame.Asked.TheVariants as asked_for
 use Rattle.pool_alloc.specs.declared.frame.Ending.{Ending}
 use Rattle.pool_alloc.specs.declared.frame.Ending.TheVariants.{Granted as granted, Returned as returned, Refused as refused}
 use Rattle.pool_alloc.specs.declared.frame.Frame.{Frame}
-use Rattle.pool_alloc.specs.declared.frame.Grant.TheVariants.{Instance, Component, Stack, Heap}
+use Rattle.pool_alloc.specs.declared.frame.Grant.TheVariants.{Instance, Component, Memory as memory_granted, Table as table_granted, Stack, Heap}
 use Rattle.pool_alloc.specs.declared.frame.Outcome.{Outcome}
 use Rattle.pool_alloc.specs.declared.frame.Outcome.TheVariants.{Key, Granted, Returned, Purged, Released, Refused}
 use Rattle.pool_alloc.specs.declared.frame.Phase.{Phase}
 use Rattle.pool_alloc.specs.declared.frame.Phase.TheVariants.{Idle, Pick, TakeQueue, TakeRegion, CountObject, TakeHeap, MakeHeap, PutNoHeap, UncountInstance, Flush}
 use Rattle.pool_alloc.specs.declared.frame.TakenSlot.{TakenSlot}
-use Rattle.pool_alloc.specs.declared.leases.instance.InstanceLease.{InstanceLease}
 use Rattle.pool_alloc.specs.declared.pool_core.PoolCore.{PoolCore}
 use Rattle.pool_alloc.specs.declared.pool_core.Settings.{Settings}
 use Rattle.pool_alloc.specs.declared.release.ReleaseStep.{ReleaseStep}
@@ -43,6 +42,7 @@ abbrev made_by : Progress → ℕ
 made_by untested = 0
 made_by uncounted = 0
 made_by (admitted n) = n
+made_by (seeks_single n) = n
 made_by seeks_stack = 0
 made_by tests_heap = 0
 made_by (seeks_heap n) = n
@@ -65,6 +65,7 @@ abbrev pub IsNumbered : Progress → Type 0
 IsNumbered untested = ⊥
 IsNumbered uncounted = ⊥
 IsNumbered (admitted n) = Unit {0}
+IsNumbered (seeks_single n) = Unit {0}
 IsNumbered seeks_stack = ⊥
 IsNumbered tests_heap = ⊥
 IsNumbered (seeks_heap n) = Unit {0}
@@ -101,6 +102,8 @@ none_released step has = has
 pub not_stack : (a : Asked) (aim : Ending) (k : ℕ) → HasNumber (stage_by a aim k) → stacks_wanted a ≡ 0
 not_stack asked_for.Nothing aim k has = refl
 not_stack (asked_for.Module m) aim k has = refl
+not_stack (asked_for.Memory m) aim k has = refl
+not_stack (asked_for.Table ty) aim k has = refl
 not_stack asked_for.Stack granted k has = absurd has
 not_stack asked_for.Stack returned k has = absurd has
 not_stack asked_for.Stack (refused e) k has = absurd has
@@ -113,6 +116,8 @@ other_kind false last other is = other is
 pub no_stack_next : (a : Asked) (j : ℕ) → stacks_wanted a ≡ 0 → kind_by a j ≡ stack_kind → ⊥
 no_stack_next asked_for.Nothing j none is = other_kind (nat_lt j 0) table_kind (λ e. absurd cc) is
 no_stack_next (asked_for.Module m) j none is = other_kind (nat_lt j (length m.info.memories)) table_kind (λ e. absurd cc) is
+no_stack_next (asked_for.Memory m) j none is = other_kind (nat_lt j 1) table_kind (λ e. absurd cc) is
+no_stack_next (asked_for.Table ty) j none is = other_kind (nat_lt j 0) table_kind (λ e. absurd cc) is
 no_stack_next asked_for.Stack j none is = absurd (omega (arith, none))
 no_stack_next (asked_for.Heap ty) j none is = other_kind (nat_lt j 1) heap_kind (λ e. absurd cc) is
 
@@ -120,6 +125,8 @@ no_stack_next (asked_for.Heap ty) j none is = other_kind (nat_lt j 1) heap_kind 
 pub number_is : (a : Asked) (aim : Ending) (k : ℕ) → HasNumber (stage_by a aim k) → made_until (stage_by a aim k) ≡ k
 number_is asked_for.Nothing granted k has = refl
 number_is (asked_for.Module m) granted k has = refl
+number_is (asked_for.Memory m) granted k has = refl
+number_is (asked_for.Table ty) granted k has = refl
 number_is asked_for.Stack granted k has = absurd has
 number_is (asked_for.Heap ty) granted k has = refl
 number_is a returned k has = absurd has
@@ -129,6 +136,8 @@ number_is a (refused e) k has = absurd has
 pub at_most : (a : Asked) (aim : Ending) (k : ℕ) → made_until (stage_by a aim k) ≤ k
 at_most asked_for.Nothing granted k = omega arith
 at_most (asked_for.Module m) granted k = omega arith
+at_most (asked_for.Memory m) granted k = omega arith
+at_most (asked_for.Table ty) granted k = omega arith
 at_most asked_for.Stack granted k = omega arith
 at_most (asked_for.Heap ty) granted k = omega arith
 at_most a returned k = omega arith
@@ -149,26 +158,28 @@ module _ {P H : Type 0} where
   is_counting (CountObject o) = true
   is_counting _ = false
 
-  -- the answer is an instance, of which this holds
-  abbrev pub IfInstance : (InstanceLease P → Type 0) → Option (Outcome P H) → Type 0
-  IfInstance Q None = Unit {0}
-  IfInstance Q (Some (Granted (Instance lease))) = Q lease
-  IfInstance Q (Some (Granted Component)) = Unit {0}
-  IfInstance Q (Some (Granted (Stack lease))) = Unit {0}
-  IfInstance Q (Some (Granted (Heap lease memory))) = Unit {0}
-  IfInstance Q (Some Key) = Unit {0}
-  IfInstance Q (Some Returned) = Unit {0}
-  IfInstance Q (Some (Purged n)) = Unit {0}
-  IfInstance Q (Some (Released n)) = Unit {0}
-  IfInstance Q (Some (Refused e)) = Unit {0}
+  -- an instance that is answered has at most so many objects, and a memory or a table by itself is one
+  abbrev pub HasAtMost : ℕ → Option (Outcome P H) → Type 0
+  HasAtMost k None = Unit {0}
+  HasAtMost k (Some (Granted (Instance lease))) = objects_in lease ≤ k
+  HasAtMost k (Some (Granted Component)) = Unit {0}
+  HasAtMost k (Some (Granted (memory_granted lease))) = 1 ≤ k
+  HasAtMost k (Some (Granted (table_granted lease))) = 1 ≤ k
+  HasAtMost k (Some (Granted (Stack lease))) = Unit {0}
+  HasAtMost k (Some (Granted (Heap lease memory))) = Unit {0}
+  HasAtMost k (Some Key) = Unit {0}
+  HasAtMost k (Some Returned) = Unit {0}
+  HasAtMost k (Some (Purged n)) = Unit {0}
+  HasAtMost k (Some (Released n)) = Unit {0}
+  HasAtMost k (Some (Refused e)) = Unit {0}
 
   -- A turn leaves no more objects than so many.
   pub record KeepsMade (k : ℕ) (l : Left P H) : Type 0 where
     pub frame : made_until (stage_of l.frame) ≤ k
-    pub whole : IfInstance (λ lease. objects_in lease ≤ k) l.outcome
+    pub whole : HasAtMost k l.outcome
 
--- what is given back, or refused, is no instance
-back_answered : (P H : Type 0) (k : ℕ) (aim : Ending) → IfInstance {P = P} {H = H} (λ lease. objects_in lease ≤ k) (Some (answer_of aim))
+-- what is given back, or refused, has no object
+back_answered : (P H : Type 0) (k : ℕ) (aim : Ending) → HasAtMost {P = P} {H = H} k (Some (answer_of aim))
 back_answered P H k granted = tt
 back_answered P H k returned = tt
 back_answered P H k (refused e) = tt
@@ -178,6 +189,8 @@ module _ {P H : Type 0} where
   goes_keeps f p fewer = record { frame = fewer; whole = tt }
 
   all_keeps : (a : Asked) (f : Frame P H) → KeepsMade (objects_in f.objects) (all_returned a f)
+  all_keeps (asked_for.Memory m) f = record { frame = omega arith; whole = back_answered P H _ f.ending }
+  all_keeps (asked_for.Table ty) f = record { frame = omega arith; whole = back_answered P H _ f.ending }
   all_keeps asked_for.Stack f = record { frame = omega arith; whole = back_answered P H _ f.ending }
   all_keeps (asked_for.Heap ty) f = record { frame = omega arith; whole = back_answered P H _ f.ending }
   all_keeps asked_for.Nothing f = goes_keeps f UncountInstance (at_most f.asked f.ending (objects_in f.objects))

@@ -8,7 +8,7 @@ use Rattle.pool_slots.specs.RegionCells.{IsAwaited}
 use Rattle.pool_slots.specs.SlotQueues.{Queued, first_of_kind}
 use Rattle.pool_slots.specs.declared.slot_name.RegionNumbers.{RegionNumbers}
 use Rattle.pool_slots.specs.declared.slot_name.SlotName.{SlotName}
-use Rattle.pool_alloc.specs.BetweenSteps.{HasRegion, IsCore, IsQueuedOf}
+use Rattle.pool_alloc.specs.BetweenSteps.{HasRegion, IsCore, IsQueuedOf, IsSlotName}
 use Rattle.pool_alloc.specs.Stepping.{CanStep}
 use Rattle.pool_alloc.specs.StepReads.{cell_named, cell_returned}
 use Rattle.pool_alloc.specs.declared.frame.Frame.{Frame}
@@ -33,6 +33,7 @@ module _ {P H : Type 0} where
   pub record IsOwn (name : SlotName) (numbers : RegionNumbers) (held : Cell) (c : PoolCore P H) : Type 0 where
     pub awaited : IsAwaited held (cell_named name c)
     pub out : (cell_named name c).out.faults ≡ numbers.faults
+    pub named : IsSlotName c.plan name
 
   -- What a step of a purge puts back, and one of a release.
   abbrev pub OwnPurged : PurgeStep P → PoolCore P H → Type 0
@@ -53,7 +54,7 @@ module _ {P H : Type 0} where
 
 module _ {P H : Type 0} (maker : MakerTold) where
   own_region : (name : SlotName) (numbers : RegionNumbers) (held : Cell) (c : PoolCore P H) → IsCore maker c → HasGone c name numbers → HasRegion maker c.settings c.plan name held → IsOwn name numbers held c
-  own_region name numbers held c core gone has = record { awaited = region_awaited maker name numbers held c core gone has; out = ap (λ (n : RegionNumbers). n.faults) gone.out }
+  own_region name numbers held c core gone has = record { awaited = region_awaited maker name numbers held c core gone has; out = ap (λ (n : RegionNumbers). n.faults) gone.out; named = gone.named }
 
   own_purged : (p : PurgeCursor) (step : PurgeStep P) (c : PoolCore P H) (f : Frame P H) → CanStep maker c (in_phase (Purge p step) f) → OwnPurged step c
   own_purged p (purging_step.PutRegion at held) c f can =
@@ -74,7 +75,7 @@ module _ {P H : Type 0} (maker : MakerTold) where
   own_at Flush c f can = λ kind m is.
       let queued = first_of_all (IsQueuedOf maker c.settings) kind m f.local.slots is can.frame.queue.regions in
       let gone = first_can_be_put maker c f kind m can.core can.fits (queued_cells maker c.settings m queued) is in
-      record { awaited = queued_awaited maker m m.numbers c can.core gone queued; out = ap (λ (n : RegionNumbers). n.faults) gone.out }
+      record { awaited = queued_awaited maker m m.numbers c can.core gone queued; out = ap (λ (n : RegionNumbers). n.faults) gone.out; named = gone.named }
   own_at (Purge p step) c f can = own_purged p step c f can
   own_at (Release step) c f can = own_released step c f can
   own_at phase c f can = tt

@@ -31,7 +31,7 @@ use Rattle.pool_alloc.specs.TableLeases.{LeasedTable}
 use Rattle.pool_alloc.specs.TableSteps.{made_table, table_reset_into}
 use Rattle.pool_alloc.specs.Turns.{Left, Row, Turn, after, all_returned, answer_of, ends, ends_with, failing, flush, goes, goes_to, granted_next, is_flushed, next, next_by, returned_next, search, slot_search, stays}
 use Rattle.pool_alloc.specs.declared.frame.Asked.{Asked}
-use Rattle.pool_alloc.specs.declared.frame.Asked.TheVariants.{Stack as stack_asked, Heap as heap_asked}
+use Rattle.pool_alloc.specs.declared.frame.Asked.TheVariants.{Memory as memory_asked, Table as table_asked, Stack as stack_asked, Heap as heap_asked}
 use Rattle.pool_alloc.specs.declared.frame.Ending.{Ending}
 use Rattle.pool_alloc.specs.declared.frame.Ending.TheVariants.{Granted as granted, Returned as returned, Refused as refused}
 use Rattle.pool_alloc.specs.declared.frame.Frame.{Frame}
@@ -51,8 +51,7 @@ use Rattle.pool_alloc.specs.declared.purge.PurgeStep.TheVariants as purging_step
 use Rattle.pool_alloc.specs.declared.release.ReleaseCursor.{ReleaseCursor}
 use Rattle.pool_alloc.specs.declared.release.ReleaseStep.{ReleaseStep}
 use Rattle.pool_alloc.specs.declared.release.ReleaseStep.TheVariants as releasing_step
-use Rattle.pool_driver.specs.Faults.{KeepsFaults}
-use Rattle.pool_driver.specs.FaultsTold.{HasFaulted}
+use Rattle.pool_driver.specs.Faults.{HasFaulted, KeepsFaults}
 use Rattle.pool_driver.specs.Limits.{IfRefused}
 use Rattle.pool_driver.specs.PageFaults.{IfFaulted, IfToFault, PhaseFaulted}
 use Rattle.pool_driver.proofs.QueueFaults.{by_choice}
@@ -146,6 +145,8 @@ module _ (P H : Type 0) (X : Type 0) (e : Ending) where
 
 module _ {P H : Type 0} (X : Type 0) where
   all_returned_faulted : (asked : Asked) (f : Frame P H) → IfToFault X f.ending → LeftFaulted X (all_returned asked f)
+  all_returned_faulted (memory_asked m) f k = record { frame = tt; answer = answer_faulted P H X f.ending k }
+  all_returned_faulted (table_asked ty) f k = record { frame = tt; answer = answer_faulted P H X f.ending k }
   all_returned_faulted stack_asked f k = record { frame = tt; answer = answer_faulted P H X f.ending k }
   all_returned_faulted (heap_asked ty) f k = record { frame = tt; answer = answer_faulted P H X f.ending k }
   all_returned_faulted asked f k = record { frame = k; answer = tt }
@@ -269,10 +270,18 @@ module _ {P H : Type 0} (X : Type 0) where
           let o = slice_get (tables_wanted f.asked) (length f.objects.tables.items) in
           was_made_table_faulted at region (made_table c.settings given at region o) (made_table_keeps c.settings given at region o keeps)
 
+      memory_counted_faulted : (what : Asked) (lease : Lease) → TurnFaulted {P = P} {H = H} X (rows.memory_kept what lease f).ending (rows.memory_turn what lease)
+      memory_counted_faulted (memory_asked m) lease = tt
+      memory_counted_faulted what lease = k
+
+      table_counted_faulted : (what : Asked) (lease : LeasedTable) → TurnFaulted {P = P} {H = H} X (rows.table_kept what lease f).ending (rows.table_turn what lease)
+      table_counted_faulted (table_asked ty) lease = tt
+      table_counted_faulted what lease = k
+
       -- counted,
       pub count_object_faulted : (o : Object P) → RowFaulted (rows.count_object_row o c f)
-      count_object_faulted (object.Memory lease) = k
-      count_object_faulted (object.Table lease) = k
+      count_object_faulted (object.Memory lease) = memory_counted_faulted f.asked lease
+      count_object_faulted (object.Table lease) = table_counted_faulted f.asked lease
       count_object_faulted (object.Stack lease) = tt
 
       pub make_heap_faulted : (r : Result H HeapMakeFault) (at : TakenSlot) → RowFaulted (rows.make_heap_row r at c f)

@@ -1,38 +1,28 @@
 -- A call that is refused for a failed page call: a memory's region goes back into its cell with more faults than it left it with, and the
 -- seat notes that.
-use Rattle.std.proofs.Common.{◌≡◌, ◌⊎◌, ⊎_elim, inl, inr, ℕ, ◌+◌, ◌<◌, ◌≤◌, Bool, true, false, List, ◌∷◌, length, refl, sym, ap, subst, ◌∙◌, arith, eq-eqb, Option, slice_get}
-use Rattle.std.specs.Prelude.{◌-◌, ◌^◌, ◌==◌, if◌then◌else◌, nat_le, slice_index}
-use Rattle.pool_hall.specs.Meaning.{Meaning}
-use Rattle.pool_hall.specs.Step.{put_view}
-use Rattle.pool_hall.specs.Sum.{one_if, often}
-use Rattle.pool_hall.specs.Tally.{counted, number, rise}
-use Rattle.pool_hall.specs.declared.unit_name.SlotKind.{SlotKind}
-use Rattle.pool_hall.specs.declared.unit_name.SlotKind.TheVariants.{Memory as memory_kind, Table as table_kind, Stack as stack_kind}
+use Rattle.std.proofs.Common.{◌≡◌, ◌⊎◌, ⊎_elim, ℕ, Bool, true, false, List, length, refl, sym, ap, subst, Option, slice_get}
+use Rattle.std.specs.Prelude.{nat_le}
+use Rattle.pool_hall.specs.declared.unit_name.SlotKind.TheVariants.{Memory as memory_kind}
 use Rattle.pool_hall.specs.declared.view.View.{View}
 use Rattle.pool_limits.specs.Exchanges.{Exchange}
-use Rattle.pool_pages.specs.MakerTold.{MakerTold}
 use Rattle.pool_pages.proofs.Small.{told_weaker}
 use Rattle.pool_images.specs.Slots.{Slot, hides}
 use Rattle.pool_types.specs.MemoryTypes.{minimum_byte_size}
 use Rattle.pool_types.specs.declared.module_types.MemoryDecl.{MemoryDecl}
 use Rattle.pool_slots.specs.CellOf.{cell_of}
 use Rattle.pool_slots.specs.HeapLists.{heap_in}
-use Rattle.pool_slots.specs.Parts.{cell_of_part, part_at}
-use Rattle.pool_slots.specs.Plans.{cell_place, cell_role}
-use Rattle.pool_slots.specs.RegionCells.{CellState, cell_filled, cell_numbers, faults_in}
+use Rattle.pool_slots.specs.Plans.{cell_place}
+use Rattle.pool_slots.specs.RegionCells.{faults_in}
 use Rattle.pool_slots.specs.SlotQueues.{Queue, after_append}
 use Rattle.pool_slots.specs.declared.cells.ImageSlot.{ImageSlot}
 use Rattle.pool_slots.specs.declared.part.PoolPart.{PoolPart}
-use Rattle.pool_slots.specs.declared.part.PoolPart.TheVariants as part
 use Rattle.pool_slots.specs.declared.plan.Plan.{Plan}
-use Rattle.pool_slots.specs.declared.slot_name.RegionNumbers.{RegionNumbers}
-use Rattle.pool_slots.specs.declared.slot_name.SlotName.{SlotName}
-use Rattle.pool_alloc.specs.BetweenSteps.{HasRegion, IsPartFor, IsShapedAt}
+use Rattle.pool_alloc.specs.BetweenSteps.{IsShapedAt}
 use Rattle.pool_alloc.specs.Calls.{begun_call}
 use Rattle.pool_alloc.specs.Modules.{IfAllocated}
 use Rattle.pool_alloc.specs.PageCallAnswers.{Empties, InstantiatesFor, MayBeTold}
 use Rattle.pool_alloc.specs.PartyTold.{PartyTold}
-use Rattle.pool_alloc.specs.StepReads.{StepGiven, cell_named, heaps_at, image_wanted, memories_wanted, part_holding, queue_at, queue_tried, shard_at, shard_tried, wanted}
+use Rattle.pool_alloc.specs.StepReads.{StepGiven, cell_named, heaps_at, image_wanted, memories_wanted, queue_at, queue_tried, shard_at, shard_tried, wanted}
 use Rattle.pool_alloc.specs.StepTable.{flush_step, row_of}
 use Rattle.pool_alloc.specs.Stepping.{is_idle}
 use Rattle.pool_alloc.specs.Turns.{After, resting}
@@ -41,75 +31,24 @@ use Rattle.pool_alloc.specs.declared.frame.Call.{Call}
 use Rattle.pool_alloc.specs.declared.frame.Call.TheVariants as call
 use Rattle.pool_alloc.specs.declared.frame.Ending.TheVariants.{Returned as returned}
 use Rattle.pool_alloc.specs.declared.frame.Frame.{Frame}
-use Rattle.pool_alloc.specs.declared.frame.Grant.TheVariants.{Instance, Component, Stack, Heap}
+use Rattle.pool_alloc.specs.declared.frame.Grant.TheVariants.{Instance, Component, Memory, Table, Stack, Heap}
 use Rattle.pool_alloc.specs.declared.frame.Outcome.{Outcome}
 use Rattle.pool_alloc.specs.declared.frame.Phase.{Phase}
 use Rattle.pool_alloc.specs.declared.frame.Phase.TheVariants.{Idle, Key, Validate, TestStack, TestHeap, CountInstance, Pick, TakeQueue, TakeRegion, Empty, Instantiate, MakeMemory, MakeTable, CountObject, TakeHeap, MakeHeap, CountHeap, PutNoHeap, PutBack, FreeOne, UncountObject, UncountHeap, PutHeap, FreeHeap, Reset, Merge, Flush, UncountInstance, ValidateComponent, CountComponent, UncountComponent, Purge, Release}
 use Rattle.pool_alloc.specs.declared.frame.TakenSlot.{TakenSlot}
 use Rattle.pool_alloc.specs.declared.pool_core.PoolCore.{PoolCore}
-use Rattle.pool_alloc.specs.declared.pool_core.Settings.{Settings}
-use Rattle.pool_alloc.proofs.PlanPlaces.{cell_role_at}
-use Rattle.pool_alloc.proofs.PoolParts.{cell_part, part_same, planned_cell}
 use Rattle.pool_alloc.proofs.ToldElements.{told_there}
 use Rattle.pool_index.specs.Shard.{pick_answer}
 use Rattle.pool_driver.specs.Driving.{SeesStep}
-use Rattle.pool_driver.specs.Faults.{FrameKeeps, PhaseKeeps}
-use Rattle.pool_driver.specs.FaultsTold.{HasFaulted}
-use Rattle.pool_driver.specs.PageFaults.{CellFaulted, HasFaultedAt, IfToFault, PhaseFaulted, PutsMemory, cell_faults}
-use Rattle.pool_driver.specs.Placed.{About, part_counts, part_topped, pool_meaning}
-use Rattle.pool_driver.specs.Telling.{HasMore, HoldsMore}
-use Rattle.pool_driver.proofs.GrowingParts.{faults_there, numbers_out}
+use Rattle.pool_driver.specs.Faults.{FrameKeeps, HasFaulted, PhaseKeeps}
+use Rattle.pool_driver.specs.PageFaults.{CellFaulted, IfToFault, PhaseFaulted, PutsMemory}
+use Rattle.pool_driver.specs.Placed.{About}
+use Rattle.pool_driver.specs.Telling.{HoldsMore}
 use Rattle.pool_driver.proofs.Naming.{PutAt, left_is, placed_at, sees_more}
 use Rattle.pool_driver.proofs.OwnNumbers.{IsOwn, OwnPut, own_numbers}
 use Rattle.pool_driver.proofs.PageFaultRows.{LeftFaulted, RowFaulted, after_faulted, answer_faulted, component_counted_faulted, component_faulted, count_object_faulted, counted_faulted, flush_row_faulted, heap_faulted, heap_granted_faulted, heaps_faulted, make_heap_faulted, make_memory_faulted, make_table_faulted, merged_faulted, paged_faulted, picked_faulted, purge_faulted, region_faulted, release_faulted, reset_row_faulted, returned_faulted, stacks_faulted, take_queue_faulted, to_fault_more, uncount_object_faulted, validated_faulted}
 use Rattle.pool_driver.proofs.RegionFaults.{empties_faulted, instantiates_faulted}
-
-rise_more : (n m : ℕ) → n < m → m < 2 ^ 64 → 1 ≤ rise n m
-rise_more n m more small = omega (arith, more, small)
-
--- What a put tells of faults since the call began.
-module _ {T : Type 0} (m : Meaning T) (p : ℕ) (x y : T) (base v w : View T) (put : w ≡ put_view m p x y v) (began : HoldsMore base v) where
-  abbrev rose : ℕ
-  rose = rise (slice_index (m.counts x) cell_faults) (slice_index (m.counts y) cell_faults)
-
-  more_in : 1 ≤ rose → HasMore base w p cell_faults
-  more_in one =
-      let e : number (counted p cell_faults) w ≡ (if p == p then rose else 0) + number (counted p cell_faults) v = ap (λ (z : View T). number (counted p cell_faults) z) put in
-      let here : (if p == p then rose else 0) ≡ rose = ap (λ (b : Bool). if b then rose else 0) (eq-eqb p p refl) in
-      omega (arith, e, here, one, began.counts p cell_faults)
-
-  topped_in : m.topped y ≡ true → often p base.topped < often p w.topped
-  topped_in top =
-      let e : often p w.topped ≡ one_if (p == p) + often p v.topped = ap (λ (z : View T). often p z.topped) put ∙ ap (λ (b : Bool). often p (if b then p ∷ v.topped else v.topped)) top in
-      let here : one_if (p == p) ≡ 1 = ap one_if (eq-eqb p p refl) in
-      omega (arith, e, here, began.noted p)
-
-  pub faulted_in : (told has : ℕ) → slice_index (m.counts x) cell_faults ≡ told → slice_index (m.counts y) cell_faults ≡ has → has < 2 ^ 64 → (has ≡ 2 ^ 64 - 1 → m.topped y ≡ true) → HasFaulted told has → HasFaultedAt base w p
-  faulted_in told has was is small top = ⊎_elim
-      (λ (more : told < has). inl (more_in (rise_more _ _ (omega (arith, was, is, more)) (omega (arith, is, small)))))
-      (λ (most : 2 ^ 64 ≤ has + 1). inr (topped_in (top (omega (arith, most, small)))))
-
--- What was told of a fault stays told.
-still_faulted : {T : Type 0} (base v w : View T) (plan : Plan) → HoldsMore v w → CellFaulted base v plan → CellFaulted base w plan
-still_faulted base v w plan more had = record {
-  slot = had.slot;
-  place = had.place;
-  cell = had.cell;
-  faulted = ⊎_elim
-      (λ (rose : HasMore base v had.place cell_faults). inl (omega (arith, rose, more.counts had.place cell_faults)))
-      (λ (topped : often had.place base.topped < often had.place v.topped). inr (omega (arith, topped, more.noted had.place)))
-      had.faulted;
-}
-
-module _ {P H : Type 0} where
-  -- the part at the place of a memory's cell is one
-  a_memory : (maker : MakerTold) (s : Settings) (name : SlotName) (x : PoolPart P H) → name.kind ≡ memory_kind → IsPartFor maker s (cell_role name) x → x ≡ part.Memory (cell_of_part x)
-  a_memory maker s name (part.Memory cell) kind is = refl
-  a_memory maker s name (part.Table cell) kind is = let apart : memory_kind ≡ table_kind = sym kind ∙ is.0 in absurd cc
-  a_memory maker s name (part.Stack cell) kind is = let apart : memory_kind ≡ stack_kind = sym kind ∙ is.0 in absurd cc
-  a_memory maker s name (part.Shard shard) kind is = absurd is
-  a_memory maker s name (part.Queue q) kind is = absurd is
-  a_memory maker s name (part.Heaps heaps) kind is = absurd is
+use Rattle.pool_driver.proofs.CellPuts.{faulted_home, still_faulted}
 
 module _ {T P H : Type 0} (about : T → About) (inner : T → PoolPart P H) (Passes : List Exchange → Type 0) (old new : PartyTold) (a : About) (base v w : View T) (f next : Frame P H) (o : Option (Outcome P H)) (began : HoldsMore base v) (keeps : FrameKeeps f) (s : SeesStep about inner Passes old new a v w f next o) where
   -- the core on which the step was made, and the frame while it is
@@ -132,55 +71,11 @@ module _ {T P H : Type 0} (about : T → About) (inner : T → PoolPart P H) (Pa
   told p is = subst (λ (q : Phase P H). MayBeTold c.settings given q f) is s.row.1.0.told
 
   -- A region is put back into the cell that it came out of.
-  module _ (at : TakenSlot) (held : ImageSlot P) (is : f.phase ≡ PutBack at held) where
-    abbrev place : ℕ
-    place = cell_place c.plan at.name
-
-    abbrev cell : CellState
-    cell = cell_named at.name c
-
-    abbrev filled : CellState
-    filled = cell_filled (cell_of held) cell
-
-    put : PutAt about inner Passes old new a v w f next o place s.core s.left
-    put = placed_at about inner Passes old new a v w f next o s (PutBack at held) place is refl
-
-    own : IsOwn at.name at.numbers (cell_of held) c
-    own = subst (λ (q : Phase P H). OwnPut q c f) is (own_numbers a.maker c f s.can)
-
-    has : HasRegion a.maker c.settings c.plan at.name (cell_of held)
-    has = (shape (PutBack at held) is).2
-
-    module _ (kind : at.name.kind ≡ memory_kind) where
-      here : part_at place c.parts ≡ part.Memory cell
-      here = a_memory a.maker c.settings at.name (part_at place c.parts) kind (planned_cell a.maker at.name c s.can.core has.named)
-
-      there : inner put.after ≡ part.Memory filled
-      there =
-          sym put.is
-          ∙ ap (λ (z : PoolCore P H). part_at place z.parts) (left_is about inner Passes old new a v w f next o s (PutBack at held) is)
-          ∙ part_same place (part_holding filled (part_at place c.parts)) c (cell_part a.maker at.name c s.can.core has.named).inside
-          ∙ ap (part_holding filled) here
-
-      faults_after : (cell_numbers filled).faults ≡ faults_in (cell_of held)
-      faults_after = faults_there cell.out cell.name.kind (cell_of held) cell.name own.awaited.own
-
-      was : slice_index (part_counts (inner put.before)) cell_faults ≡ at.numbers.faults
-      was = ap (λ (z : PoolPart P H). slice_index (part_counts z) cell_faults) (sym put.was ∙ here) ∙ ap (λ (n : RegionNumbers). n.faults) (numbers_out cell.out cell.name.kind cell.holds own.awaited.empty) ∙ own.out
-
-      now : slice_index (part_counts (inner put.after)) cell_faults ≡ faults_in (cell_of held)
-      now = ap (λ (z : PoolPart P H). slice_index (part_counts z) cell_faults) there ∙ faults_after
-
-      top : faults_in (cell_of held) ≡ 2 ^ 64 - 1 → part_topped (inner put.after) ≡ true
-      top most = ap (λ (z : PoolPart P H). part_topped z) there ∙ eq-eqb (cell_numbers filled).faults (2 ^ 64 - 1) (faults_after ∙ most)
-
-      came_home : HasFaulted at.numbers.faults (faults_in (cell_of held)) → CellFaulted base w c.plan
-      came_home faulted = record {
-        slot = at.name.slot;
-        place = place;
-        cell = cell_role_at c.plan (length c.parts) at.name s.can.core.plan has.named ∙ ap (λ (k : SlotKind). cell_role (record { kind = k; slot = at.name.slot })) kind;
-        faulted = faulted_in (pool_meaning about inner) place put.before put.after base v w put.put began at.numbers.faults (faults_in (cell_of held)) was now (let small = put.small_after cell_faults in omega (arith, now, small)) top faulted;
-      }
+  came_home : (at : TakenSlot) (held : ImageSlot P) → f.phase ≡ PutBack at held → at.name.kind ≡ memory_kind → HasFaulted at.numbers.faults (faults_in (cell_of held)) → CellFaulted base w c.plan
+  came_home at held is kind faulted =
+      let put : PutAt about inner Passes old new a v w f next o (cell_place c.plan at.name) s.core s.left = placed_at about inner Passes old new a v w f next o s (PutBack at held) (cell_place c.plan at.name) is refl in
+      let own : IsOwn at.name at.numbers (cell_of held) c = subst (λ (q : Phase P H). OwnPut q c f) is (own_numbers a.maker c f s.can) in
+      faulted_home about inner Passes old new a base v w f next o began s at.name at.numbers (cell_of held) own put (ap (λ (z : PoolCore P H). z.parts) (left_is about inner Passes old new a v w f next o s (PutBack at held) is)) (λ k. k ≡ memory_kind) kind faulted
 
   abbrev X : Type 0
   X = CellFaulted base w c.plan
@@ -189,17 +84,17 @@ module _ {T P H : Type 0} (about : T → About) (inner : T → PoolPart P H) (Pa
   Had p = PhaseFaulted (CellFaulted base v c.plan) p f.ending
 
   on : IfToFault (CellFaulted base v c.plan) f.ending → IfToFault X f.ending
-  on k = to_fault_more (CellFaulted base v c.plan) X (still_faulted base v w c.plan (sees_more about inner Passes old new a v w f next o s)) f.ending k
+  on k = to_fault_more (CellFaulted base v c.plan) X (still_faulted (λ kind. kind ≡ memory_kind) base v w c.plan (sees_more about inner Passes old new a v w f next o s)) f.ending k
 
   put_back : (at : TakenSlot) (held : ImageSlot P) → f.phase ≡ PutBack at held → Had (PutBack at held) → IfToFault X f.ending
   put_back at held is k = to_fault_more (CellFaulted base v c.plan ⊎ PutsMemory {H = H} (PutBack at held)) X
       (⊎_elim
-      (λ (had : CellFaulted base v c.plan). still_faulted base v w c.plan (sees_more about inner Passes old new a v w f next o s) had)
+      (λ (had : CellFaulted base v c.plan). still_faulted (λ kind. kind ≡ memory_kind) base v w c.plan (sees_more about inner Passes old new a v w f next o s) had)
       (λ (puts : PutsMemory {H = H} (PutBack at held)). came_home at held is puts.0 puts.1))
       f.ending k
 
   -- a page call of an instantiation that fails raises the region's faults
-  instantiated : (at : TakenSlot) (held : Slot) → f.phase ≡ Instantiate at held → given.fault ≡ true → HasFaulted at.numbers.faults given.slot.region.faults
+  pub instantiated : (at : TakenSlot) (held : Slot) → f.phase ≡ Instantiate at held → given.fault ≡ true → HasFaulted at.numbers.faults given.slot.region.faults
   instantiated at held is fails =
       let n : ℕ = at.numbers.faults in
       let I : Bool → MemoryDecl → Type 0 = λ b decl. InstantiatesFor c.settings decl b (image_wanted f) held given.slot in
@@ -208,7 +103,7 @@ module _ {T P H : Type 0} (about : T → About) (inner : T → PoolPart P H) (Pa
       (λ decl tells. instantiates_faulted n (minimum_byte_size decl.ty) (hides decl.ty c.settings.tunables held.region.page) (image_wanted f) held given.slot tells (kept (Instantiate at held) is))
       (subst (λ (b : Bool). IfAllocated f (I b)) fails (told (Instantiate at held) is)))
 
-  emptied : (at : TakenSlot) (held : Slot) → f.phase ≡ Empty at held → given.fault ≡ true → HasFaulted at.numbers.faults given.slot.region.faults
+  pub emptied : (at : TakenSlot) (held : Slot) → f.phase ≡ Empty at held → given.fault ≡ true → HasFaulted at.numbers.faults given.slot.region.faults
   emptied at held is fails = empties_faulted at.numbers.faults held given.slot (subst (λ (b : Bool). Empties b held given.slot) fails (told (Empty at held) is)) (kept (Empty at held) is)
 
   -- each row
@@ -260,10 +155,14 @@ pub faulted_begins : {P H : Type 0} (known : Type 0) (begun : Call P H) (f : Fra
 faulted_begins known call.Key f = tt
 faulted_begins known (call.Module m) f = tt
 faulted_begins known (call.Component info) f = tt
+faulted_begins known (call.Memory m) f = tt
+faulted_begins known (call.Table ty) f = tt
 faulted_begins known call.Stack f = tt
 faulted_begins known (call.Heap ty) f = tt
 faulted_begins known (call.GiveBack (Instance lease)) f = (returned_faulted known lease.memories.items lease.tables.items (record f { asked = asked.Nothing; objects = lease; ending = returned }) tt).frame
 faulted_begins known (call.GiveBack Component) f = tt
+faulted_begins known (call.GiveBack (Memory lease)) f = tt
+faulted_begins known (call.GiveBack (Table lease)) f = tt
 faulted_begins known (call.GiveBack (Stack lease)) f = tt
 faulted_begins known (call.GiveBack (Heap lease memory)) f = tt
 faulted_begins known (call.Purge id) f = tt

@@ -24,9 +24,11 @@ use Rattle.pool_alloc.specs.Leases.{Lease}
 use Rattle.pool_alloc.specs.MemorySteps.{image_made}
 use Rattle.pool_alloc.specs.Objects.{objects_in, objects_wanted}
 use Rattle.pool_alloc.specs.PoolStacks.{stack_made}
-use Rattle.pool_alloc.specs.StepReads.{IsForInstance, StepGiven, cell_named, heaps_at, kind_by, kind_next, memories_wanted}
-use Rattle.pool_alloc.specs.StepTable.{FlushStep, run, zero, put, free, count_object_row, flush_row, flush_step, heap_granted, heap_next, make_heap_row, paged, put_first, region_next, row_of, unmapped_next, was_made, was_made_table}
+use Rattle.pool_alloc.specs.StepReads.{IsForObjects, StepGiven, cell_named, heaps_at, kind_by, kind_next, memories_wanted}
+use Rattle.pool_alloc.specs.StepTable.{FlushStep, run, zero, put, free, count_object_row, memory_kept, memory_turn, table_kept, table_turn, flush_row, flush_step, heap_granted, heap_next, make_heap_row, paged, put_first, region_next, row_of, unmapped_next, was_made, was_made_table}
 use Rattle.pool_alloc.specs.TableLeases.{LeasedTable}
+use Rattle.pool_alloc.specs.Reserved.{with_item}
+use Rattle.pool_alloc.proofs.BeforeTheTurn.{kept_of}
 use Rattle.pool_alloc.specs.Turns.{Left, Row, Turn, after, all_returned, ends, failing, flush as flushes, flush_next, goes, goes_to, gone_to, granted_next, is_flushed, is_granting, next as goes_next, next_by, resting, returned_next, search as searches, search_next, stays}
 use Rattle.pool_alloc.specs.declared.frame.Asked.{Asked}
 use Rattle.pool_alloc.specs.declared.frame.Asked.TheVariants as asked
@@ -89,13 +91,17 @@ if_last n m k most = go (nat_lt n m) refl
 
 kind_memory : (what : Asked) (n : ℕ) → n < length (memories_wanted what) → kind_by what n ≡ memory_kind
 kind_memory asked.Stack n below = absurd (omega (arith, below))
+kind_memory (asked.Table ty) n below = absurd (omega (arith, below))
+kind_memory (asked.Memory m) n below = if_memory n _ _ below
 kind_memory asked.Nothing n below = absurd (omega (arith, below))
 kind_memory (asked.Module m) n below = if_memory n _ _ below
 kind_memory (asked.Heap ty) n below = if_memory n _ _ below
 
-kind_table : (what : Asked) (n : ℕ) → length (memories_wanted what) ≤ n → IsForInstance what → kind_by what n ≡ table_kind
+kind_table : (what : Asked) (n : ℕ) → length (memories_wanted what) ≤ n → IsForObjects what → kind_by what n ≡ table_kind
 kind_table asked.Stack n most for = absurd (omega (arith, for.no_stack))
 kind_table (asked.Heap ty) n most for = absurd (omega (arith, for.no_heap))
+kind_table (asked.Memory m) n most for = if_last n _ _ most
+kind_table (asked.Table ty) n most for = if_last n _ _ most
 kind_table asked.Nothing n most for = if_last n _ _ most
 kind_table (asked.Module m) n most for = if_last n _ _ most
 
@@ -103,6 +109,16 @@ kind_table (asked.Module m) n most for = if_last n _ _ most
 module _ {P : Type 0} (s : Settings) (plan : Plan) (aim : Ending) (queues : ℕ) (objects : InstanceLease P) where
   room_next : (what : Asked) → GrantsMore s plan aim what queues objects → granted_of (kind_by what (length objects.memories.items)) objects < wanted_of (kind_by what (length objects.memories.items)) what
   room_next asked.Stack grants = omega arith
+  room_next (asked.Memory m) grants = go (nat_lt (length objects.memories.items) 1) refl
+    where
+      go : (b : Bool) → nat_lt (length objects.memories.items) 1 ≡ b → granted_of (if b then memory_kind else table_kind) objects < wanted_of (if b then memory_kind else table_kind) (asked.Memory m)
+      go true is = ltb-true _ _ is
+      go false is = absurd (omega (arith, ltb-false (length objects.memories.items) 1 is, grants.to_grant.few))
+  room_next (asked.Table ty) grants = go (nat_lt (length objects.memories.items) 0) refl
+    where
+      go : (b : Bool) → nat_lt (length objects.memories.items) 0 ≡ b → granted_of (if b then memory_kind else table_kind) objects < wanted_of (if b then memory_kind else table_kind) (asked.Table ty)
+      go true is = absurd (omega (arith, ltb-true (length objects.memories.items) 0 is))
+      go false is = omega (arith, grants.to_grant.few_tables)
   room_next asked.Nothing grants = absurd (omega (arith, grants.more))
   room_next (asked.Module m) grants = go (nat_lt (length objects.memories.items) (length m.info.memories)) refl
     where
@@ -116,8 +132,8 @@ module _ {P : Type 0} (s : Settings) (plan : Plan) (aim : Ending) (queues : ℕ)
       go false is = omega arith
 
   few_granted : (what : Asked) → GrantsMore s plan aim what queues objects → (kind : SlotKind) → granted_of kind objects ≤ wanted_of kind what
-  few_granted what grants memory_kind = grants.to_grant.few
-  few_granted what grants table_kind = grants.to_grant.few_tables
+  few_granted what grants memory_kind = omega (arith, grants.to_grant.few, (kept_of what).memories)
+  few_granted what grants table_kind = omega (arith, grants.to_grant.few_tables, (kept_of what).tables)
   few_granted what grants stack_kind = omega arith
   few_granted what grants heap_kind = omega arith
 
@@ -163,6 +179,8 @@ module _ {P H : Type 0} where
     back_keeps [] [] g back = all g.asked
       where
         all : (what : Asked) → Keeps n (all_returned what g)
+        all (asked.Memory m) = λ asks. absurd cc
+        all (asked.Table ty) = λ asks. absurd cc
         all asked.Stack = λ asks. absurd cc
         all (asked.Heap ty) = λ asks. absurd cc
         all asked.Nothing = λ asks. never_back g.asked g.ending (objects_in g.objects) back asks
@@ -285,22 +303,36 @@ module _ {P H : Type 0} (c : PoolCore P H) (f : Frame P H) where
   hand_by kind k = if same_kind kind k then 1 else 0
 
   memory_keeps : (lease : Lease) → kind_next f ≡ memory_kind → RowKeeps (CountObject (object.Memory lease)) (count_object_row (object.Memory lease) c e)
-  memory_keeps lease is = let r = count_object_row (object.Memory lease) c e in turn_keeps (had (CountObject (object.Memory lease))) r.turn r.frame has
+  memory_keeps lease is = by f.asked
     where
-      has : (kind : SlotKind) → had (CountObject (object.Memory lease)) kind ≤ granted_of kind (count_object_row (object.Memory lease) c e).frame.objects
+      kept : Frame P H
+      kept = record e { objects = record e.objects { memories = with_item lease e.objects.memories }; queues = 0 }
+
+      has : (kind : SlotKind) → had (CountObject (object.Memory lease)) kind ≤ granted_of kind kept.objects
       has memory_kind = omega (arith, one_at_most (same_kind memory_kind (kind_next f)), length-append f.objects.memories.items (lease ∷ []))
       has table_kind = let none : hand_by table_kind (kind_next f) ≡ 0 = ap (hand_by table_kind) is in omega (arith, none)
       has stack_kind = let none : hand_by stack_kind (kind_next f) ≡ 0 = ap (hand_by stack_kind) is in omega (arith, none)
       has heap_kind = let none : hand_by heap_kind (kind_next f) ≡ 0 = ap (hand_by heap_kind) is in omega (arith, none)
 
+      by : (what : Asked) → Keeps (had (CountObject (object.Memory lease))) (after (memory_kept what lease e) (memory_turn what lease))
+      by (asked.Memory m) = λ asks. absurd cc
+      by what = turn_keeps (had (CountObject (object.Memory lease))) goes_next kept has
+
   table_keeps : (lease : LeasedTable) → kind_next f ≡ table_kind → RowKeeps (CountObject (object.Table lease)) (count_object_row (object.Table lease) c e)
-  table_keeps lease is = let r = count_object_row (object.Table lease) c e in turn_keeps (had (CountObject (object.Table lease))) r.turn r.frame has
+  table_keeps lease is = by f.asked
     where
-      has : (kind : SlotKind) → had (CountObject (object.Table lease)) kind ≤ granted_of kind (count_object_row (object.Table lease) c e).frame.objects
+      kept : Frame P H
+      kept = record e { objects = record e.objects { tables = with_item lease e.objects.tables }; queues = 0 }
+
+      has : (kind : SlotKind) → had (CountObject (object.Table lease)) kind ≤ granted_of kind kept.objects
       has memory_kind = let none : hand_by memory_kind (kind_next f) ≡ 0 = ap (hand_by memory_kind) is in omega (arith, none)
       has table_kind = omega (arith, one_at_most (same_kind table_kind (kind_next f)), length-append f.objects.tables.items (lease ∷ []))
       has stack_kind = let none : hand_by stack_kind (kind_next f) ≡ 0 = ap (hand_by stack_kind) is in omega (arith, none)
       has heap_kind = let none : hand_by heap_kind (kind_next f) ≡ 0 = ap (hand_by heap_kind) is in omega (arith, none)
+
+      by : (what : Asked) → Keeps (had (CountObject (object.Table lease))) (after (table_kept what lease e) (table_turn what lease))
+      by (asked.Table ty) = λ asks. absurd cc
+      by what = turn_keeps (had (CountObject (object.Table lease))) goes_next kept has
 
   put_first_keeps : (o : Option Queued) (rest : List Queued) → RowKeeps Flush (put_first o rest c e)
   put_first_keeps None rest = row_turn Flush refl (put_first None rest c e) (λ kind. refl)

@@ -47,10 +47,9 @@ use Rattle.pool_alloc.proofs.PoolParts.{part_same, shard_part, sound_shard}
 use Rattle.pool_driver.specs.Calling.{CallKind, MayAnswer, gives_back, kind_at, kind_of, purges}
 use Rattle.pool_driver.specs.Driving.{SeesStep}
 use Rattle.pool_driver.specs.Placed.{About, part_counts, pool_meaning}
-use Rattle.pool_driver.specs.Purging.{AreFewer, HasMissed, HasPurged, HasSoManyMore, IfPurged, PhaseMissed, ShardsMissed, StepMissed, StripesMissed}
-use Rattle.pool_driver.specs.Releasing.{stripe_shard}
-use Rattle.pool_driver.specs.Telling.{HasMore, HoldsMore}
-use Rattle.pool_driver.proofs.Holding.{holds_on, more_now, same_holds}
+use Rattle.pool_driver.specs.Purging.{AreFewer, HasMissed, HasPurged, IfPurged, PhaseMissed, ShardsMissed, StepMissed, StripesMissed}
+use Rattle.pool_driver.specs.Telling.{HasMore, HasSoManyMore, HoldsMore, stripe_shard}
+use Rattle.pool_driver.proofs.Holding.{holds_on, more_now, one_shard_more, one_stripe_more, same_holds, shards_held, stripes_held}
 use Rattle.pool_driver.proofs.Naming.{PutAt, a_shard, left_is, placed_at, sees_more}
 use Rattle.pool_driver.proofs.OtherKinds.{no_purge}
 
@@ -108,19 +107,6 @@ module _ {T P H : Type 0} (base w : View T) (plan : Plan) (per_module : ℕ) whe
   after_missed f (ends outcome) k = record { frame = tt; answer = k }
   after_missed f turn k = absurd k
 
-module _ {T : Type 0} (base w : View T) (plan : Plan) where
-  -- All shards of a stripe missed each memory, as those of the stripes before it.
-  whole_stripe : (per_module stripe times : ℕ) → StripesMissed base w plan stripe per_module → ShardsMissed base w plan stripe (stripe_allocator plan stripe).shards times → per_module ≤ times → StripesMissed base w plan (stripe + 1) per_module
-  whole_stripe per_module stripe times had here all i below j inside = ⊎_elim
-      (λ (less : i < stripe). had i less j inside)
-      (λ (most : stripe ≤ i).
-      let same : i ≡ stripe = omega (arith, below, most) in
-      let within : j < (stripe_allocator plan stripe).shards = subst (λ (k : ℕ). j < (stripe_allocator plan k).shards) same inside in
-      let there : HasSoManyMore base w (stripe_shard plan stripe j) affine_misses times = here j within in
-      let enough : HasSoManyMore base w (stripe_shard plan stripe j) affine_misses per_module = omega (arith, there, all) in
-      subst (λ (k : ℕ). HasSoManyMore base w (stripe_shard plan k j) affine_misses per_module) (sym same) enough)
-      (cases_lt i stripe)
-
 module _ (P H : Type 0) {T : Type 0} (base w : View T) (plan : Plan) (per_module : ℕ) (began : HoldsMore base w) where
   -- what a turn of a purge says, of such a party
   abbrev Says : Turn P H → Type 0
@@ -147,7 +133,7 @@ module _ (P H : Type 0) {T : Type 0} (base w : View T) (plan : Plan) (per_module
       go true further = rw further (record { small = small; found = omega arith; before = had; stripe = here; shards = λ fewer j below. absurd (omega (arith, below)) })
       go false last =
           let most = ltb-false (p.memory + 1) per_module last in
-          rw last (stripe_missed p small (λ fewer. whole_stripe base w plan per_module p.stripe (p.memory + 1) (had fewer) (here fewer) most))
+          rw last (stripe_missed p small (λ fewer. one_stripe_more base w plan affine_misses per_module (p.memory + 1) p.stripe (stripe_allocator plan p.stripe).shards (had fewer) (here fewer) (omega arith) most))
 
   -- The turn behind a slot that was freed. Where the stripe has no more slots, the purge found as many.
   turn_missed : (p : PurgeCursor) → p.stripe < length plan.memories → (stripe_allocator plan p.stripe).capacity < 2 ^ 64 → HasPurged base w plan per_module p 0 (p.turn + 1) → Says (purge_to p (behind_turn per_module plan p))
@@ -216,16 +202,13 @@ module _ {T P H : Type 0} (about : T → About) (inner : T → PoolPart P H) (Pa
   began_after = holds_on base v w began more
 
   -- what was missed stays so
-  missed_held : (p i n : ℕ) → HasSoManyMore base v p i n → HasSoManyMore base w p i n
-  missed_held p i n had = let risen = more.counts p i in omega (arith, had, risen)
-
   purged_held : (p : PurgeCursor) (tried turns : ℕ) → HasPurged base v c.plan each p tried turns → HasPurged base w c.plan each p tried turns
   purged_held p tried turns had = record {
     small = had.small;
     found = had.found;
-    before = λ fewer stripe below j inside. missed_held (stripe_shard c.plan stripe j) affine_misses each (had.before fewer stripe below j inside);
-    stripe = λ fewer j below. missed_held (stripe_shard c.plan p.stripe j) affine_misses p.memory (had.stripe fewer j below);
-    shards = λ fewer j below. missed_held (stripe_shard c.plan p.stripe j) affine_misses (p.memory + 1) (had.shards fewer j below);
+    before = λ fewer. stripes_held base v w more c.plan affine_misses each p.stripe (had.before fewer);
+    stripe = λ fewer. shards_held base v w more c.plan affine_misses p.memory p.stripe (stripe_allocator c.plan p.stripe).shards (had.stripe fewer);
+    shards = λ fewer. shards_held base v w more c.plan affine_misses (p.memory + 1) p.stripe tried (had.shards fewer);
   }
 
   shape : (p : Phase P H) → f.phase ≡ p → IsShapedAt a.maker c.settings c.plan p f
@@ -266,15 +249,10 @@ module _ {T P H : Type 0} (about : T → About) (inner : T → PoolPart P H) (Pa
         ((λ i. rise (slice_index (part_counts (was i)) affine_misses) (slice_index (part_counts (now i)) affine_misses)) ∙ miss_counted (purged_memory p) shard sound none)
 
     shards_next : HasPurged base v c.plan each p tried p.turn → affine_answer (purged_memory p) shard ≡ None → AreFewer c.plan p.purged → ShardsMissed base w c.plan p.stripe (tried + 1) (p.memory + 1)
-    shards_next had none fewer k below = ⊎_elim
-        (λ (less : k < tried). missed_held (stripe_shard c.plan p.stripe k) affine_misses (p.memory + 1) (had.shards fewer k less))
-        (λ (last : tried ≤ k).
-        let same : k ≡ tried = omega (arith, below, last) in
+    shards_next had none fewer =
         let so_far : HasSoManyMore base v place affine_misses p.memory = had.stripe fewer tried inside in
         let once : HasMore v w place affine_misses = missed_here none in
-        let there : HasSoManyMore base w place affine_misses (p.memory + 1) = omega (arith, so_far, once) in
-        subst (λ (n : ℕ). HasSoManyMore base w (stripe_shard c.plan p.stripe n) affine_misses (p.memory + 1)) (sym same) there)
-        (cases_lt k tried)
+        one_shard_more base w c.plan affine_misses (p.memory + 1) p.stripe tried (shards_held base v w more c.plan affine_misses (p.memory + 1) p.stripe tried (had.shards fewer)) (omega (arith, so_far, once))
 
   -- what a turn says after the step
   abbrev Says' : Turn P H → Type 0
@@ -341,6 +319,8 @@ pub missed_begins : {T P H : Type 0} (v : View T) (plan : Plan) (per_module : �
 missed_begins v plan per_module call.Key f kind = tt
 missed_begins v plan per_module (call.Module m) f kind = tt
 missed_begins v plan per_module (call.Component info) f kind = tt
+missed_begins v plan per_module (call.Memory m) f kind = tt
+missed_begins v plan per_module (call.Table ty) f kind = tt
 missed_begins v plan per_module call.Stack f kind = tt
 missed_begins v plan per_module (call.Heap ty) f kind = tt
 missed_begins v plan per_module (call.GiveBack grant) f kind = none_missed_on v v plan per_module (begun_call (call.GiveBack grant) f) (λ on. let apart : gives_back ≡ purges = sym kind ∙ on in absurd cc)

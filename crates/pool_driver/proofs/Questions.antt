@@ -16,7 +16,7 @@ use Rattle.pool_memory.specs.Making.{limits_answer, maximum_asked, minimum_quest
 use Rattle.pool_table.specs.Making.{making_question}
 use Rattle.pool_slots.specs.declared.errors.AllocError.{AllocError}
 use Rattle.pool_slots.specs.declared.errors.AllocError.TheVariants as refusal
-use Rattle.pool_alloc.specs.CallStages.{Progress, Stage, untested, uncounted, admitted, seeks_stack, tests_heap, seeks_heap, counts_heap, asks, progress_by, stage_by}
+use Rattle.pool_alloc.specs.CallStages.{Progress, Stage, untested, uncounted, admitted, seeks_single, seeks_stack, tests_heap, seeks_heap, counts_heap, asks, progress_by, stage_by}
 use Rattle.pool_alloc.specs.MemorySteps.{made_of, made_of_limits}
 use Rattle.pool_alloc.specs.StepReads.{heaps_wanted, memories_wanted, stacks_wanted, tables_wanted}
 use Rattle.pool_alloc.specs.TableLeases.{LeasedTable}
@@ -159,12 +159,16 @@ yes_here a aim k s xs is grants none had = by a none (subst (λ (z : Stage). Ask
     by : (b : Asked) → stacks_wanted b ≡ 0 → AskedSoFar a (asks (progress_by b k)) xs → YesTo a k xs
     by asked_for.Nothing no_stack so = so
     by (asked_for.Module m) no_stack so = so
+    by (asked_for.Memory m) no_stack so = so
+    by (asked_for.Table ty) no_stack so = so
     by asked_for.Stack no_stack so = absurd (omega (arith, no_stack))
     by (asked_for.Heap ty) no_stack so = so
 
 pub yes_there : (a b : Asked) (k : ℕ) (xs : List Exchange) → stacks_wanted b ≡ 0 → YesTo a k xs → AskedSoFar a (asks (progress_by b k)) xs
 yes_there a asked_for.Nothing k xs none allowed = allowed
 yes_there a (asked_for.Module m) k xs none allowed = allowed
+yes_there a (asked_for.Memory m) k xs none allowed = allowed
+yes_there a (asked_for.Table ty) k xs none allowed = allowed
 yes_there a asked_for.Stack k xs none allowed = absurd (omega (arith, none))
 yes_there a (asked_for.Heap ty) k xs none allowed = allowed
 
@@ -172,6 +176,7 @@ pub some_yes : (a : Asked) (p : Progress) (xs : List Exchange) → RequestAsked 
 some_yes a untested xs had = (0, had)
 some_yes a uncounted xs had = (0, had)
 some_yes a (admitted n) xs had = (n, had)
+some_yes a (seeks_single n) xs had = (n, had)
 some_yes a seeks_stack xs had = (0, had)
 some_yes a tests_heap xs had = (0, had)
 some_yes a (seeks_heap n) xs had = (n, had)
@@ -180,5 +185,7 @@ some_yes a counts_heap xs had = (length (questions a), had ∙ ap all_yes (sym (
 pub no_tables : (a : Asked) → heaps_wanted a ≡ 1 → length (tables_wanted a) ≡ 0
 no_tables asked_for.Nothing one = refl
 no_tables (asked_for.Module m) one = absurd (omega (arith, one))
+no_tables (asked_for.Memory m) one = refl
+no_tables (asked_for.Table ty) one = absurd (omega (arith, one))
 no_tables asked_for.Stack one = refl
 no_tables (asked_for.Heap ty) one = refl

@@ -5,7 +5,7 @@ use Rattle.std.specs.List.{AllByRecursion}
 use Rattle.pool_hall.specs.declared.unit_name.SlotKind.{SlotKind}
 use Rattle.pool_memory.specs.Memories.{slot_of}
 use Rattle.pool_pages.specs.Told.{Told}
-use Rattle.pool_slots.specs.SlotQueues.{Queued, Queue, by_kind, first_of_kind, first_zeroed, is_to_zero, others_of_kind, same_kind, zeroed, zeroed_by}
+use Rattle.pool_slots.specs.SlotQueues.{Queued, Queue, by_kind, first_zeroed, is_to_zero, others_of_kind, same_kind, zeroed, zeroed_by}
 use Rattle.pool_slots.proofs.ByKinds.{each_by_kind}
 use Rattle.pool_slots.proofs.Lists.{each_append}
 use Rattle.pool_alloc.specs.Leases.{Lease, slot_taken}
@@ -22,38 +22,37 @@ pub by_choice : {X : Type 0} (Q : X → Type 0) (b : Bool) (x y : X) → Q x →
 by_choice Q true x y left right = left
 by_choice Q false x y left right = right
 
--- Slots come in, one or several.
-pub pushed_keep : (m : Queued) (ms : List Queued) → AllByRecursion QueuedKeeps ms → QueuedKeeps m → AllByRecursion QueuedKeeps (by_kind (ms ++ m ∷ []))
-pushed_keep m ms k one = each_by_kind QueuedKeeps (ms ++ m ∷ []) (each_append QueuedKeeps ms (m ∷ []) k (one, tt))
+-- What each queued slot has, each has still where slots come in, one or several,
+pub pushed_each : (Q : Queued → Type 0) (m : Queued) (ms : List Queued) → AllByRecursion Q ms → Q m → AllByRecursion Q (by_kind (ms ++ m ∷ []))
+pushed_each Q m ms k one = each_by_kind Q (ms ++ m ∷ []) (each_append Q ms (m ∷ []) k (one, tt))
 
-pub joined_keep : (ms more : List Queued) → AllByRecursion QueuedKeeps ms → AllByRecursion QueuedKeeps more → AllByRecursion QueuedKeeps (by_kind (ms ++ more))
-joined_keep ms more k l = each_by_kind QueuedKeeps (ms ++ more) (each_append QueuedKeeps ms more k l)
+pub joined_each : (Q : Queued → Type 0) (ms more : List Queued) → AllByRecursion Q ms → AllByRecursion Q more → AllByRecursion Q (by_kind (ms ++ more))
+joined_each Q ms more k l = each_by_kind Q (ms ++ more) (each_append Q ms more k l)
 
--- The first of a kind leaves, or is zeroed.
-pub first_keeps : (kind : SlotKind) (ms : List Queued) → AllByRecursion QueuedKeeps ms → IfSome (first_of_kind kind ms) QueuedKeeps
-first_keeps kind [] k = tt
-first_keeps kind (m ∷ ms) k = by_choice (λ (o : Option Queued). IfSome o QueuedKeeps) (same_kind kind m.name.kind) (Some m) (first_of_kind kind ms) k.0 (first_keeps kind ms k.1)
+-- and where the first of a kind leaves, or is zeroed.
+pub others_each : (Q : Queued → Type 0) (kind : SlotKind) (ms : List Queued) → AllByRecursion Q ms → AllByRecursion Q (others_of_kind kind ms)
+others_each Q kind [] k = tt
+others_each Q kind (m ∷ ms) k = by_choice (λ (l : List Queued). AllByRecursion Q l) (same_kind kind m.name.kind) ms (m ∷ others_of_kind kind ms) k.1 (k.0, others_each Q kind ms k.1)
 
-pub others_keep : (kind : SlotKind) (ms : List Queued) → AllByRecursion QueuedKeeps ms → AllByRecursion QueuedKeeps (others_of_kind kind ms)
-others_keep kind [] k = tt
-others_keep kind (m ∷ ms) k = by_choice (λ (l : List Queued). AllByRecursion QueuedKeeps l) (same_kind kind m.name.kind) ms (m ∷ others_of_kind kind ms) k.1 (k.0, others_keep kind ms k.1)
+pub first_zeroed_each : (Q : Queued → Type 0) (kind : SlotKind) (ms : List Queued) → ((m : Queued) → Q m → Q (zeroed m)) → AllByRecursion Q ms → AllByRecursion Q (first_zeroed kind ms)
+first_zeroed_each Q kind [] still k = tt
+first_zeroed_each Q kind (m ∷ ms) still k = by_choice (λ (l : List Queued). AllByRecursion Q l) (is_to_zero kind m) (zeroed m ∷ ms) (m ∷ first_zeroed kind ms) (still m k.0, k.1) (k.0, first_zeroed_each Q kind ms still k.1)
 
-zeroed_keeps : (o : Option ℕ) (m : Queued) → QueuedKeeps m → QueuedKeeps (zeroed_by o m)
-zeroed_keeps None m k = k
-zeroed_keeps (Some n) m k = k
+-- Zeroing a slot by hand leaves the faults of its region.
+zeroed_by_keeps : (o : Option ℕ) (m : Queued) → QueuedKeeps m → QueuedKeeps (zeroed_by o m)
+zeroed_by_keeps None m k = k
+zeroed_by_keeps (Some n) m k = k
 
-pub first_zeroed_keep : (kind : SlotKind) (ms : List Queued) → AllByRecursion QueuedKeeps ms → AllByRecursion QueuedKeeps (first_zeroed kind ms)
-first_zeroed_keep kind [] k = tt
-first_zeroed_keep kind (m ∷ ms) k =
-    by_choice (λ (l : List Queued). AllByRecursion QueuedKeeps l) (is_to_zero kind m) (zeroed m ∷ ms) (m ∷ first_zeroed kind ms) (zeroed_keeps m.by_hand m k.0, k.1) (k.0, first_zeroed_keep kind ms k.1)
+pub zeroed_keeps : (m : Queued) → QueuedKeeps m → QueuedKeeps (zeroed m)
+zeroed_keeps m k = zeroed_by_keeps m.by_hand m k
 
 -- An object is reset into a queue.
 pub memory_reset_keeps : (keep : ℕ) (lease : Lease) (q : Queue) → LeaseKeeps lease → QueueKeeps q → QueueKeeps (reset_into keep (slot_taken lease) (slot_of lease.memory) q)
-memory_reset_keeps keep lease q one k = pushed_keep (slot_ended keep (slot_taken lease) (slot_of lease.memory)) q.slots k (reset_keeps lease.numbers.faults keep (slot_taken lease) (slot_of lease.memory) one)
+memory_reset_keeps keep lease q one k = pushed_each QueuedKeeps (slot_ended keep (slot_taken lease) (slot_of lease.memory)) q.slots k (reset_keeps lease.numbers.faults keep (slot_taken lease) (slot_of lease.memory) one)
 
 pub table_reset_keeps : (page keep : ℕ) (lease : LeasedTable) (o : Option Told) (q : Queue) → IfSome o (λ region. KeepsFaults lease.numbers.faults region.faults) → QueueKeeps q → QueueKeeps (reset_in page keep lease o q)
 table_reset_keeps page keep lease None q one k = k
-table_reset_keeps page keep lease (Some region) q one k = pushed_keep (table_queued page keep lease region) q.slots k one
+table_reset_keeps page keep lease (Some region) q one k = pushed_each QueuedKeeps (table_queued page keep lease region) q.slots k one
 
 pub stack_reset_keeps : (keep : ℕ) (lease : LeasedStack) (q : Queue) → StackKeeps lease → QueueKeeps q → QueueKeeps (stack_reset keep lease q)
-stack_reset_keeps keep lease q one k = pushed_keep _ q.slots k (stack_keeps lease.numbers.faults lease.stack.zeroing keep lease.stack one)
+stack_reset_keeps keep lease q one k = pushed_each QueuedKeeps _ q.slots k (stack_keeps lease.numbers.faults lease.stack.zeroing keep lease.stack one)

@@ -6,7 +6,7 @@ use Rattle.pool_types.specs.declared.unsupported.Unsupported.{Unsupported}
 use Rattle.pool_pages.specs.MakerTold.{MakerTold}
 use Rattle.pool_slots.specs.declared.errors.AllocError.{AllocError}
 use Rattle.pool_slots.specs.declared.errors.AllocError.TheVariants as refusal
-use Rattle.pool_alloc.specs.CallStages.{FailsHeap, FindsNone, Goes, IsBroken, IsPageFaulted, IsUntested, Makes, MakesTable, Progress, Raises, Stage, admitted, asks, counts_component, counts_heap, keys, no_call, purging, refusing, releasing, reserving, returning, seeks_heap, seeks_stack, tests_component, tests_heap, uncounted, untested}
+use Rattle.pool_alloc.specs.CallStages.{FailsHeap, FindsNone, Goes, IsBroken, IsPageFaulted, IsUntested, Makes, MakesTable, Progress, Raises, Stage, admitted, asks, counts_component, counts_heap, keys, no_call, purging, refusing, releasing, reserving, returning, seeks_heap, seeks_single, seeks_stack, tests_component, tests_heap, uncounted, untested}
 use Rattle.pool_alloc.specs.MemorySteps.{heap_refusal, memory_made}
 use Rattle.pool_alloc.specs.PartyTold.{PartyTold}
 use Rattle.pool_alloc.specs.Refusals.{heap_refused}
@@ -69,6 +69,10 @@ module _ {P H : Type 0} (maker : MakerTold) (old new : PartyTold) (c : PoolCore 
       (⊎_elim (λ (faulted : IsPageFaulted maker c f n e). faulted_so n e faulted) (⊎_elim (λ (makes : Makes old new c f n (Err e)). memory_so n e makes) (λ (fails : FailsHeap old new c f n e). heap_so n e fails)))
       raised
   raised_so asking counts_heap e raised = absurd raised
+  raised_so asking (seeks_single n) e raised = ⊎_elim
+      (λ (none : FindsNone c f n e). room asking n e none)
+      (⊎_elim (λ (faulted : IsPageFaulted maker c f n e). faulted_so n e faulted) (⊎_elim (λ (makes : Makes old new c f n (Err e)). memory_so n e makes) (λ (makes : MakesTable old new c f n (Err e)). table_so n e makes)))
+      raised
   raised_so asking (admitted n) e raised = ⊎_elim
       (λ (none : FindsNone c f n e). room asking n e none)
       (⊎_elim (λ (faulted : IsPageFaulted maker c f n e). faulted_so n e faulted) (⊎_elim (λ (makes : Makes old new c f n (Err e)). memory_so n e makes) (λ (makes : MakesTable old new c f n (Err e)). table_so n e makes)))
@@ -98,6 +102,7 @@ module _ {P H : Type 0} (maker : MakerTold) (old new : PartyTold) (c : PoolCore 
   refused_so e purging no_call asking goes had = absurd goes
   refused_so e releasing no_call asking goes had = absurd goes
   refused_so e (asks untested) no_call asking goes had = raised_so (asking untested refl) untested e goes
+  refused_so e (asks (seeks_single n)) no_call asking goes had = raised_so (asking (seeks_single n) refl) (seeks_single n) e goes.0
   refused_so e (asks seeks_stack) no_call asking goes had = raised_so (asking seeks_stack refl) seeks_stack e goes
   refused_so e (asks tests_heap) no_call asking goes had = raised_so (asking tests_heap refl) tests_heap e goes
   refused_so e (asks (seeks_heap n)) no_call asking goes had = raised_so (asking (seeks_heap n) refl) (seeks_heap n) e goes.0

@@ -1,5 +1,5 @@
 -- A step leaves a call so that it may end only as it might have before, and ends it as it may.
-use Rattle.std.proofs.Common.{◌≡◌, ◌⊎◌, ⊎_elim, inl, inr, ℕ, ◌<◌, ◌^◌, Bool, true, false, length, refl, sym, ap, subst, ◌∙◌, arith, Option, Some, None, Result, Ok, Err, IfSome, nat_lt, nat_le, if◌then◌else◌, slice_get}
+use Rattle.std.proofs.Common.{◌≡◌, ◌⊎◌, ⊎_elim, inl, inr, ℕ, ◌<◌, ◌^◌, Bool, true, false, List, length, refl, sym, ap, subst, ◌∙◌, arith, Option, Some, None, Result, Ok, Err, IfSome, nat_lt, nat_le, if◌then◌else◌, slice_get}
 use Rattle.std.proofs.lemmas.Bool.{ltb-true, lt-ltb, le-leb}
 use Rattle.pool_types.specs.MemoryTypes.{allow_growth_to, minimum_byte_size}
 use Rattle.pool_types.specs.declared.module_types.MemoryDecl.{MemoryDecl}
@@ -20,12 +20,14 @@ use Rattle.pool_slots.specs.declared.errors.AllocError.{AllocError}
 use Rattle.pool_slots.specs.declared.errors.AllocError.TheVariants as refusal
 use Rattle.pool_slots.specs.declared.heap_maker.HeapMakeFault.{HeapMakeFault}
 use Rattle.pool_slots.specs.declared.heap_maker.HeapMakeFault.TheVariants as no_heap
-use Rattle.pool_alloc.specs.BetweenSteps.{IsSettings, IsSupported}
-use Rattle.pool_alloc.specs.CallStages.{FailsHeap as HeapFails, FindsNone, Follows, Goes, IsBroken, IsPageFaulted, IsUntested, Makes, MakesTable, Progress, Raises, Stage, untested, uncounted, admitted, seeks_stack, tests_heap, seeks_heap, counts_heap, no_call, keys, asks, tests_component, counts_component, returning, refusing, purging, reserving, releasing}
+use Rattle.pool_alloc.specs.BetweenSteps.{IsAllocating, IsSettings, IsSupported}
+use Rattle.pool_alloc.specs.Calls.{IfGranted, IsGrantOf}
+use Rattle.pool_alloc.specs.CallStages.{FailsHeap as HeapFails, FailsObject, FindsNone, Follows, Goes, IsBroken, IsPageFaulted, IsUntested, Makes, MakesTable, Progress, Raises, Stage, untested, uncounted, admitted, seeks_single, seeks_stack, tests_heap, seeks_heap, counts_heap, no_call, keys, asks, tests_component, counts_component, returning, refusing, purging, reserving, releasing}
 use Rattle.pool_alloc.specs.MemorySteps.{heap_refusal, made_for, made_of, made_of_limits}
 use Rattle.pool_alloc.specs.PartyTold.{PartyTold}
+use Rattle.pool_alloc.specs.PlainModules.{MemoryAsked}
 use Rattle.pool_alloc.specs.Refusals.{heap_refused}
-use Rattle.pool_alloc.specs.StepReads.{IsModule, heaps_wanted, kind_by, memories_wanted, tables_wanted}
+use Rattle.pool_alloc.specs.StepReads.{IsModule, heaps_wanted, kind_by, memories_wanted, singles_wanted, tables_wanted}
 use Rattle.pool_alloc.specs.TableLeases.{LeasedTable}
 use Rattle.pool_alloc.specs.TableSteps.{made_table, made_unless}
 use Rattle.pool_alloc.specs.Turns.{limit_of}
@@ -33,13 +35,16 @@ use Rattle.pool_alloc.specs.declared.frame.Asked.{Asked}
 use Rattle.pool_alloc.specs.declared.frame.Asked.TheVariants as asked_for
 use Rattle.pool_alloc.specs.declared.frame.Frame.{Frame}
 use Rattle.pool_alloc.specs.declared.frame.Grant.{Grant}
-use Rattle.pool_alloc.specs.declared.frame.Grant.TheVariants.{Instance, Component, Stack, Heap}
+use Rattle.pool_alloc.specs.declared.frame.Grant.TheVariants.{Instance, Component, Memory as memory_granted, Table as table_granted, Stack, Heap}
 use Rattle.pool_alloc.specs.declared.frame.Outcome.{Outcome}
 use Rattle.pool_alloc.specs.declared.frame.Outcome.TheVariants.{Key, Granted, Returned, Purged, Released, Refused}
 use Rattle.pool_alloc.specs.declared.frame.TakenSlot.{TakenSlot}
 use Rattle.pool_alloc.specs.declared.pool_core.PoolCore.{PoolCore}
 use Rattle.pool_alloc.specs.declared.pool_core.Settings.{Settings}
-use Rattle.pool_driver.specs.Refusing.{FailsHeap, FailsModule, IsCallFor, IsHeapLimit, IsModuleLimit, IsRequestFor, MayEnd, RequestGranted, RequestRefused, StackRefused}
+use Rattle.pool_alloc.specs.Objects.{objects_in}
+use Rattle.pool_alloc.proofs.BeforeTheTurn.{kept_of}
+use Rattle.pool_driver.proofs.Questions.{there_is}
+use Rattle.pool_driver.specs.Refusing.{FailsHeap, FailsMemory, FailsModule, FailsSingle, FailsTable, IsCallFor, IsHeapLimit, IsMemoryAsked, IsMemoryLimit, IsModuleLimit, IsRequestFor, IsTableAsked, MayEnd, RequestGranted, RequestRefused, StackRefused}
 
 -- Whatever wasn't made, the reason is one of these
 abbrev pub IfFails : {X : Type 0} → (AllocError → Type 0) → Result X AllocError → Type 0
@@ -50,7 +55,7 @@ pub failed_so : {X : Type 0} (Q : AllocError → Type 0) (made : Result X AllocE
 failed_so Q made e is fails = subst (IfFails Q) is fails
 
 -- Why a memory isn't made, by what the limiter answered: each has its own reason.
-module _ (Q : AllocError → Type 0) (answer : Result Bool LimiterError) (wants : Q refusal.Memory) (denied : (min : ℕ) → answer ≡ Ok false → Q (refusal.LimiterDenied false min)) (faulted : (x : LimiterError) → answer ≡ Err x → Q (refusal.LimiterFault x)) (space : answer ≡ Ok true → Q (refusal.Unsupported AddressSpace)) where
+module _ (Q : AllocError → Type 0) (answer : Result Bool LimiterError) (denied : (min : ℕ) → answer ≡ Ok false → Q (refusal.LimiterDenied false min)) (faulted : (x : LimiterError) → answer ≡ Err x → Q (refusal.LimiterFault x)) (space : answer ≡ Ok true → Q (refusal.Unsupported AddressSpace)) where
   -- a memory whose least size has 64 bits and fits its slot
   memory_fits : (room : ℕ) (slot : Slot) (ty : MemoryType) → nat_lt (minimum_byte_size ty) (2 ^ 64) ≡ true → nat_le (minimum_byte_size ty) room ≡ true → (r : Result Bool LimiterError) → answer ≡ r → IfFails Q (made_of_limits (limits_answer r ty) ty room slot)
   memory_fits room slot ty small fits (Err x) is = faulted x is
@@ -64,22 +69,22 @@ module _ (Q : AllocError → Type 0) (answer : Result Bool LimiterError) (wants 
       held true = subst (λ (b : Bool). IfFails Q (made_of ty (if b then Ok (record { slot = slot; size = minimum_byte_size ty; capacity = static_capacity room (maximum_asked ty) }) else Err (slot, InitialSize)))) (sym fits) tt
       held false = space is
 
-  pub memory_fails : (s : Settings) → IsSettings s → (slot : Slot) (image : Option Image) (o : Option MemoryDecl) → IfSome o (λ decl. IsSupported s decl image) → IfFails Q (made_for s.max_memory_size answer slot o)
-  memory_fails s settings slot image None is = wants
-  memory_fails s settings slot image (Some decl) is =
+  pub memory_fails : (s : Settings) → IsSettings s → (slot : Slot) (image : Option Image) (o : Option MemoryDecl) → (o ≡ None → Q refusal.Memory) → IfSome o (λ decl. IsSupported s decl image) → IfFails Q (made_for s.max_memory_size answer slot o)
+  memory_fails s settings slot image None wants is = wants refl
+  memory_fails s settings slot image (Some decl) wants is =
       memory_fits s.max_memory_size slot decl.ty (lt-ltb _ _ (omega (arith, is.minimum, settings.bounded, settings.page.at_least))) (le-leb _ _ is.minimum) answer refl
 
 -- The same of a table.
-module _ (Q : AllocError → Type 0) (answer : Result Bool LimiterError) (wants : Q refusal.Memory) (denied : (min : ℕ) → answer ≡ Ok false → Q (refusal.LimiterDenied true min)) (faulted : (x : LimiterError) → answer ≡ Err x → Q (refusal.LimiterFault x)) (sized : (min room : ℕ) → answer ≡ Ok true → room < min → Q (refusal.Unsupported (TableSize min room))) where
+module _ (Q : AllocError → Type 0) (answer : Result Bool LimiterError) (denied : (min : ℕ) → answer ≡ Ok false → Q (refusal.LimiterDenied true min)) (faulted : (x : LimiterError) → answer ≡ Err x → Q (refusal.LimiterFault x)) (sized : (min room : ℕ) → answer ≡ Ok true → room < min → Q (refusal.Unsupported (TableSize min room))) where
   table_fits : (room min : ℕ) (lease : LeasedTable) → answer ≡ Ok true → (b : Bool) → nat_lt room min ≡ b → IfFails Q (made_unless (if b then Some (refusal.Unsupported (TableSize min room)) else None) lease)
   table_fits room min lease is true long = sized min room is (ltb-true room min long)
   table_fits room min lease is false long = tt
 
-  pub table_fails : (s : Settings) (at : TakenSlot) (region : Told) (o : Option TableType) (r : Result Bool LimiterError) → answer ≡ r → IfFails Q (made_table s r at region o)
-  table_fails s at region None r is = wants
-  table_fails s at region (Some ty) (Err x) is = faulted x is
-  table_fails s at region (Some ty) (Ok false) is = denied ty.limits.min is
-  table_fails s at region (Some ty) (Ok true) is = table_fits _ _ _ is _ refl
+  pub table_fails : (s : Settings) (at : TakenSlot) (region : Told) (o : Option TableType) → (o ≡ None → Q refusal.Memory) → (r : Result Bool LimiterError) → answer ≡ r → IfFails Q (made_table s r at region o)
+  table_fails s at region None wants r is = wants refl
+  table_fails s at region (Some ty) wants (Err x) is = faulted x is
+  table_fails s at region (Some ty) wants (Ok false) is = denied ty.limits.min is
+  table_fails s at region (Some ty) wants (Ok true) is = table_fits _ _ _ is _ refl
 
 -- what a request has no slot of
 module_limit : (a : Asked) (k stripe : ℕ) → IsModule a → IsModuleLimit (limit_of (kind_by a k) stripe)
@@ -89,6 +94,8 @@ module_limit (asked_for.Module m) k stripe is = by (nat_lt k (length m.info.memo
     by true = tt
     by false = tt
 module_limit asked_for.Nothing k stripe is = absurd is
+module_limit (asked_for.Memory m) k stripe is = absurd is
+module_limit (asked_for.Table ty) k stripe is = absurd is
 module_limit asked_for.Stack k stripe is = absurd is
 module_limit (asked_for.Heap ty) k stripe is = absurd is
 
@@ -99,6 +106,8 @@ heap_limit (asked_for.Heap ty) k stripe is = by (nat_lt k 1)
     by true = tt
     by false = tt
 heap_limit asked_for.Nothing k stripe is = absurd (omega (arith, is))
+heap_limit (asked_for.Memory m) k stripe is = absurd (omega (arith, is))
+heap_limit (asked_for.Table ty) k stripe is = absurd (omega (arith, is))
 heap_limit asked_for.Stack k stripe is = absurd (omega (arith, is))
 heap_limit (asked_for.Module m) k stripe is = absurd (omega (arith, is))
 
@@ -126,8 +135,8 @@ module _ {P H : Type 0} (maker : MakerTold) (old new : PartyTold) (c : PoolCore 
       (⊎_elim
       (λ (faulted : IsPageFaulted maker c f n e). subst FailsModule (sym faulted.is) tt)
       (⊎_elim
-      (λ (makes : Makes old new c f n (Err e)). failed_so FailsModule _ e makes.is (memory_fails FailsModule makes.given tt (λ min is. tt) (λ x is. tt) (λ is. tt) c.settings settings makes.held _ (slice_get (memories_wanted f.asked) (length f.objects.memories.items)) (makes.allocating.to_grant.supported.each (length f.objects.memories.items))))
-      (λ (makes : MakesTable old new c f n (Err e)). failed_so FailsModule _ e makes.is (table_fails FailsModule makes.given tt (λ min is. tt) (λ x is. tt) (λ min room is long. long) c.settings makes.at makes.region (slice_get (tables_wanted f.asked) (length f.objects.tables.items)) makes.given refl))))
+      (λ (makes : Makes old new c f n (Err e)). failed_so FailsModule _ e makes.is (memory_fails FailsModule makes.given (λ min is. tt) (λ x is. tt) (λ is. tt) c.settings settings makes.held _ (slice_get (memories_wanted f.asked) (length f.objects.memories.items)) (λ none. tt) (makes.allocating.to_grant.supported.each (length f.objects.memories.items))))
+      (λ (makes : MakesTable old new c f n (Err e)). failed_so FailsModule _ e makes.is (table_fails FailsModule makes.given (λ min is. tt) (λ x is. tt) (λ min room is long. long) c.settings makes.at makes.region (slice_get (tables_wanted f.asked) (length f.objects.tables.items)) (λ none. tt) makes.given refl))))
 
   heap_raises : (n : ℕ) (e : AllocError) → heaps_wanted f.asked ≡ 1 → FindsNone c f n e ⊎ (IsPageFaulted maker c f n e ⊎ (Makes old new c f n (Err e) ⊎ HeapFails old new c f n e)) → FailsHeap e
   heap_raises n e is = ⊎_elim
@@ -135,13 +144,58 @@ module _ {P H : Type 0} (maker : MakerTold) (old new : PartyTold) (c : PoolCore 
       (⊎_elim
       (λ (faulted : IsPageFaulted maker c f n e). subst FailsHeap (sym faulted.is) tt)
       (⊎_elim
-      (λ (makes : Makes old new c f n (Err e)). failed_so FailsHeap _ e makes.is (memory_fails FailsHeap makes.given tt (λ min is. refl) (λ x is. tt) (λ is. tt) c.settings settings makes.held _ (slice_get (memories_wanted f.asked) (length f.objects.memories.items)) (makes.allocating.to_grant.supported.each (length f.objects.memories.items))))
+      (λ (makes : Makes old new c f n (Err e)). failed_so FailsHeap _ e makes.is (memory_fails FailsHeap makes.given (λ min is. refl) (λ x is. tt) (λ is. tt) c.settings settings makes.held _ (slice_get (memories_wanted f.asked) (length f.objects.memories.items)) (λ none. tt) (makes.allocating.to_grant.supported.each (length f.objects.memories.items))))
       (λ (fails : HeapFails old new c f n e). subst FailsHeap (sym fails.1.1.1) (heap_fault fails.0))))
+
+  -- A request for an object by itself has none yet.
+  none_single : IsAllocating c.settings c.plan f → singles_wanted f.asked ≡ 1 → objects_in f.objects ≡ 0
+  none_single allocating one = omega (arith, allocating.to_grant.few, allocating.to_grant.few_tables, (kept_of f.asked).single one)
+
+  not_none : {X : Type 0} (xs : List X) (k : ℕ) → k < length xs → slice_get xs k ≡ None → ⊥
+  not_none xs k below none = let there = there_is xs k below in let both : Some there.0 ≡ None = sym there.1 ∙ none in cc
+
+  single_kind : (what : Asked) → f.asked ≡ what → objects_in f.objects ≡ 0 → limit_of (kind_by f.asked (length f.objects.memories.items)) f.stripe ≡ limit_of (kind_by what 0) f.stripe
+  single_kind what is none =
+      let first : length f.objects.memories.items ≡ 0 = omega (arith, none) in
+      ap (λ (a : Asked). limit_of (kind_by a (length f.objects.memories.items)) f.stripe) is ∙ ap (λ (k : ℕ). limit_of (kind_by what k) f.stripe) first
+
+  memory_raises : (n : ℕ) (e : AllocError) (m : MemoryAsked) → f.asked ≡ asked_for.Memory m → FailsObject maker old new c f n e → FailsMemory e
+  memory_raises n e m is =
+      let one : singles_wanted f.asked ≡ 1 = ap singles_wanted is in
+      ⊎_elim
+      (λ (finds : FindsNone c f n e). none_found n e FailsMemory (λ limit. subst IsMemoryLimit (sym (single_kind (asked_for.Memory m) is (none_single finds.allocating one))) tt) finds)
+      (⊎_elim
+      (λ (faulted : IsPageFaulted maker c f n e). subst FailsMemory (sym faulted.is) tt)
+      (⊎_elim
+      (λ (makes : Makes old new c f n (Err e)). failed_so FailsMemory _ e makes.is (memory_fails FailsMemory makes.given (λ min is. refl) (λ x is. tt) (λ is. tt) c.settings settings makes.held _ (slice_get (memories_wanted f.asked) (length f.objects.memories.items)) (not_none (memories_wanted f.asked) (length f.objects.memories.items) makes.next) (makes.allocating.to_grant.supported.each (length f.objects.memories.items))))
+      (λ (makes : MakesTable old new c f n (Err e)). absurd (omega (arith, none_single makes.allocating one, makes.next.0, ap (λ (a : Asked). length (memories_wanted a)) is)))))
+
+  table_raises : (n : ℕ) (e : AllocError) (ty : TableType) → f.asked ≡ asked_for.Table ty → FailsObject maker old new c f n e → FailsTable e
+  table_raises n e ty is =
+      let one : singles_wanted f.asked ≡ 1 = ap singles_wanted is in
+      let no_memory : length (memories_wanted f.asked) ≡ 0 = ap (λ (a : Asked). length (memories_wanted a)) is in
+      let a_table : length (tables_wanted f.asked) ≡ 1 = ap (λ (a : Asked). length (tables_wanted a)) is in
+      ⊎_elim
+      (λ (finds : FindsNone c f n e). none_found n e FailsTable (λ limit. single_kind (asked_for.Table ty) is (none_single finds.allocating one)) finds)
+      (⊎_elim
+      (λ (faulted : IsPageFaulted maker c f n e). absurd (omega (arith, faulted.next, no_memory)))
+      (⊎_elim
+      (λ (makes : Makes old new c f n (Err e)). absurd (omega (arith, makes.next, no_memory)))
+      (λ (makes : MakesTable old new c f n (Err e)). failed_so FailsTable _ e makes.is (table_fails FailsTable makes.given (λ min is. refl) (λ x is. tt) (λ min room is long. long) c.settings makes.at makes.region (slice_get (tables_wanted f.asked) (length f.objects.tables.items)) (not_none (tables_wanted f.asked) (length f.objects.tables.items) (omega (arith, none_single makes.allocating one, a_table))) makes.given refl))))
+
+  single_raises : (n : ℕ) (e : AllocError) (what : Asked) → f.asked ≡ what → singles_wanted what ≡ 1 → FailsObject maker old new c f n e → FailsSingle what e
+  single_raises n e (asked_for.Memory m) is one raises = memory_raises n e m is raises
+  single_raises n e (asked_for.Table ty) is one raises = table_raises n e ty is raises
+  single_raises n e asked_for.Nothing is one raises = absurd (omega (arith, one))
+  single_raises n e (asked_for.Module m) is one raises = absurd (omega (arith, one))
+  single_raises n e asked_for.Stack is one raises = absurd (omega (arith, one))
+  single_raises n e (asked_for.Heap ty) is one raises = absurd (omega (arith, one))
 
   raises_so : (p : Progress) (e : AllocError) → IsRequestFor p f.asked → Raises maker old new c f p e → RequestRefused c.settings c.plan f.asked p e
   raises_so untested e is raises = module_untested _ e raises
   raises_so uncounted e is raises = subst FailsModule (sym raises.0) tt
   raises_so (admitted n) e is raises = module_raises n e is raises
+  raises_so (seeks_single n) e is raises = single_raises n e f.asked refl is raises
   raises_so seeks_stack e is raises = ⊎_elim
       (λ (disabled : (e ≡ refusal.StacksDisabled) × (c.settings.stack_size ≡ 0)). subst (StackRefused c.settings) (sym disabled.0) disabled.1)
       (λ (finds : FindsNone c f 0 e). none_found 0 e (StackRefused c.settings) (λ limit. ap (λ (a : Asked). limit_of (kind_by a (length f.objects.memories.items)) f.stripe) is) finds)
@@ -161,6 +215,7 @@ module _ {P H : Type 0} (maker : MakerTold) (old new : PartyTold) (c : PoolCore 
   refused_before untested uncounted e follows refused = inr (follows, refused)
   refused_before uncounted (admitted n) e follows refused = refused
   refused_before (admitted n) (admitted m) e follows refused = refused
+  refused_before (seeks_single n) (seeks_single m) e follows refused = refused
   refused_before seeks_stack seeks_stack e follows refused = refused
   refused_before tests_heap (seeks_heap n) e follows refused = inr (inr ((follows.1.enabled, follows.1.rules), refused))
   refused_before (seeks_heap n) (seeks_heap m) e follows refused = refused
@@ -174,6 +229,9 @@ module _ {P H : Type 0} (maker : MakerTold) (old new : PartyTold) (c : PoolCore 
   granted_before uncounted (admitted n) grant follows granted = absurd granted
   granted_before (admitted n) (admitted m) (Instance lease) follows granted = tt
   granted_before (admitted n) (admitted m) grant follows granted = absurd granted
+  granted_before (seeks_single n) (seeks_single m) (memory_granted lease) follows granted = granted
+  granted_before (seeks_single n) (seeks_single m) (table_granted lease) follows granted = granted
+  granted_before (seeks_single n) (seeks_single m) grant follows granted = absurd granted
   granted_before seeks_stack seeks_stack grant follows granted = granted
   granted_before tests_heap (seeks_heap n) (Heap lease memory) follows granted = (follows.1.enabled, follows.1.rules)
   granted_before tests_heap (seeks_heap n) grant follows granted = absurd granted
@@ -213,30 +271,34 @@ module _ {P H : Type 0} (maker : MakerTold) (old new : PartyTold) (c : PoolCore 
   ends_before s t o is goes may = absurd goes
 
   -- A step answers a call as it may end.
-  pub ends_so : (s t : Stage) (o : Outcome P H) → IsCallFor s f.asked → Goes maker old new c f s t (Some o) → MayEnd c.settings c.plan f.asked s o
-  ends_so no_call no_call o is goes = absurd goes
-  ends_so keys no_call Key is goes = tt
-  ends_so (asks p) no_call (Granted (Stack lease)) is goes = granted_before p seeks_stack (Stack lease) goes.0 goes.1
-  ends_so (asks p) no_call (Granted (Instance lease)) is goes = granted_before p (admitted _) (Instance lease) goes.0 tt
-  ends_so (asks counts_heap) no_call (Granted (Heap lease memory)) is goes = tt
-  ends_so (asks untested) no_call (Refused e) is goes = raises_so untested e is goes
-  ends_so (asks seeks_stack) no_call (Refused e) is goes = raises_so seeks_stack e is goes
-  ends_so (asks tests_heap) no_call (Refused e) is goes = raises_so tests_heap e is goes
-  ends_so (asks (seeks_heap n)) no_call (Refused e) is goes = raises_so (seeks_heap n) e is goes.0
-  ends_so (tests_component info) no_call (Refused e) is goes = inl goes
-  ends_so counts_component no_call (Granted Component) is goes = tt
-  ends_so returning no_call Returned is goes = tt
-  ends_so (refusing e) no_call (Refused d) is goes = goes
-  ends_so purging no_call (Purged n) is goes = tt
-  ends_so reserving no_call (Refused e) is goes = goes
-  ends_so releasing no_call (Released n) is goes = tt
-  ends_so s t o is goes = absurd goes
+  pub ends_so : (s t : Stage) (o : Outcome P H) → IsCallFor s f.asked → IfGranted (IsGrantOf maker c.settings c.plan f.asked) (Some o) → Goes maker old new c f s t (Some o) → MayEnd c.settings c.plan f.asked s o
+  ends_so no_call no_call o is of goes = absurd goes
+  ends_so keys no_call Key is of goes = tt
+  ends_so (asks p) no_call (Granted (memory_granted lease)) is of goes = granted_before p (seeks_single 1) (memory_granted lease) goes (subst IsMemoryAsked (sym of.asked_for) tt)
+  ends_so (asks p) no_call (Granted (table_granted lease)) is of goes = granted_before p (seeks_single 1) (table_granted lease) goes (subst IsTableAsked (sym of.asked_for) tt)
+  ends_so (asks p) no_call (Granted (Stack lease)) is of goes = granted_before p seeks_stack (Stack lease) goes.0 goes.1
+  ends_so (asks p) no_call (Granted (Instance lease)) is of goes = granted_before p (admitted _) (Instance lease) goes.0 tt
+  ends_so (asks counts_heap) no_call (Granted (Heap lease memory)) is of goes = tt
+  ends_so (asks untested) no_call (Refused e) is of goes = raises_so untested e is goes
+  ends_so (asks (seeks_single n)) no_call (Refused e) is of goes = raises_so (seeks_single n) e is goes.0
+  ends_so (asks seeks_stack) no_call (Refused e) is of goes = raises_so seeks_stack e is goes
+  ends_so (asks tests_heap) no_call (Refused e) is of goes = raises_so tests_heap e is goes
+  ends_so (asks (seeks_heap n)) no_call (Refused e) is of goes = raises_so (seeks_heap n) e is goes.0
+  ends_so (tests_component info) no_call (Refused e) is of goes = inl goes
+  ends_so counts_component no_call (Granted Component) is of goes = tt
+  ends_so returning no_call Returned is of goes = tt
+  ends_so (refusing e) no_call (Refused d) is of goes = goes
+  ends_so purging no_call (Purged n) is of goes = tt
+  ends_so reserving no_call (Refused e) is of goes = goes
+  ends_so releasing no_call (Released n) is of goes = tt
+  ends_so s t o is of goes = absurd goes
 
   -- It stays a call for what it was.
   for_next : (a : Asked) (p q : Progress) → Follows old new c f p q → IsRequestFor p a → IsRequestFor q a
   for_next a untested uncounted follows is = is
   for_next a uncounted (admitted n) follows is = is
   for_next a (admitted n) (admitted m) follows is = is
+  for_next a (seeks_single n) (seeks_single m) follows is = is
   for_next a seeks_stack seeks_stack follows is = is
   for_next a tests_heap (seeks_heap n) follows is = is
   for_next a (seeks_heap n) (seeks_heap m) follows is = is

@@ -26,8 +26,7 @@ use Rattle.pool_alloc.specs.Purges.{after_forgetting, known_after}
 use Rattle.pool_alloc.specs.Releases.{after_decommit}
 use Rattle.pool_alloc.specs.declared.frame.TakenSlot.{TakenSlot}
 use Rattle.pool_alloc.specs.declared.pool_core.Settings.{Settings}
-use Rattle.pool_driver.specs.FaultsTold.{HasFaulted}
-use Rattle.pool_driver.specs.Faults.{KeepsFaults, QueuedKeeps, QueueKeeps}
+use Rattle.pool_driver.specs.Faults.{HasFaulted, KeepsFaults, QueueKeeps, QueuedKeeps}
 
 rose_keeps : (told old new : ℕ) → KeepsFaults told old → Rose old new → KeepsFaults told new
 rose_keeps told old new k rose = record { least = let a = k.least in let b = k.small in omega arith; small = k.small }
@@ -38,7 +37,7 @@ same_keeps told old new k same = subst (KeepsFaults told) (sym same) k
 left_keeps : (told : ℕ) (old new : Slot) → KeepsFaults told old.region.faults → IsLeft old new → KeepsFaults told new.region.faults
 left_keeps told old new k left = rose_keeps told old.region.faults new.region.faults k left.rose
 
-left_faulted : (told : ℕ) (old new : Slot) → KeepsFaults told old.region.faults → IsLeft old new → HasFaulted told new.region.faults
+pub left_faulted : (told : ℕ) (old new : Slot) → KeepsFaults told old.region.faults → IsLeft old new → HasFaulted told new.region.faults
 left_faulted told old new k left = elim (cases_lt told new.region.faults) [
   | inl more ↦ inl more
   | inr most ↦ inr (let a = k.least in let b = left.rose in omega arith)
@@ -125,31 +124,36 @@ module _ {P : Type 0} where
   drains_keep told s fault (PreviouslyUsed old) new is k = whole_keeps told s fault old new is.0 k
   drains_keep told s fault Taken new is k = k
 
--- A run of decommits that succeeds,
-changed_keeps : (name : SlotName) (rs : List ByteRange) (m : Queued) → QueuedKeeps m → QueuedKeeps (change_at name (decommitted_all rs) m)
-changed_keeps name rs m k = go (same_slot name m.name) refl
+-- A run of decommits that succeeds leaves the faults of each queued slot,
+pub changed_has : (Q : ℕ → ℕ → Type 0) (name : SlotName) (rs : List ByteRange) (m : Queued) → Q m.numbers.faults m.slot.region.faults → Q (change_at name (decommitted_all rs) m).numbers.faults (change_at name (decommitted_all rs) m).slot.region.faults
+changed_has Q name rs m k = go (same_slot name m.name) refl
   where
-    go : (b : Bool) → same_slot name m.name ≡ b → QueuedKeeps (change_at name (decommitted_all rs) m)
-    go true e = rw e (subst (KeepsFaults m.numbers.faults) (sym (decommitted_same rs m.slot)) k)
+    go : (b : Bool) → same_slot name m.name ≡ b → Q (change_at name (decommitted_all rs) m).numbers.faults (change_at name (decommitted_all rs) m).slot.region.faults
+    go true e = rw e (subst (Q m.numbers.faults) (sym (decommitted_same rs m.slot)) k)
     go false e = rw e k
 
 run_keeps : (name : SlotName) (rs : List ByteRange) (slots : List Queued) → AllByRecursion QueuedKeeps slots → AllByRecursion QueuedKeeps (map (change_at name (decommitted_all rs)) slots)
 run_keeps name rs [] k = tt
-run_keeps name rs (m ∷ ms) k = (changed_keeps name rs m k.0, run_keeps name rs ms k.1)
+run_keeps name rs (m ∷ ms) k = (changed_has KeepsFaults name rs m k.0, run_keeps name rs ms k.1)
 
--- and one that fails.
-left_by_keeps : (faulted : SlotName) (m n : Queued) → QueuedKeeps m → IsLeftBy faulted m n → QueuedKeeps n
-left_by_keeps faulted m n k left = subst (λ (t : ℕ). KeepsFaults t n.slot.region.faults) (sym numbers) (by (same_slot faulted m.name) left.slot)
-  where
-    numbers : n.numbers.faults ≡ m.numbers.faults
-    numbers = ap (λ (z : Queued). z.numbers.faults) left.same
+-- and one that fails raises those of the slot on which the call was.
+module _ (faulted : SlotName) (m n : Queued) (k : QueuedKeeps m) (left : IsLeftBy faulted m n) where
+  same_told : n.numbers.faults ≡ m.numbers.faults
+  same_told = ap (λ (z : Queued). z.numbers.faults) left.same
 
-    old : KeepsFaults m.numbers.faults (forgotten_slot m.name.kind m.slot).region.faults
-    old = subst (KeepsFaults m.numbers.faults) (sym (forgotten_same m.name.kind m.slot)) k
+  still : KeepsFaults m.numbers.faults (forgotten_slot m.name.kind m.slot).region.faults
+  still = subst (KeepsFaults m.numbers.faults) (sym (forgotten_same m.name.kind m.slot)) k
 
-    by : (b : Bool) → IsSlotLeft b (forgotten_slot m.name.kind m.slot) n.slot → KeepsFaults m.numbers.faults n.slot.region.faults
-    by true is = left_keeps m.numbers.faults (forgotten_slot m.name.kind m.slot) n.slot old is
-    by false is = subst (KeepsFaults m.numbers.faults) (sym (ap (λ (z : Slot). z.region.faults) is)) old
+  left_by_keeps : QueuedKeeps n
+  left_by_keeps = subst (λ (t : ℕ). KeepsFaults t n.slot.region.faults) (sym same_told) (by (same_slot faulted m.name) left.slot)
+    where
+      by : (b : Bool) → IsSlotLeft b (forgotten_slot m.name.kind m.slot) n.slot → KeepsFaults m.numbers.faults n.slot.region.faults
+      by true is = left_keeps m.numbers.faults (forgotten_slot m.name.kind m.slot) n.slot still is
+      by false is = subst (KeepsFaults m.numbers.faults) (sym (ap (λ (z : Slot). z.region.faults) is)) still
+
+  pub left_by_faulted : same_slot faulted m.name ≡ true → HasFaulted n.numbers.faults n.slot.region.faults
+  left_by_faulted on = subst (λ (t : ℕ). HasFaulted t n.slot.region.faults) (sym same_told)
+      (left_faulted m.numbers.faults (forgotten_slot m.name.kind m.slot) n.slot still (subst (λ (b : Bool). IsSlotLeft b (forgotten_slot m.name.kind m.slot) n.slot) on left.slot))
 
 zip_keeps : (faulted : SlotName) (old new : List Queued) → AllZip (IsLeftBy faulted) old new → AllByRecursion QueuedKeeps old → AllByRecursion QueuedKeeps new
 zip_keeps faulted [] [] z k = tt

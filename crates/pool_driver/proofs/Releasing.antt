@@ -1,7 +1,7 @@
 -- A release takes the warm slots of one shard of memories after the other, and each notes that. So they all have when it ends.
-use Rattle.std.proofs.Common.{◌≡◌, ◌⊎◌, ⊎_elim, inl, inr, ℕ, ◌+◌, ◌<◌, ◌≤◌, Bool, true, false, List, [], ◌∷◌, length, refl, sym, ap, subst, ◌∙◌, arith, Option, IfSome}
+use Rattle.std.proofs.Common.{◌≡◌, ◌⊎◌, inl, inr, ℕ, ◌+◌, Bool, true, false, List, [], ◌∷◌, length, refl, sym, ap, subst, ◌∙◌, arith, Option, IfSome}
 use Rattle.std.specs.Prelude.{nat_lt, slice_index}
-use Rattle.std.proofs.lemmas.Bool.{cases_lt, ltb-false}
+use Rattle.std.proofs.lemmas.Bool.{ltb-false}
 use Rattle.pool_hall.specs.Tally.{rise}
 use Rattle.pool_hall.specs.declared.view.View.{View}
 use Rattle.pool_limits.specs.Exchanges.{Exchange}
@@ -38,9 +38,9 @@ use Rattle.pool_alloc.proofs.PoolParts.{part_same, shard_part, sound_shard}
 use Rattle.pool_driver.specs.Calling.{CallKind, MayAnswer, gives_back, kind_at, kind_of, releases}
 use Rattle.pool_driver.specs.Driving.{SeesStep}
 use Rattle.pool_driver.specs.Placed.{About, part_counts, pool_meaning}
-use Rattle.pool_driver.specs.Releasing.{HasTakenWarm, IfReleased, PhaseTaken, ShardsTaken, StepTaken, StripesTaken, stripe_shard}
-use Rattle.pool_driver.specs.Telling.{HasMore, HoldsMore}
-use Rattle.pool_driver.proofs.Holding.{more_held, more_now}
+use Rattle.pool_driver.specs.Releasing.{HasTakenWarm, IfReleased, PhaseTaken, ShardsTaken, StepTaken, StripesTaken}
+use Rattle.pool_driver.specs.Telling.{HasMore, HoldsMore, stripe_shard}
+use Rattle.pool_driver.proofs.Holding.{more_now, one_shard_more, one_stripe_more, shards_held, stripes_held}
 use Rattle.pool_driver.proofs.Naming.{PutAt, a_shard, left_is, placed_at, sees_more}
 use Rattle.pool_driver.proofs.OtherKinds.{no_release}
 
@@ -59,17 +59,6 @@ module _ {T P H : Type 0} (base w : View T) (plan : Plan) where
   after_taken f (goes phase) k = record { frame = k; answer = tt }
   after_taken f (ends outcome) k = record { frame = tt; answer = k }
   after_taken f turn k = absurd k
-
-module _ {T : Type 0} (base w : View T) (plan : Plan) where
-  -- All shards of a stripe gave their warm slots, as those of the stripes before it.
-  whole_stripe : (stripe n : ℕ) → StripesTaken base w plan stripe → ShardsTaken base w plan stripe n → (stripe_allocator plan stripe).shards ≤ n → StripesTaken base w plan (stripe + 1)
-  whole_stripe stripe n had here all i below j inside = ⊎_elim
-      (λ (less : i < stripe). had i less j inside)
-      (λ (most : stripe ≤ i).
-      let same : i ≡ stripe = omega (arith, below, most) in
-      let within : j < (stripe_allocator plan stripe).shards = subst (λ (k : ℕ). j < (stripe_allocator plan k).shards) same inside in
-      subst (λ (k : ℕ). HasMore base w (stripe_shard plan k j) warm_takes) (sym same) (here j (omega (arith, within, all))))
-      (cases_lt i stripe)
 
 module _ (P H : Type 0) {T : Type 0} (base w : View T) (plan : Plan) where
   -- what a turn of a release says, of such a party
@@ -103,7 +92,7 @@ module _ (P H : Type 0) {T : Type 0} (base w : View T) (plan : Plan) where
     where
       go : (b : Bool) → nat_lt (j + 1) (released_stripe plan r).shards ≡ b → Says (warm_taken plan r j)
       go true more = rw more (had, here)
-      go false last = rw last (drained_taken r _ (whole_stripe base w plan r.stripe (j + 1) had here (ltb-false (j + 1) (released_stripe plan r).shards last)))
+      go false last = rw last (drained_taken r _ (one_stripe_more base w plan warm_takes 1 1 r.stripe (j + 1) had here (ltb-false (j + 1) (released_stripe plan r).shards last) (omega arith)))
 
 module _ {T P H : Type 0} (about : T → About) (inner : T → PoolPart P H) (Passes : List Exchange → Type 0) (old new : PartyTold) (a : About) (base v w : View T) (f next : Frame P H) (o : Option (Outcome P H)) (began : HoldsMore base v) (s : SeesStep about inner Passes old new a v w f next o) where
   -- the core on which the step was made, and the frame while it is
@@ -119,8 +108,8 @@ module _ {T P H : Type 0} (about : T → About) (inner : T → PoolPart P H) (Pa
   more : HoldsMore v w
   more = sees_more about inner Passes old new a v w f next o s
 
-  stripes_held : (n : ℕ) → StripesTaken base v c.plan n → StripesTaken base w c.plan n
-  stripes_held n had stripe below j inside = more_held base v w more (stripe_shard c.plan stripe j) warm_takes (had stripe below j inside)
+  stripes_on : (n : ℕ) → StripesTaken base v c.plan n → StripesTaken base w c.plan n
+  stripes_on n had = stripes_held base v w more c.plan warm_takes 1 n had
 
   -- The shard that a release is at gives its warm slots, and counts that.
   module _ (r : ReleaseCursor) (j : ℕ) (is : f.phase ≡ Release (TakeWarm r j)) where
@@ -156,10 +145,7 @@ module _ {T P H : Type 0} (about : T → About) (inner : T → PoolPart P H) (Pa
         ((λ i. rise (slice_index (part_counts (was i)) warm_takes) (slice_index (part_counts (now i)) warm_takes)) ∙ rise_once shard.warm_takes sound.counts.2)
 
     shards_next : ShardsTaken base v c.plan r.stripe j → ShardsTaken base w c.plan r.stripe (j + 1)
-    shards_next had k below = ⊎_elim
-        (λ (less : k < j). more_held base v w more (stripe_shard c.plan r.stripe k) warm_takes (had k less))
-        (λ (last : j ≤ k). let same : k ≡ j = omega (arith, below, last) in subst (λ (n : ℕ). HasMore base w (stripe_shard c.plan r.stripe n) warm_takes) (sym same) taken_here)
-        (cases_lt k j)
+    shards_next had = one_shard_more base w c.plan warm_takes 1 r.stripe j (shards_held base v w more c.plan warm_takes 1 r.stripe j had) taken_here
 
   abbrev Row : ReleaseStep P → Type 0
   Row step = TurnTaken {P = P} {H = H} base w c.plan (row_of given (Release step) c e).turn
@@ -170,11 +156,11 @@ module _ {T P H : Type 0} (about : T → About) (inner : T → PoolPart P H) (Pa
 
   row_taken : (step : ReleaseStep P) → f.phase ≡ Release step → StepTaken base v c.plan step → Row step
   row_taken Reserve is had = reserved given.wants
-  row_taken (TakeWarm r j) is had = warm_next P H base w c.plan (taking (shard r j is) r) j (stripes_held r.stripe had.0) (shards_next r j is had.1)
-  row_taken (TakeRegion r k) is had = stripes_held (r.stripe + 1) had
-  row_taken (Decommit r k at held) is had = stripes_held (r.stripe + 1) had
-  row_taken (PutRegion r k at held) is had = drained_taken P H base w c.plan r _ (stripes_held (r.stripe + 1) had)
-  row_taken (Free r x) is had = free_taken P H base w c.plan r.taken.items (releasing r x) (stripes_held (r.stripe + 1) had)
+  row_taken (TakeWarm r j) is had = warm_next P H base w c.plan (taking (shard r j is) r) j (stripes_on r.stripe had.0) (shards_next r j is had.1)
+  row_taken (TakeRegion r k) is had = stripes_on (r.stripe + 1) had
+  row_taken (Decommit r k at held) is had = stripes_on (r.stripe + 1) had
+  row_taken (PutRegion r k at held) is had = drained_taken P H base w c.plan r _ (stripes_on (r.stripe + 1) had)
+  row_taken (Free r x) is had = free_taken P H base w c.plan r.taken.items (releasing r x) (stripes_on (r.stripe + 1) had)
 
   -- What is known of the shards behind a step of a release is known after it, and of its answer. Another call is no release.
   pub taken_step : PhaseTaken base v a.plan f.phase → LeftTaken {P = P} {H = H} base w a.plan (record { frame = next; outcome = o }) ⊎ (kind_at (stage_of f) ≡ releases → ⊥)
@@ -214,6 +200,8 @@ module _ {T P H : Type 0} (base w : View T) (plan : Plan) where
   taken_begins call.Key f kind = tt
   taken_begins (call.Module m) f kind = tt
   taken_begins (call.Component info) f kind = tt
+  taken_begins (call.Memory m) f kind = tt
+  taken_begins (call.Table ty) f kind = tt
   taken_begins call.Stack f kind = tt
   taken_begins (call.Heap ty) f kind = tt
   taken_begins (call.GiveBack grant) f kind = none_taken_on (begun_call (call.GiveBack grant) f) (λ on. let apart : gives_back ≡ releases = sym kind ∙ on in absurd cc)

@@ -1,5 +1,5 @@
 -- The rows of calls: what the frame has, and what queues of the pool hold, keeps its faults.
-use Rattle.std.proofs.Common.{◌≡◌, refl, ℕ, ◌+◌, ◌<◌, Bool, true, false, List, [], ◌∷◌, length, sym, subst, arith, Option, Some, None, Result, Ok, Err, inl, inr, set, nat_lt, nat_le, slice_get}
+use Rattle.std.proofs.Common.{◌≡◌, ℕ, ◌+◌, ◌<◌, Bool, true, false, List, [], ◌∷◌, length, sym, subst, arith, Option, Some, None, Result, Ok, Err, inl, inr, set, nat_lt, nat_le, slice_get}
 use Rattle.std.specs.Prelude.{if◌then◌else◌, ◌^◌, ◌==◌, ◌||◌}
 use Rattle.std.specs.List.{AllByRecursion}
 use Rattle.std.proofs.lemmas.Bool.{cases_lt}
@@ -46,12 +46,13 @@ use Rattle.pool_alloc.specs.MemorySteps.{reset_into, refusal_of, made_for, made_
 use Rattle.pool_alloc.specs.PoolStacks.{stack_reset}
 use Rattle.pool_alloc.specs.StepTable as rows
 use Rattle.pool_alloc.specs.BetweenSteps.{IsMemoryNext}
-use Rattle.pool_alloc.specs.StepReads.{StepGiven, allocator_for, cell_named, heaps_at, image_wanted, memories_wanted, part_holding, queue_at, queue_in, shard_at, tables_wanted, with_cell, with_part, with_queue, with_shard}
+use Rattle.pool_alloc.specs.StepReads.{StepGiven, allocator_for, cell_named, counting_memories, counting_tables, heaps_at, image_wanted, memories_wanted, part_holding, queue_at, queue_in, shard_at, tables_wanted, with_cell, with_part, with_queue, with_shard}
 use Rattle.pool_alloc.specs.TableLeases.{LeasedTable}
 use Rattle.pool_alloc.specs.TableSteps.{table_reset_into, table_bytes, made_table, made_unless, table_in, table_refused}
 use Rattle.pool_alloc.specs.Turns.{After, Row, flush, goes, slot_search, stepped}
-use Rattle.pool_alloc.specs.declared.frame.Ending.{Ending}
 use Rattle.pool_alloc.specs.declared.frame.Ending.TheVariants.{Refused as refused}
+use Rattle.pool_alloc.specs.declared.frame.Asked.{Asked}
+use Rattle.pool_alloc.specs.declared.frame.Asked.TheVariants as asked
 use Rattle.pool_alloc.specs.declared.frame.Frame.{Frame}
 use Rattle.pool_alloc.specs.declared.frame.Object.{Object}
 use Rattle.pool_alloc.specs.declared.frame.Object.TheVariants as object
@@ -62,12 +63,11 @@ use Rattle.pool_alloc.specs.declared.pool_core.PoolCore.{PoolCore}
 use Rattle.pool_alloc.specs.declared.pool_core.Settings.{Settings}
 use Rattle.pool_alloc.proofs.CoreChanges.{at_set}
 use Rattle.pool_alloc.proofs.ToldElements.{told_there}
-use Rattle.pool_driver.specs.Faults.{AnswerKeeps, FrameKeeps, KeepsFaults, LeaseKeeps, ObjectKeeps, PartKeeps, QueueKeeps, TableKeeps}
-use Rattle.pool_driver.specs.FaultsTold.{FaultTold, HasFaulted}
+use Rattle.pool_driver.specs.Faults.{AnswerKeeps, FrameKeeps, KeepsFaults, LeaseKeeps, ObjectKeeps, PartKeeps, PhaseKeeps, QueueKeeps, QueuedKeeps, TableKeeps}
 use Rattle.pool_driver.specs.Placed.{IsSmall}
-use Rattle.pool_driver.proofs.QueueFaults.{by_choice, joined_keep, others_keep, first_zeroed_keep, memory_reset_keeps, table_reset_keeps, stack_reset_keeps}
-use Rattle.pool_driver.proofs.RegionFaults.{decommits_keep, empties_faulted, empties_keep, instantiates_faulted, instantiates_keep, resets_faulted, resets_keep}
-use Rattle.pool_driver.proofs.TurnFaults.{HandKeeps, PhaseTells, TurnKeeps, after_keeps, answer_keeps}
+use Rattle.pool_driver.proofs.QueueFaults.{by_choice, joined_each, others_each, first_zeroed_each, zeroed_keeps, memory_reset_keeps, table_reset_keeps, stack_reset_keeps}
+use Rattle.pool_driver.proofs.RegionFaults.{decommits_keep, empties_keep, instantiates_keep, resets_keep}
+use Rattle.pool_driver.proofs.TurnFaults.{HandKeeps, TurnKeeps, after_keeps, answer_keeps}
 
 -- The call isn't refused for a failed page call.
 abbrev pub NeverFaults : AllocError → Type 0
@@ -124,32 +124,32 @@ made_table_keeps s answer at region (Some ty) k =
     let room : ℕ = room_of ty (table_bytes s ty) in
     unless_keeps (table_refused answer ty.limits.min room) (table_in s ty at region) (table_never answer ty.limits.min room) k
 
-module _ (P H : Type 0) (e : Ending) where
+module _ (P H : Type 0) where
   -- What goes out of a cell goes with its own count.
-  unmapped_keeps : (s : Settings) (kind : SlotKind) (at : TakenSlot) (region : Told) → KeepsFaults at.numbers.faults region.faults → TurnKeeps {P = P} {H = H} e (rows.unmapped_next s kind at region)
+  unmapped_keeps : (s : Settings) (kind : SlotKind) (at : TakenSlot) (region : Told) → KeepsFaults at.numbers.faults region.faults → TurnKeeps {P = P} {H = H} (rows.unmapped_next s kind at region)
   unmapped_keeps s memory_kind at region k = k
   unmapped_keeps s table_kind at region k = k
   unmapped_keeps s stack_kind at region k = k
   unmapped_keeps s heap_kind at region k = tt
 
-  region_keeps : (s : Settings) (name : SlotName) (kind : SlotKind) (out : RegionNumbers) (held : Cell) → (numbers_by out kind held).faults < 2 ^ 64 → TurnKeeps {P = P} {H = H} e (rows.region_next s (record { name = name; numbers = numbers_by out kind held }) held)
+  region_keeps : (s : Settings) (name : SlotName) (kind : SlotKind) (out : RegionNumbers) (held : Cell) → (numbers_by out kind held).faults < 2 ^ 64 → TurnKeeps {P = P} {H = H} (rows.region_next s (record { name = name; numbers = numbers_by out kind held }) held)
   region_keeps s name kind out (unmapped region) small = unmapped_keeps s name.kind (record { name = name; numbers = numbers_by out kind (unmapped region) }) region (record { least = omega arith; small = small })
   region_keeps s name kind out (unknown held) small = record { least = omega arith; small = small }
   region_keeps s name kind out (previously_used held) small = record { least = omega arith; small = small }
   region_keeps s name kind out taken small = tt
 
-  taken_next_keeps : (kind : SlotKind) (name : SlotName) → PhaseTells {P = P} {H = H} e (rows.taken_next kind name)
+  taken_next_keeps : (kind : SlotKind) (name : SlotName) → PhaseKeeps {P = P} {H = H} (rows.taken_next kind name)
   taken_next_keeps memory_kind name = tt
   taken_next_keeps table_kind name = tt
   taken_next_keeps stack_kind name = tt
   taken_next_keeps heap_kind name = tt
 
-  heap_keeps : (at : TakenSlot) (o : Option H) → TurnKeeps {P = P} e (rows.heap_next at o)
+  heap_keeps : (at : TakenSlot) (o : Option H) → TurnKeeps {P = P} (rows.heap_next at o)
   heap_keeps at None = tt
   heap_keeps at (Some heap) = tt
 
-  turned_keeps : (batch : ℕ) (local : Queue) → TurnKeeps {P = P} {H = H} e (rows.reset_turn batch local)
-  turned_keeps batch local = by_choice (TurnKeeps {P = P} {H = H} e) ((length local.ranges == 0) || nat_le batch (length local.ranges)) flush (goes Merge) tt tt
+  turned_keeps : (batch : ℕ) (local : Queue) → TurnKeeps {P = P} {H = H} (rows.reset_turn batch local)
+  turned_keeps batch local = by_choice (TurnKeeps {P = P} {H = H}) ((length local.ranges == 0) || nat_le batch (length local.ranges)) flush (goes Merge) tt tt
 
 module _ {P H : Type 0} where
   -- what is at no place of a pool
@@ -202,27 +202,26 @@ module _ {P H : Type 0} where
   small_cell (part.Stack cell) small = small 0
   small_cell x small = omega arith
 
-  picked_keeps : (e : Ending) (plan : Plan) (o : Option (SlotId × ℕ)) (shard : ShardState) (tried : ℕ) (f : Frame P H) → TurnKeeps e (rows.picked plan o shard tried f)
-  picked_keeps e plan (Some p) shard tried f = taken_next_keeps P H e (allocator_for plan f).kind _
-  picked_keeps e plan None shard tried f = by_choice (TurnKeeps e) (nat_lt (tried + 1) (allocator_for plan f).shards) (goes (Pick (tried + 1))) (slot_search plan f) tt tt
+  picked_keeps : (plan : Plan) (o : Option (SlotId × ℕ)) (shard : ShardState) (tried : ℕ) (f : Frame P H) → TurnKeeps (rows.picked plan o shard tried f)
+  picked_keeps plan (Some p) shard tried f = taken_next_keeps P H (allocator_for plan f).kind _
+  picked_keeps plan None shard tried f = by_choice TurnKeeps (nat_lt (tried + 1) (allocator_for plan f).shards) (goes (Pick (tried + 1))) (slot_search plan f) tt tt
 
   -- what is shown of a row
   pub record RowKeeps (r : Row (PoolCore P H) P H) : Type 0 where
     pub hand : HandKeeps r.frame
-    pub turn : TurnKeeps r.frame.ending r.turn
+    pub turn : TurnKeeps r.turn
     pub parts : QueuesKeep r.part
 
   -- what a step leaves
   pub record AfterKeeps (a : After P H) : Type 0 where
     pub frame : FrameKeeps a.frame
-    pub told : FaultTold a.frame
     pub answer : AnswerKeeps a.outcome
     pub parts : QueuesKeep a.core
 
   pub stepped_keeps : (r : Row (PoolCore P H) P H) → RowKeeps r → AfterKeeps (stepped r)
   stepped_keeps r k =
       let left = after_keeps r.frame r.turn k.hand k.turn in
-      record { frame = left.frame; told = left.told; answer = left.answer; parts = k.parts }
+      record { frame = left.frame; answer = left.answer; parts = k.parts }
 
 -- the rows, over what the frame has and the queues hold
 module _ {P H : Type 0} (c : PoolCore P H) (f : Frame P H) (hand : HandKeeps f) (parts : QueuesKeep c) where
@@ -230,11 +229,11 @@ module _ {P H : Type 0} (c : PoolCore P H) (f : Frame P H) (hand : HandKeeps f) 
   key_keeps = record { hand = hand; turn = tt; parts = parts }
 
   -- A request is tested,
-  reserved_keeps : (wants : Bool) (phase : Phase P H) → PhaseTells f.ending phase → RowKeeps (rows.reserved wants phase c f)
+  reserved_keeps : (wants : Bool) (phase : Phase P H) → PhaseKeeps phase → RowKeeps (rows.reserved wants phase c f)
   reserved_keeps true phase k = record { hand = hand; turn = tt; parts = parts }
   reserved_keeps false phase k = record { hand = ((tt, tt), hand.1); turn = k; parts = parts }
 
-  pub validated_keeps : (o : Option Unsupported) (wants : Bool) (phase : Phase P H) → PhaseTells f.ending phase → RowKeeps (rows.validated o wants phase c f)
+  pub validated_keeps : (o : Option Unsupported) (wants : Bool) (phase : Phase P H) → PhaseKeeps phase → RowKeeps (rows.validated o wants phase c f)
   validated_keeps (Some rule) wants phase k = record { hand = hand; turn = tt; parts = parts }
   validated_keeps None wants phase k = reserved_keeps wants phase k
 
@@ -266,50 +265,44 @@ module _ {P H : Type 0} (c : PoolCore P H) (f : Frame P H) (hand : HandKeeps f) 
 
   -- a slot is picked or a queue taken, and the region leaves its cell.
   pub pick_keeps : (place tried : ℕ) → RowKeeps (rows.in_shard place c (rows.pick_on c.plan tried (shard_at place c) f))
-  pick_keeps place tried = record { hand = hand; turn = picked_keeps f.ending c.plan (pick_answer _ (shard_at place c)) (shard_at place c) tried f; parts = shard_set place _ c parts }
+  pick_keeps place tried = record { hand = hand; turn = picked_keeps c.plan (pick_answer _ (shard_at place c)) (shard_at place c) tried f; parts = shard_set place _ c parts }
 
   pub take_queue_keeps : (place : ℕ) → RowKeeps (rows.in_queue place c (rows.take_queue_on c.plan (queue_at place c) f))
   take_queue_keeps place =
       let q : Queue = queue_at place c in
       record {
         hand = (hand.0, queue_keeps (part_at place c.parts) (parts place));
-        turn = by_choice (TurnKeeps f.ending) (length q.slots == 0) (slot_search c.plan f) flush tt tt;
+        turn = by_choice TurnKeeps (length q.slots == 0) (slot_search c.plan f) flush tt tt;
         parts = queue_set place _ c parts tt;
       }
 
   pub take_region_keeps : (name : SlotName) → AreSmall c → RowKeeps (rows.in_cell name c (rows.take_region_on c.settings name (cell_named name c) f))
   take_region_keeps name small =
       let cell : CellState = cell_named name c in
-      record { hand = hand; turn = region_keeps P H f.ending c.settings name cell.name.kind cell.out cell.holds (small (cell_place c.plan name)); parts = cell_set name _ c parts }
+      record { hand = hand; turn = region_keeps P H c.settings name cell.name.kind cell.out cell.holds (small (cell_place c.plan name)); parts = cell_set name _ c parts }
 
   -- A call on it fails, or it goes on.
-  paged_keeps : (fault : Bool) (at : TakenSlot) (held : Slot) (phase : Phase P H) → KeepsFaults at.numbers.faults held.region.faults → (fault ≡ true → HasFaulted at.numbers.faults held.region.faults) → PhaseTells f.ending phase → RowKeeps (rows.paged fault at held phase c f)
-  paged_keeps true at held phase k faulted one = record { hand = hand; turn = (k, λ is. faulted refl); parts = parts }
-  paged_keeps false at held phase k faulted one = record { hand = hand; turn = one; parts = parts }
+  paged_keeps : (fault : Bool) (at : TakenSlot) (held : Slot) (phase : Phase P H) → KeepsFaults at.numbers.faults held.region.faults → PhaseKeeps phase → RowKeeps (rows.paged fault at held phase c f)
+  paged_keeps true at held phase k one = record { hand = hand; turn = k; parts = parts }
+  paged_keeps false at held phase k one = record { hand = hand; turn = one; parts = parts }
 
   pub empty_keeps : (fault : Bool) (held : Slot) (at : TakenSlot) (had : Slot) → Empties fault had held → KeepsFaults at.numbers.faults had.region.faults → RowKeeps (rows.empty_row fault held at c f)
   empty_keeps fault held at had told k =
       let one = empties_keep at.numbers.faults fault had held told k in
-      let E : Bool → Type 0 = λ b. Empties b had held in
-      paged_keeps fault at held _ one (λ is. empties_faulted at.numbers.faults had held (subst E is told) k) one
+      paged_keeps fault at held _ one one
 
   pub instantiate_keeps : (fault : Bool) (held : Slot) (at : TakenSlot) (had : Slot) → IsMemoryNext f → IfAllocated f (λ decl. InstantiatesFor c.settings decl fault (image_wanted f) had held) → KeepsFaults at.numbers.faults had.region.faults → RowKeeps (rows.instantiate_row fault held at c f)
   instantiate_keeps fault held at had more told k =
-      let n : ℕ = at.numbers.faults in
-      let I : MemoryDecl → Bool → Type 0 = λ decl b. InstantiatesFor c.settings decl b (image_wanted f) had held in
-      let K : Type 0 = KeepsFaults n held.region.faults × (fault ≡ true → HasFaulted n held.region.faults) in
+      let K : Type 0 = KeepsFaults at.numbers.faults held.region.faults in
       let one : K = told_there K (memories_wanted f.asked) (length f.objects.memories.items) more
-      (told_weaker (λ decl. I decl fault) (λ decl. K) (slice_get (memories_wanted f.asked) (length f.objects.memories.items))
-      (λ decl tells.
-      let size : ℕ = minimum_byte_size decl.ty in
-      let hide : Bool = hides decl.ty c.settings.tunables had.region.page in
-      (instantiates_keep n fault size hide (image_wanted f) had held tells k, λ is. instantiates_faulted n size hide (image_wanted f) had held (subst (I decl) is tells) k)) told) in
-      paged_keeps fault at held _ one.0 one.1 one.0
+      (told_weaker (λ decl. InstantiatesFor c.settings decl fault (image_wanted f) had held) (λ decl. K) (slice_get (memories_wanted f.asked) (length f.objects.memories.items))
+      (λ decl tells. instantiates_keep at.numbers.faults fault (minimum_byte_size decl.ty) (hides decl.ty c.settings.tunables had.region.page) (image_wanted f) had held tells k) told) in
+      paged_keeps fault at held _ one one
 
   -- An object is made,
   was_made_keeps : (at : TakenSlot) (held : Slot) (r : Result MemoryState AllocError) → KeepsFaults at.numbers.faults held.region.faults → MadeKeeps at.numbers.faults r → RowKeeps (rows.was_made at held r c f)
   was_made_keeps at held (Ok memory) k one = record { hand = hand; turn = one; parts = parts }
-  was_made_keeps at held (Err e) k one = record { hand = hand; turn = (k, λ is. absurd (one is)); parts = parts }
+  was_made_keeps at held (Err e) k one = record { hand = hand; turn = k; parts = parts }
 
   pub make_memory_keeps : (given : Result Bool LimiterError) (at : TakenSlot) (held : Slot) → KeepsFaults at.numbers.faults held.region.faults → RowKeeps (rows.make_memory_row given at held c f)
   make_memory_keeps given at held k =
@@ -318,21 +311,29 @@ module _ {P H : Type 0} (c : PoolCore P H) (f : Frame P H) (hand : HandKeeps f) 
 
   was_made_table_keeps : (at : TakenSlot) (region : Told) (r : Result LeasedTable AllocError) → KeepsFaults at.numbers.faults region.faults → MadeTableKeeps r → RowKeeps (rows.was_made_table at region r c f)
   was_made_table_keeps at region (Ok lease) k one = record { hand = hand; turn = one; parts = parts }
-  was_made_table_keeps at region (Err e) k one = record { hand = hand; turn = (k, λ is. absurd (one is)); parts = parts }
+  was_made_table_keeps at region (Err e) k one = record { hand = hand; turn = k; parts = parts }
 
   pub make_table_keeps : (given : Result Bool LimiterError) (at : TakenSlot) (region : Told) → KeepsFaults at.numbers.faults region.faults → RowKeeps (rows.make_table_row given at region c f)
   make_table_keeps given at region k =
       let o : Option TableType = slice_get (tables_wanted f.asked) (length f.objects.tables.items) in
       was_made_table_keeps at region (made_table c.settings given at region o) k (made_table_keeps c.settings given at region o k)
 
+  memory_counted_keeps : (what : Asked) (lease : Lease) → LeaseKeeps lease → RowKeeps (record { part = counting_memories (c.counters.memories + 1) c; frame = rows.memory_kept what lease f; turn = rows.memory_turn what lease })
+  memory_counted_keeps (asked.Memory m) lease one = record { hand = hand; turn = one; parts = parts }
+  memory_counted_keeps what lease one = record { hand = ((each_append LeaseKeeps f.objects.memories.items (lease ∷ []) hand.0.0 (one, tt), hand.0.1), hand.1); turn = tt; parts = parts }
+
+  table_counted_keeps : (what : Asked) (lease : LeasedTable) → TableKeeps lease → RowKeeps (record { part = counting_tables (c.counters.tables + 1) c; frame = rows.table_kept what lease f; turn = rows.table_turn what lease })
+  table_counted_keeps (asked.Table ty) lease one = record { hand = hand; turn = one; parts = parts }
+  table_counted_keeps what lease one = record { hand = ((hand.0.0, each_append TableKeeps f.objects.tables.items (lease ∷ []) hand.0.1 (one, tt)), hand.1); turn = tt; parts = parts }
+
   -- counted,
   pub count_object_keeps : (o : Object P) → ObjectKeeps o → RowKeeps (rows.count_object_row o c f)
-  count_object_keeps (object.Memory lease) one = record { hand = ((each_append LeaseKeeps f.objects.memories.items (lease ∷ []) hand.0.0 (one, tt), hand.0.1), hand.1); turn = tt; parts = parts }
-  count_object_keeps (object.Table lease) one = record { hand = ((hand.0.0, each_append TableKeeps f.objects.tables.items (lease ∷ []) hand.0.1 (one, tt)), hand.1); turn = tt; parts = parts }
+  count_object_keeps (object.Memory lease) one = memory_counted_keeps f.asked lease one
+  count_object_keeps (object.Table lease) one = table_counted_keeps f.asked lease one
   count_object_keeps (object.Stack lease) one = record { hand = hand; turn = one; parts = parts }
 
   pub take_heap_keeps : (name : SlotName) → RowKeeps (rows.in_heaps c (rows.take_heap_on name (heaps_at c) f))
-  take_heap_keeps name = record { hand = hand; turn = heap_keeps P H f.ending _ _; parts = part_set c.plan.heap_list _ c parts tt }
+  take_heap_keeps name = record { hand = hand; turn = heap_keeps P H _ _; parts = part_set c.plan.heap_list _ c parts tt }
 
   pub make_heap_keeps : (r : Result H HeapMakeFault) (at : TakenSlot) → RowKeeps (rows.make_heap_row r at c f)
   make_heap_keeps (Ok heap) at = record { hand = hand; turn = tt; parts = parts }
@@ -342,7 +343,7 @@ module _ {P H : Type 0} (c : PoolCore P H) (f : Frame P H) (hand : HandKeeps f) 
   heap_granted_keeps [] lease ms = record { hand = hand; turn = tt; parts = parts }
   heap_granted_keeps (memory ∷ rest) lease ms = record { hand = ((tt, tt), hand.1); turn = ms.0; parts = parts }
 
-  pub put_heap_keeps : (slot : ℕ) (o : Option H) (phase : Phase P H) → PhaseTells f.ending phase → RowKeeps (rows.in_heaps c (rows.put_heap_on slot o phase (heaps_at c) f))
+  pub put_heap_keeps : (slot : ℕ) (o : Option H) (phase : Phase P H) → PhaseKeeps phase → RowKeeps (rows.in_heaps c (rows.put_heap_on slot o phase (heaps_at c) f))
   put_heap_keeps slot o phase one = record { hand = hand; turn = one; parts = part_set c.plan.heap_list _ c parts tt }
 
   -- given back,
@@ -365,23 +366,19 @@ module _ {P H : Type 0} (c : PoolCore P H) (f : Frame P H) (hand : HandKeeps f) 
 
   -- reset,
   was_reset_keeps : (slot : Slot) (lease : Lease) (fault : Bool) → Resets fault c.settings.keep_resident.bytes (slot_taken lease) (slot_of lease.memory) slot → LeaseKeeps lease → RowKeeps (rows.was_reset fault slot lease c f)
-  was_reset_keeps slot lease true told one =
-      let n : ℕ = lease.numbers.faults in
-      let keep : ℕ = c.settings.keep_resident.bytes in
-      let at : TakenSlot = slot_taken lease in
-      record { hand = hand; turn = (resets_keep n keep at (slot_of lease.memory) slot told one, λ is. resets_faulted n keep at (slot_of lease.memory) slot told one); parts = parts }
+  was_reset_keeps slot lease true told one = record { hand = hand; turn = resets_keep lease.numbers.faults c.settings.keep_resident.bytes (slot_taken lease) (slot_of lease.memory) slot told one; parts = parts }
   was_reset_keeps slot lease false told one =
       let local : Queue = reset_into c.settings.keep_resident.bytes (slot_taken lease) (slot_of lease.memory) f.local in
-      record { hand = (hand.0, memory_reset_keeps c.settings.keep_resident.bytes lease f.local one hand.1); turn = turned_keeps P H f.ending c.settings.batch local; parts = parts }
+      record { hand = (hand.0, memory_reset_keeps c.settings.keep_resident.bytes lease f.local one hand.1); turn = turned_keeps P H c.settings.batch local; parts = parts }
 
   pub reset_row_keeps : (g : StepGiven H) (o : Object P) → ResetTold c.settings g o → ObjectKeeps o → RowKeeps (rows.reset_row g o c f)
   reset_row_keeps g (object.Memory lease) told one = was_reset_keeps g.slot lease g.fault told one
   reset_row_keeps g (object.Table lease) told one =
       let local : Queue = table_reset_into c.settings lease f.local in
-      record { hand = (hand.0, table_reset_keeps c.settings.page c.settings.table_keep_resident.bytes lease lease.table.region f.local one hand.1); turn = turned_keeps P H f.ending c.settings.batch local; parts = parts }
+      record { hand = (hand.0, table_reset_keeps c.settings.page c.settings.table_keep_resident.bytes lease lease.table.region f.local one hand.1); turn = turned_keeps P H c.settings.batch local; parts = parts }
   reset_row_keeps g (object.Stack lease) told one =
       let local : Queue = stack_reset c.settings.stack_keep_resident.bytes lease f.local in
-      record { hand = (hand.0, stack_reset_keeps c.settings.stack_keep_resident.bytes lease f.local one hand.1); turn = turned_keeps P H f.ending c.settings.batch local; parts = parts }
+      record { hand = (hand.0, stack_reset_keeps c.settings.stack_keep_resident.bytes lease f.local one hand.1); turn = turned_keeps P H c.settings.batch local; parts = parts }
 
   -- merged,
   merged_keeps : (place : ℕ) (b : Bool) (whole : Queue) → QueueKeeps whole → RowKeeps (rows.in_queue place c (rows.merged b whole (record f { local = drained f.local })))
@@ -391,7 +388,7 @@ module _ {P H : Type 0} (c : PoolCore P H) (f : Frame P H) (hand : HandKeeps f) 
   pub merge_keeps : (place : ℕ) → RowKeeps (rows.in_queue place c (rows.merge_on c.settings (queue_at place c) f))
   merge_keeps place =
       let whole : Queue = after_append (queue_at place c) f.local in
-      merged_keeps place (nat_le c.settings.batch (length whole.ranges)) whole (joined_keep (queue_at place c).slots f.local.slots (queue_keeps (part_at place c.parts) (parts place)) hand.1)
+      merged_keeps place (nat_le c.settings.batch (length whole.ranges)) whole (joined_each QueuedKeeps (queue_at place c).slots f.local.slots (queue_keeps (part_at place c.parts) (parts place)) hand.1)
 
   -- and flushed.
   put_first_keeps : (o : Option Queued) (rest : List Queued) → QueueKeeps (record f.local { slots = rest }) → RowKeeps (rows.put_first o rest c f)
@@ -400,6 +397,6 @@ module _ {P H : Type 0} (c : PoolCore P H) (f : Frame P H) (hand : HandKeeps f) 
 
   pub flush_row_keeps : (step : rows.FlushStep) (g : StepGiven H) → FlushTold step g f.local → RowKeeps (rows.flush_row step g.queue c f)
   flush_row_keeps rows.run g told = record { hand = (hand.0, decommits_keep g.fault f.local g.queue told hand.1); turn = tt; parts = parts }
-  flush_row_keeps (rows.zero kind) g told = record { hand = (hand.0, first_zeroed_keep kind f.local.slots hand.1); turn = tt; parts = parts }
-  flush_row_keeps (rows.put kind) g told = put_first_keeps (first_of_kind kind f.local.slots) (others_of_kind kind f.local.slots) (others_keep kind f.local.slots hand.1)
+  flush_row_keeps (rows.zero kind) g told = record { hand = (hand.0, first_zeroed_each QueuedKeeps kind f.local.slots zeroed_keeps hand.1); turn = tt; parts = parts }
+  flush_row_keeps (rows.put kind) g told = put_first_keeps (first_of_kind kind f.local.slots) (others_of_kind kind f.local.slots) (others_each QueuedKeeps kind f.local.slots hand.1)
   flush_row_keeps rows.free g told = record { hand = hand; turn = tt; parts = shard_set _ _ c parts }

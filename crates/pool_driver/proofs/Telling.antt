@@ -25,7 +25,7 @@ use Rattle.pool_alloc.specs.declared.frame.Call.TheVariants as call
 use Rattle.pool_alloc.specs.declared.frame.Ending.{Ending}
 use Rattle.pool_alloc.specs.declared.frame.Ending.TheVariants.{Granted as granted, Returned as returned, Refused as refused}
 use Rattle.pool_alloc.specs.declared.frame.Frame.{Frame}
-use Rattle.pool_alloc.specs.declared.frame.Grant.TheVariants.{Instance, Component, Stack, Heap}
+use Rattle.pool_alloc.specs.declared.frame.Grant.TheVariants.{Instance, Component, Memory, Table, Stack, Heap}
 use Rattle.pool_alloc.specs.declared.frame.Outcome.{Outcome}
 use Rattle.pool_alloc.specs.declared.frame.Phase.{Phase}
 use Rattle.pool_alloc.specs.declared.frame.Phase.TheVariants.{Idle, Key, Validate, TestStack, TestHeap, CountInstance, Pick, TakeQueue, TakeRegion, Empty, Instantiate, MakeMemory, MakeTable, CountObject, TakeHeap, MakeHeap, CountHeap, PutNoHeap, PutBack, FreeOne, UncountObject, UncountHeap, PutHeap, FreeHeap, Reset, Merge, Flush, UncountInstance, ValidateComponent, CountComponent, UncountComponent, Purge, Release}
@@ -58,6 +58,8 @@ module _ {T P H : Type 0} (base w : View T) (plan : Plan) (f : Frame P H) (over 
       go : (a : Asked) → IsModule a → LeftTold base w plan f.home f.stripe (all_returned a f)
       go (asked.Module m) is = (over, tt, refl)
       go asked.Nothing is = absurd is
+      go (asked.Memory m) is = absurd is
+      go (asked.Table ty) is = absurd is
       go asked.Stack is = absurd is
       go (asked.Heap ty) is = absurd is
 
@@ -242,10 +244,14 @@ module _ {T P H : Type 0} (v : View T) (plan : Plan) where
   tells_begin call.Key f = tt
   tells_begin (call.Module m) f = (nothing_counted v instance_counter, record { queues = λ j below. absurd (omega arith); none = tt; ending = tt })
   tells_begin (call.Component info) f = nothing_counted v component_counter
+  tells_begin (call.Memory m) f = (λ j below. absurd (omega arith), record { queues = λ j below. absurd (omega arith); none = tt; ending = tt })
+  tells_begin (call.Table ty) f = (λ j below. absurd (omega arith), record { queues = λ j below. absurd (omega arith); none = tt; ending = tt })
   tells_begin call.Stack f = record { queues = λ j below. absurd (omega arith); none = tt; ending = tt }
   tells_begin (call.Heap ty) f = record { queues = λ j below. absurd (omega arith); none = tt; ending = tt }
   tells_begin (call.GiveBack (Instance lease)) f = back_begins lease.memories.items lease.tables.items (record f { asked = asked.Nothing; objects = lease; ending = returned }) refl refl
   tells_begin (call.GiveBack Component) f = record { none = λ q place. refl; ending = tt }
+  tells_begin (call.GiveBack (Memory lease)) f = record { queues = tt; none = λ q place. refl; ending = tt }
+  tells_begin (call.GiveBack (Table lease)) f = record { queues = tt; none = λ q place. refl; ending = tt }
   tells_begin (call.GiveBack (Stack lease)) f = record { queues = tt; none = λ q place. refl; ending = tt }
   tells_begin (call.GiveBack (Heap lease memory)) f = record { queues = tt; none = λ q place. refl; ending = tt }
   tells_begin (call.Purge id) f = tt

@@ -28,11 +28,14 @@ use Rattle.pool_alloc.specs.HeapLeases.{LeasedHeap}
 use Rattle.pool_alloc.specs.MemorySteps.{refusal_of, heap_refusal, made_of, made_of_limits, made_for}
 use Rattle.pool_alloc.specs.Purges.{purge_to, affine_picked, behind_memory, behind_turn, purge_row, has_turns, purged_stripe}
 use Rattle.pool_alloc.specs.Releases.{behind_stripe, free_first, drain_at, warm_taken, release_row, released_stripe}
-use Rattle.pool_alloc.specs.StepTable.{unmapped_next, region_next, heap_next, validated, stacks_tested, heaps_tested, paged, was_made, was_made_table, make_heap_row, heap_granted, count_object_row, uncount_object_row, reset_row, was_reset, reset_turn, merged, flush_row, FlushStep, run, zero, put, free, put_first}
+use Rattle.pool_alloc.specs.StepTable.{memory_kept, memory_turn, table_kept, table_turn, unmapped_next, region_next, heap_next, validated, stacks_tested, heaps_tested, paged, was_made, was_made_table, make_heap_row, heap_granted, count_object_row, uncount_object_row, reset_row, was_reset, reset_turn, merged, flush_row, FlushStep, run, zero, put, free, put_first}
 use Rattle.pool_alloc.specs.StepReads.{StepGiven}
 use Rattle.pool_alloc.specs.TableLeases.{LeasedTable}
 use Rattle.pool_alloc.specs.TableSteps.{made_unless, made_table}
+use Rattle.pool_alloc.specs.Reserved.{with_item}
 use Rattle.pool_alloc.specs.Turns.{Row, goes, after, failing}
+use Rattle.pool_alloc.specs.declared.frame.Asked.{Asked}
+use Rattle.pool_alloc.specs.declared.frame.Asked.TheVariants as asked
 use Rattle.pool_alloc.specs.declared.frame.Frame.{Frame}
 use Rattle.pool_alloc.specs.declared.frame.Object.{Object}
 use Rattle.pool_alloc.specs.declared.frame.Object.TheVariants as object
@@ -148,9 +151,17 @@ module _ {T P H : Type 0} (base w : View T) where
     table_made_told at region (Ok lease) none going = (going, tt, refl)
     table_made_told at region (Err e) none going = (fails_told plan e f none, tt, refl)
 
+    memory_counted_told : (what : Asked) (lease : Lease) → CallGoes base w plan f → LeftTold base w plan f.home f.stripe (after (memory_kept what lease f) (memory_turn what lease))
+    memory_counted_told (asked.Memory m) lease going = (tt, tt, refl)
+    memory_counted_told what lease going = next_told base w plan f.ending (record f { objects = record f.objects { memories = with_item lease f.objects.memories }; queues = 0 }) refl (record { queues = none_taken base w plan f.home f.ending; none = going.none; ending = going.ending })
+
+    table_counted_told : (what : Asked) (lease : LeasedTable) → CallGoes base w plan f → LeftTold base w plan f.home f.stripe (after (table_kept what lease f) (table_turn what lease))
+    table_counted_told (asked.Table ty) lease going = (tt, tt, refl)
+    table_counted_told what lease going = next_told base w plan f.ending (record f { objects = record f.objects { tables = with_item lease f.objects.tables }; queues = 0 }) refl (record { queues = none_taken base w plan f.home f.ending; none = going.none; ending = going.ending })
+
     pub object_told : (o : Object P) → CallGoes base w plan f → RowTold plan f.home f.stripe (count_object_row o c f)
-    object_told (object.Memory lease) going = next_told base w plan f.ending (count_object_row (object.Memory lease) c f).frame refl (record { queues = none_taken base w plan f.home f.ending; none = going.none; ending = going.ending })
-    object_told (object.Table lease) going = next_told base w plan f.ending (count_object_row (object.Table lease) c f).frame refl (record { queues = none_taken base w plan f.home f.ending; none = going.none; ending = going.ending })
+    object_told (object.Memory lease) going = memory_counted_told f.asked lease going
+    object_told (object.Table lease) going = table_counted_told f.asked lease going
     object_told (object.Stack lease) going = (tt, tt, refl)
 
     pub heap_told : (at : TakenSlot) (o : Option H) → CallGoes base w plan f → LeftTold base w plan f.home f.stripe (after f (heap_next at o))

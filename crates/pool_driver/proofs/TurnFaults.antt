@@ -1,5 +1,5 @@
 -- However a call goes on, what it has keeps its faults.
-use Rattle.std.proofs.Common.{◌≡◌, ℕ, List, [], ◌∷◌, Some, nat_lt}
+use Rattle.std.proofs.Common.{ℕ, List, [], ◌∷◌, Some, nat_lt}
 use Rattle.std.specs.List.{AllByRecursion}
 use Rattle.pool_alloc.specs.Calls.{begun_call, gives_back}
 use Rattle.pool_alloc.specs.Leases.{Lease}
@@ -7,25 +7,21 @@ use Rattle.pool_alloc.specs.Objects.{no_objects, objects_in, objects_wanted}
 use Rattle.pool_alloc.specs.TableLeases.{LeasedTable}
 use Rattle.pool_alloc.specs.Turns.{Turn, goes, ends, next, flush, search, stays, Left, after, all_returned, answer_of, ends_with, failing, flush_next, goes_to, granted_next, is_flushed, next_by, returned_next, search_next}
 use Rattle.pool_alloc.specs.declared.frame.Asked.{Asked}
-use Rattle.pool_alloc.specs.declared.frame.Asked.TheVariants.{Nothing as nothing_asked, Stack as stack_asked, Heap as heap_asked}
+use Rattle.pool_alloc.specs.declared.frame.Asked.TheVariants.{Nothing as nothing_asked, Memory as memory_asked, Table as table_asked, Stack as stack_asked, Heap as heap_asked}
 use Rattle.pool_alloc.specs.declared.frame.Call.{Call}
 use Rattle.pool_alloc.specs.declared.frame.Call.TheVariants as call
 use Rattle.pool_alloc.specs.declared.frame.Ending.{Ending}
 use Rattle.pool_alloc.specs.declared.frame.Ending.TheVariants.{Granted as granted, Returned as returned, Refused as refused}
 use Rattle.pool_alloc.specs.declared.frame.Frame.{Frame}
 use Rattle.pool_alloc.specs.declared.frame.Grant.{Grant}
-use Rattle.pool_alloc.specs.declared.frame.Grant.TheVariants.{Instance, Component, Stack as stack_grant, Heap as heap_grant}
+use Rattle.pool_alloc.specs.declared.frame.Grant.TheVariants.{Instance, Component, Memory as memory_grant, Table as table_grant, Stack as stack_grant, Heap as heap_grant}
 use Rattle.pool_alloc.specs.declared.frame.Object.TheVariants.{Memory, Table}
 use Rattle.pool_alloc.specs.declared.frame.Outcome.{Outcome}
 use Rattle.pool_alloc.specs.declared.frame.Outcome.TheVariants as answer
 use Rattle.pool_alloc.specs.declared.frame.Phase.{Phase}
-use Rattle.pool_alloc.specs.declared.frame.Phase.TheVariants.{Pick, TakeQueue, PutBack, UncountObject, Flush, UncountInstance}
-use Rattle.pool_slots.specs.CellOf.{cell_of}
-use Rattle.pool_slots.specs.RegionCells.{faults_in}
+use Rattle.pool_alloc.specs.declared.frame.Phase.TheVariants.{Pick, TakeQueue, UncountObject, Flush, UncountInstance}
 use Rattle.pool_slots.specs.declared.errors.AllocError.{AllocError}
-use Rattle.pool_slots.specs.declared.errors.AllocError.TheVariants as refusal
-use Rattle.pool_driver.specs.Faults.{AnswerKeeps, FrameKeeps, GrantKeeps, InstanceKeeps, KeepsFaults, LeaseKeeps, PhaseKeeps, QueueKeeps, TableKeeps}
-use Rattle.pool_driver.specs.FaultsTold.{FaultTold, HasFaulted, PutsFaulted}
+use Rattle.pool_driver.specs.Faults.{AnswerKeeps, FrameKeeps, GrantKeeps, InstanceKeeps, LeaseKeeps, PhaseKeeps, QueueKeeps, TableKeeps}
 use Rattle.pool_driver.proofs.QueueFaults.{by_choice}
 
 pub answer_keeps : (P H : Type 0) (e : Ending) → AnswerKeeps {P = P} {H = H} (Some (answer_of e))
@@ -38,42 +34,29 @@ module _ {P H : Type 0} where
   abbrev pub HandKeeps : Frame P H → Type 0
   HandKeeps f = InstanceKeeps f.objects × QueueKeeps f.local
 
-  -- What a call that is to end so has taken for its next step keeps its faults. Where it is put back after a failed page call, it has
-  -- more than were told.
-  abbrev pub PhaseTells : Ending → Phase P H → Type 0
-  PhaseTells e (PutBack at held) = KeepsFaults at.numbers.faults (faults_in (cell_of held)) × (e ≡ refused refusal.PageFault → HasFaulted at.numbers.faults (faults_in (cell_of held)))
-  PhaseTells e phase = PhaseKeeps phase
-
-  keeps_of : (e : Ending) (phase : Phase P H) → PhaseTells e phase → PhaseKeeps phase
-  keeps_of e (PutBack at held) k = k.0
-  keeps_of e phase k = k
-
-  tells_of : (e : Ending) (phase : Phase P H) → PhaseTells e phase → e ≡ refused refusal.PageFault → PutsFaulted phase
-  tells_of e (PutBack at held) k is = k.1 is
-  tells_of e phase k is = tt
-
   -- what a turn says of regions; a call under way doesn't stay as it is
-  abbrev pub TurnKeeps : Ending → Turn P H → Type 0
-  TurnKeeps e (goes phase) = PhaseTells e phase
-  TurnKeeps e (ends outcome) = AnswerKeeps (Some outcome)
-  TurnKeeps e next = Unit {0}
-  TurnKeeps e flush = Unit {0}
-  TurnKeeps e (search queues x) = Unit {0}
-  TurnKeeps e stays = ⊥
+  abbrev pub TurnKeeps : Turn P H → Type 0
+  TurnKeeps (goes phase) = PhaseKeeps phase
+  TurnKeeps (ends outcome) = AnswerKeeps (Some outcome)
+  TurnKeeps next = Unit {0}
+  TurnKeeps flush = Unit {0}
+  TurnKeeps (search queues x) = Unit {0}
+  TurnKeeps stays = ⊥
 
   -- what it leaves
   pub record LeftKeeps (l : Left P H) : Type 0 where
     pub frame : FrameKeeps l.frame
-    pub told : FaultTold l.frame
     pub answer : AnswerKeeps l.outcome
 
-  goes_keeps : (f : Frame P H) (phase : Phase P H) → HandKeeps f → PhaseTells f.ending phase → LeftKeeps (goes_to f phase)
-  goes_keeps f phase k one = record { frame = record { objects = k.0; local = k.1; phase = keeps_of f.ending phase one }; told = tells_of f.ending phase one; answer = tt }
+  goes_keeps : (f : Frame P H) (phase : Phase P H) → HandKeeps f → PhaseKeeps phase → LeftKeeps (goes_to f phase)
+  goes_keeps f phase k one = record { frame = record { objects = k.0; local = k.1; phase = one }; answer = tt }
 
   ends_keeps : (f : Frame P H) (outcome : Outcome P H) → HandKeeps f → AnswerKeeps (Some outcome) → LeftKeeps (ends_with f outcome)
-  ends_keeps f outcome k one = record { frame = record { objects = k.0; local = k.1; phase = tt }; told = λ is. tt; answer = one }
+  ends_keeps f outcome k one = record { frame = record { objects = k.0; local = k.1; phase = tt }; answer = one }
 
   all_returned_keeps : (asked : Asked) (f : Frame P H) → HandKeeps f → LeftKeeps (all_returned asked f)
+  all_returned_keeps (memory_asked m) f k = ends_keeps f (answer_of f.ending) k (answer_keeps P H f.ending)
+  all_returned_keeps (table_asked ty) f k = ends_keeps f (answer_of f.ending) k (answer_keeps P H f.ending)
   all_returned_keeps stack_asked f k = ends_keeps f (answer_of f.ending) k (answer_keeps P H f.ending)
   all_returned_keeps (heap_asked ty) f k = ends_keeps f (answer_of f.ending) k (answer_keeps P H f.ending)
   all_returned_keeps asked f k = goes_keeps f UncountInstance k tt
@@ -105,7 +88,7 @@ module _ {P H : Type 0} where
       (goes_keeps f TakeQueue k tt)
       (returned_keeps f.objects.memories.items f.objects.tables.items (failing e f) k.0.0 k.0.1 k)
 
-  pub after_keeps : (f : Frame P H) (turn : Turn P H) → HandKeeps f → TurnKeeps f.ending turn → LeftKeeps (after f turn)
+  pub after_keeps : (f : Frame P H) (turn : Turn P H) → HandKeeps f → TurnKeeps turn → LeftKeeps (after f turn)
   after_keeps f (goes phase) k one = goes_keeps f phase k one
   after_keeps f (ends outcome) k one = ends_keeps f outcome k one
   after_keeps f next k one = next_keeps f.ending f k
@@ -123,6 +106,8 @@ module _ {P H : Type 0} where
       let left = returned_keeps lease.memories.items lease.tables.items (record f { asked = nothing_asked; objects = lease; ending = returned }) one.0 one.1 (one, k.local) in
       record { objects = left.frame.objects; local = left.frame.local; phase = left.frame.phase }
   back_keeps Component f k one = record { objects = k.objects; local = k.local; phase = tt }
+  back_keeps (memory_grant lease) f k one = record { objects = k.objects; local = k.local; phase = one }
+  back_keeps (table_grant lease) f k one = record { objects = k.objects; local = k.local; phase = one }
   back_keeps (stack_grant lease) f k one = record { objects = k.objects; local = k.local; phase = one }
   back_keeps (heap_grant lease memory) f k one = record { objects = k.objects; local = k.local; phase = one }
 
@@ -131,21 +116,10 @@ module _ {P H : Type 0} where
   begun_keeps call.Key f k one = record { objects = k.objects; local = k.local; phase = tt }
   begun_keeps (call.Module m) f k one = record { objects = k.objects; local = k.local; phase = tt }
   begun_keeps (call.Component info) f k one = record { objects = k.objects; local = k.local; phase = tt }
+  begun_keeps (call.Memory m) f k one = record { objects = k.objects; local = k.local; phase = tt }
+  begun_keeps (call.Table ty) f k one = record { objects = k.objects; local = k.local; phase = tt }
   begun_keeps call.Stack f k one = record { objects = k.objects; local = k.local; phase = tt }
   begun_keeps (call.Heap ty) f k one = record { objects = k.objects; local = k.local; phase = tt }
   begun_keeps (call.GiveBack grant) f k one = back_keeps grant f k one
   begun_keeps (call.Purge id) f k one = record { objects = k.objects; local = k.local; phase = tt }
   begun_keeps call.Release f k one = record { objects = k.objects; local = k.local; phase = tt }
-
-  -- It puts no region back at once.
-  back_tells : (grant : Grant P H) (f : Frame P H) → FrameKeeps f → GrantKeeps grant → FaultTold (gives_back grant f)
-  back_tells (Instance lease) f k one =
-      let left = returned_keeps lease.memories.items lease.tables.items (record f { asked = nothing_asked; objects = lease; ending = returned }) one.0 one.1 (one, k.local) in
-      λ is. left.told is
-  back_tells Component f k one = λ is. tt
-  back_tells (stack_grant lease) f k one = λ is. tt
-  back_tells (heap_grant lease memory) f k one = λ is. tt
-
-  pub begun_tells : (c : Call P H) (f : Frame P H) → FrameKeeps f → CallKeeps c → FaultTold (begun_call c f)
-  begun_tells (call.GiveBack grant) f k one = back_tells grant f k one
-  begun_tells c f k one = λ is. tt

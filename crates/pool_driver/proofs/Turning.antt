@@ -54,6 +54,8 @@ module _ {T P H : Type 0} (base v : View T) where
       ended = answered P H base v ⊥ ⊥ (λ no. absurd no) (λ no. absurd no) plan f.home f.ending back going.none going.ending
 
       all : (a : Asked) → LeftTold plan f.home f.stripe (all_returned a f)
+      all (asked.Memory m) = (tt, ended, refl)
+      all (asked.Table ty) = (tt, ended, refl)
       all asked.Stack = (tt, ended, refl)
       all (asked.Heap ty) = (tt, ended, refl)
       all asked.Nothing = (over_told base v plan f.home f.queues f.ending going, tt, refl)

@@ -10,16 +10,16 @@ use Rattle.pool_table.specs.Making.{making_question}
 use Rattle.pool_slots.specs.declared.errors.AllocError.{AllocError}
 use Rattle.pool_slots.specs.declared.errors.AllocError.TheVariants.{LimiterDenied, LimiterFault, HeapFault}
 use Rattle.pool_slots.specs.declared.heap_maker.HeapMakeFault.{HeapMakeFault}
-use Rattle.pool_alloc.specs.CallStages.{Progress, untested, uncounted, admitted, seeks_stack, tests_heap, seeks_heap, counts_heap, Stage, no_call, keys, asks, tests_component, counts_component, returning, refusing, purging, reserving, releasing, stage_of}
+use Rattle.pool_alloc.specs.CallStages.{Progress, untested, uncounted, admitted, seeks_single, seeks_stack, tests_heap, seeks_heap, counts_heap, Stage, no_call, keys, asks, tests_component, counts_component, returning, refusing, purging, reserving, releasing, stage_of}
 use Rattle.pool_alloc.specs.MemorySteps.{heap_refusal}
 use Rattle.pool_alloc.specs.PartyTold.{PartyTold, MakesHeap}
 use Rattle.pool_alloc.specs.StepReads.{heaps_wanted, memories_wanted, tables_wanted}
 use Rattle.pool_alloc.specs.declared.frame.Asked.{Asked}
-use Rattle.pool_alloc.specs.declared.frame.Asked.TheVariants.{Module as module_asked, Heap as heap_asked}
+use Rattle.pool_alloc.specs.declared.frame.Asked.TheVariants.{Module as module_asked, Memory as memory_asked, Table as table_asked, Heap as heap_asked}
 use Rattle.pool_alloc.specs.declared.frame.Call.{Call}
 use Rattle.pool_alloc.specs.declared.frame.Call.TheVariants as call
 use Rattle.pool_alloc.specs.declared.frame.Frame.{Frame}
-use Rattle.pool_alloc.specs.declared.frame.Grant.TheVariants.{Instance, Component, Stack, Heap}
+use Rattle.pool_alloc.specs.declared.frame.Grant.TheVariants.{Instance, Component, Memory as memory_granted, Table as table_granted, Stack, Heap}
 use Rattle.pool_alloc.specs.declared.frame.Outcome.{Outcome}
 use Rattle.pool_alloc.specs.declared.frame.Outcome.TheVariants.{Key, Granted, Returned, Purged, Released, Refused}
 
@@ -102,6 +102,7 @@ abbrev pub RequestAsked : Asked → Progress → List Exchange → Type 0
 RequestAsked asked untested passed = passed ≡ []
 RequestAsked asked uncounted passed = passed ≡ []
 RequestAsked asked (admitted n) passed = YesTo asked n passed
+RequestAsked asked (seeks_single n) passed = YesTo asked n passed
 RequestAsked asked seeks_stack passed = passed ≡ []
 RequestAsked asked tests_heap passed = passed ≡ []
 RequestAsked asked (seeks_heap n) passed = YesTo asked n passed
@@ -121,11 +122,13 @@ AskedSoFar asked reserving passed = passed ≡ []
 AskedSoFar asked releasing passed = passed ≡ []
 
 module _ {P H : Type 0} where
-  -- What passed where a call ends so: for an instance or a heap the limiter said yes to all that was asked for.
+  -- What passed where a call ends so: for an instance, a memory or a table by itself, or a heap the limiter said yes to all that was asked for.
   abbrev pub AnsweredAfter : Asked → Outcome P H → List Exchange → Type 0
   AnsweredAfter asked Key passed = passed ≡ []
   AnsweredAfter asked (Granted (Instance lease)) passed = passed ≡ all_yes (questions asked)
   AnsweredAfter asked (Granted Component) passed = passed ≡ []
+  AnsweredAfter asked (Granted (memory_granted lease)) passed = passed ≡ all_yes (questions asked)
+  AnsweredAfter asked (Granted (table_granted lease)) passed = passed ≡ all_yes (questions asked)
   AnsweredAfter asked (Granted (Stack lease)) passed = passed ≡ []
   AnsweredAfter asked (Granted (Heap lease memory)) passed = passed ≡ all_yes (questions asked)
   AnsweredAfter asked Returned passed = passed ≡ []
@@ -133,11 +136,14 @@ module _ {P H : Type 0} where
   AnsweredAfter asked (Released n) passed = passed ≡ []
   AnsweredAfter asked (Refused e) passed = RefusedAfter asked e passed
 
-  -- What passes between a call and its limiter: nothing but the questions of a module or a heap.
+  -- What passes between a call and its limiter: nothing but the questions of a module, of a memory or a table by
+  -- itself, or of a heap.
   abbrev pub CallAsks : Call P H → Outcome P H → List Exchange → Type 0
   CallAsks call.Key o passed = passed ≡ []
   CallAsks (call.Module m) o passed = AnsweredAfter (module_asked m) o passed
   CallAsks (call.Component info) o passed = passed ≡ []
+  CallAsks (call.Memory m) o passed = AnsweredAfter (memory_asked m) o passed
+  CallAsks (call.Table ty) o passed = AnsweredAfter (table_asked ty) o passed
   CallAsks call.Stack o passed = passed ≡ []
   CallAsks (call.Heap ty) o passed = AnsweredAfter (heap_asked ty) o passed
   CallAsks (call.GiveBack grant) o passed = passed ≡ []
@@ -153,11 +159,13 @@ module _ {P H : Type 0} where
   IfRefused Q (Released n) = Unit {0}
   IfRefused Q (Refused e) = Q e
 
-  -- The call is for neither an instance nor a heap.
+  -- The call is for neither an instance, nor a memory or a table by itself, nor a heap.
   abbrev pub IsQuiet : Call P H → Type 0
   IsQuiet call.Key = Unit {0}
   IsQuiet (call.Module m) = ⊥
   IsQuiet (call.Component info) = Unit {0}
+  IsQuiet (call.Memory m) = ⊥
+  IsQuiet (call.Table ty) = ⊥
   IsQuiet call.Stack = Unit {0}
   IsQuiet (call.Heap ty) = ⊥
   IsQuiet (call.GiveBack grant) = Unit {0}
@@ -175,6 +183,8 @@ module _ {P H : Type 0} where
   IsForHeap call.Key = ⊥
   IsForHeap (call.Module m) = ⊥
   IsForHeap (call.Component info) = ⊥
+  IsForHeap (call.Memory m) = ⊥
+  IsForHeap (call.Table ty) = ⊥
   IsForHeap call.Stack = ⊥
   IsForHeap (call.Heap ty) = Unit {0}
   IsForHeap (call.GiveBack grant) = ⊥

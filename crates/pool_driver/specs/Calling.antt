@@ -6,20 +6,18 @@ use Rattle.pool_alloc.specs.Calls.{IsGrantOf, IsIdle, IfGranted}
 use Rattle.pool_alloc.specs.CallStages.{Stage, no_call, keys, asks, tests_component, counts_component, returning, refusing, purging, reserving, releasing, stage_of}
 use Rattle.pool_alloc.specs.Stepping.{is_idle}
 use Rattle.pool_alloc.specs.declared.frame.Asked.{Asked}
-use Rattle.pool_alloc.specs.declared.frame.Asked.TheVariants.{Nothing as nothing_asked, Module as module_asked, Stack as stack_asked, Heap as heap_asked}
+use Rattle.pool_alloc.specs.declared.frame.Asked.TheVariants.{Nothing as nothing_asked, Module as module_asked, Memory as memory_asked, Table as table_asked, Stack as stack_asked, Heap as heap_asked}
 use Rattle.pool_alloc.specs.declared.frame.Call.{Call}
 use Rattle.pool_alloc.specs.declared.frame.Call.TheVariants as call
 use Rattle.pool_alloc.specs.declared.frame.Frame.{Frame}
-use Rattle.pool_alloc.specs.declared.frame.Grant.TheVariants.{Instance, Component, Stack, Heap}
+use Rattle.pool_alloc.specs.declared.frame.Grant.TheVariants.{Instance, Component, Memory, Table, Stack, Heap}
 use Rattle.pool_alloc.specs.declared.frame.Outcome.{Outcome}
 use Rattle.pool_alloc.specs.declared.frame.Outcome.TheVariants.{Key, Granted, Returned, Purged, Released, Refused}
 use Rattle.pool_slots.specs.declared.plan.Plan.{Plan}
 use Rattle.pool_driver.specs.Counts.{counter_limits}
-use Rattle.pool_driver.specs.PageFaults.{CellFaulted, IfFaulted, PhaseFaulted}
+use Rattle.pool_driver.specs.PartsTold.{PartsTell, PartsTellSoFar}
 use Rattle.pool_driver.specs.Placed.{About}
-use Rattle.pool_driver.specs.Purging.{HasMissed, IfPurged, PhaseMissed}
 use Rattle.pool_driver.specs.Refusing.{IsCallFor, MayEnd}
-use Rattle.pool_driver.specs.Releasing.{HasTakenWarm, IfReleased, PhaseTaken}
 use Rattle.pool_driver.specs.Limits.{IfRefused, IfRefusing, KeepsStripe, Names}
 use Rattle.pool_driver.specs.Spending.{AnswerSpends, ColdOf, RefusalFewer, Spends, slots_of, wanted_of}
 use Rattle.pool_driver.specs.Telling.{AddsAtMost, HoldsMore, Tells, AnswerTold, component_counter, instance_counter}
@@ -62,6 +60,8 @@ Becomes first now = (now ≡ first) ⊎ (IsAsking first × (now ≡ is_refused))
 abbrev pub modules_asked : Asked → ℕ
 modules_asked nothing_asked = 0
 modules_asked (module_asked m) = 1
+modules_asked (memory_asked m) = 0
+modules_asked (table_asked ty) = 0
 modules_asked stack_asked = 0
 modules_asked (heap_asked ty) = 0
 
@@ -86,6 +86,8 @@ module _ {P H : Type 0} where
   kind_of call.Key = draws_key
   kind_of (call.Module m) = asks_for
   kind_of (call.Component info) = asks_component
+  kind_of (call.Memory m) = asks_for
+  kind_of (call.Table ty) = asks_for
   kind_of call.Stack = asks_for
   kind_of (call.Heap ty) = asks_for
   kind_of (call.GiveBack grant) = gives_back
@@ -97,6 +99,8 @@ module _ {P H : Type 0} where
   abbrev pub MayAnswer : CallKind → Outcome P H → Type 0
   MayAnswer draws_key Key = Unit {0}
   MayAnswer asks_for (Granted (Instance lease)) = Unit {0}
+  MayAnswer asks_for (Granted (Memory lease)) = Unit {0}
+  MayAnswer asks_for (Granted (Table lease)) = Unit {0}
   MayAnswer asks_for (Granted (Stack lease)) = Unit {0}
   MayAnswer asks_for (Granted (Heap lease memory)) = Unit {0}
   MayAnswer asks_for (Refused e) = Unit {0}
@@ -120,20 +124,16 @@ module _ {P H : Type 0} where
     pub most : ColdOf base v plan kind (objects_of (kind_at (stage_of first)) kind first.asked)
     pub now : kind_at (stage_of f) ≡ asks_for → ColdOf base v plan kind (slots_of kind f)
 
-  -- A call began with the first view and the first frame, and goes on. The second view tells what it must of the call so far, and how many
-  -- cold slots it picked of each kind. A refusal with which it is to end names what it must; where that is for a failed page call, the fault
-  -- came home, or the region is put back next. Each shard of memories behind a release gave its warm slots. Where a purge found few slots,
-  -- each shard behind it missed what the purge was for. Its home, its stripe, what it asks for and its kind stay, it counted no more than it
-  -- may, and it may end only as it might have from its beginning.
+  -- A call began with the first view and the first frame, and goes on. The second view tells what it must of the call so far, and of its
+  -- parts, and how many cold slots it picked of each kind. A refusal with which it is to end names what it must. Its home, its stripe, what it
+  -- asks for and its kind stay, it counted no more than it may, and it may end only as it might have from its beginning.
   pub record GoesOnSince {T : Type 0} (a : About) (base v : View T) (first f : Frame P H) : Type 0 where
     pub busy : is_idle f.phase ≡ false
     pub tells : Tells base v a.plan f
     pub spends : Spends base v a.plan f
     pub cold : (kind : SlotKind) → PicksCold a.plan base v first f kind
     pub fewer : IfRefusing (RefusalFewer base v a.plan first.asked) (stage_of f)
-    pub fault : PhaseFaulted (CellFaulted base v a.plan) f.phase f.ending
-    pub warm : PhaseTaken base v a.plan f.phase
-    pub missed : PhaseMissed base v a.plan a.settings.max_memories_per_module f.phase
+    pub parts : PartsTellSoFar a base v f
     pub more : HoldsMore base v
     pub limits : v.limits ≡ counter_limits a.settings
     pub portions : v.portions ≡ base.portions
@@ -147,17 +147,13 @@ module _ {P H : Type 0} where
     pub sort : IsCallFor (stage_of f) f.asked
     pub ends : (o : Outcome P H) → MayEnd a.settings a.plan f.asked (stage_of f) o → MayEnd a.settings a.plan first.asked (stage_of first) o
 
-  -- Such a call has ended with this answer, which is one of its kind. A grant has what was asked for. It might end
-  -- so from its beginning: each refusal has a reason that what was asked for may have, and what is granted passed its test. A refusal for
-  -- want of room or by a
+  -- Such a call has ended with this answer, which is one of its kind. A grant has what was asked for. It might end so from its beginning:
+  -- each refusal has a reason that what was asked for may have, and what is granted passed its test. A refusal for want of room or by a
   -- counter names how many the pool may have, and one for want of a memory the frame's stripe; it has its reason in the second view, which
-  -- has forgotten nothing of the first. A give-back took no queue, and only a key changed the stripe. A call for a stack picked one cold
-  -- slot at most, and none where it wasn't granted. Of each kind a call picked no more cold slots than it asks for, and fewer of the kind
-  -- for which there was no room. Where it is refused for a failed page call, since it began a memory's region came back to its cell with
-  -- more faults, or with as many as can be counted. Where it is answered with what it released, each shard of memories gave its warm slots.
-  -- Where it is answered with fewer purged slots than each stripe has, each shard of memories missed as often as a module may have memories.
-  -- One addition was made at most on the counter of instances, and only by a call for a module; and one at
-  -- most on that of components, and only by a call for a component.
+  -- has forgotten nothing of the first, and tells what it must of the pool's parts. A give-back took no queue, and only a key changed the
+  -- stripe. A call for a stack picked one cold slot at most, and none where it wasn't granted. Of each kind a call picked no more cold slots
+  -- than it asks for, and fewer of the kind for which there was no room. One addition was made at most on the counter of instances, and only
+  -- by a call for a module; and one at most on that of components, and only by a call for a component.
   pub record HasEnded {T : Type 0} (a : About) (base v : View T) (first f : Frame P H) (o : Outcome P H) : Type 0 where
     pub idle : IsIdle f
     pub kind : MayAnswer (kind_at (stage_of first)) o
@@ -168,9 +164,7 @@ module _ {P H : Type 0} where
     pub spends : AnswerSpends base v a.plan first.asked (Some o)
     pub cold : (kind : SlotKind) → ColdOf base v a.plan kind (objects_of (kind_at (stage_of first)) kind first.asked)
     pub fewer : IfRefused (RefusalFewer base v a.plan first.asked) o
-    pub fault : IfRefused (IfFaulted (CellFaulted base v a.plan)) o
-    pub warm : IfReleased (HasTakenWarm base v a.plan) o
-    pub missed : IfPurged (HasMissed base v a.plan a.settings.max_memories_per_module) o
+    pub parts : PartsTell a base v o
     pub more : HoldsMore base v
     pub instances : AddsAtMost base v instance_counter (instances_of (kind_at (stage_of first)) first.asked)
     pub components : AddsAtMost base v component_counter (components_of (kind_at (stage_of first)))

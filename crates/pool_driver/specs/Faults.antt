@@ -1,5 +1,5 @@
 -- A region that is out, or lies in a queue, has no fewer faults than its unit tells. Whoever puts it back needs that: a cell's faults never fall.
-use Rattle.std.specs.Prelude.{ℕ, ◌^◌, ◌<◌, ◌≤◌, Option, Some, None, IfSome}
+use Rattle.std.specs.Prelude.{◌⊎◌, ℕ, ◌+◌, ◌^◌, ◌<◌, ◌≤◌, Option, Some, None, IfSome}
 use Rattle.std.specs.List.{AllByRecursion}
 use Rattle.pool_slots.specs.CellOf.{cell_of}
 use Rattle.pool_slots.specs.RegionCells.{faults_in}
@@ -12,7 +12,7 @@ use Rattle.pool_alloc.specs.StackLeases.{LeasedStack}
 use Rattle.pool_alloc.specs.TableLeases.{LeasedTable}
 use Rattle.pool_alloc.specs.declared.frame.Frame.{Frame}
 use Rattle.pool_alloc.specs.declared.frame.Grant.{Grant}
-use Rattle.pool_alloc.specs.declared.frame.Grant.TheVariants.{Instance, Component, Stack as stack_grant, Heap}
+use Rattle.pool_alloc.specs.declared.frame.Grant.TheVariants.{Instance, Component, Memory as memory_grant, Table as table_grant, Stack as stack_grant, Heap}
 use Rattle.pool_alloc.specs.declared.frame.Object.{Object}
 use Rattle.pool_alloc.specs.declared.frame.Object.TheVariants.{Memory, Table, Stack}
 use Rattle.pool_alloc.specs.declared.frame.Outcome.{Outcome}
@@ -29,6 +29,10 @@ use Rattle.pool_alloc.specs.declared.release.ReleaseStep.TheVariants as releasin
 pub record KeepsFaults (told has : ℕ) : Type 0 where
   pub least : told ≤ has
   pub small : told < 2 ^ 64
+
+-- A region has more faults than were told, or its count stands at the end of its type.
+abbrev pub HasFaulted : ℕ → ℕ → Type 0
+HasFaulted told has = (told < has) ⊎ (2 ^ 64 ≤ has + 1)
 
 -- The same of the region of a queued slot, and of what the slot's unit tells.
 abbrev pub QueuedKeeps : Queued → Type 0
@@ -81,6 +85,8 @@ module _ {P H : Type 0} where
   abbrev pub GrantKeeps : Grant P H → Type 0
   GrantKeeps (Instance lease) = InstanceKeeps lease
   GrantKeeps Component = Unit {0}
+  GrantKeeps (memory_grant lease) = LeaseKeeps lease
+  GrantKeeps (table_grant lease) = TableKeeps lease
   GrantKeeps (stack_grant lease) = StackKeeps lease
   GrantKeeps (Heap lease memory) = LeaseKeeps memory
 

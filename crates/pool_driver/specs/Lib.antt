@@ -5,12 +5,12 @@ pub mod Counts
 pub mod Driving
 pub mod Ending
 pub mod Faults
-pub mod FaultsTold
 pub mod Growing
 pub mod Laws
 pub mod Limits
 pub mod Origins
 pub mod PageFaults
+pub mod PartsTold
 pub mod Placed
 pub mod Pools
 pub mod Purging
@@ -18,3 +18,4 @@ pub mod Refusing
 pub mod Releasing
 pub mod Spending
 pub mod Telling
+pub mod UnknownPuts

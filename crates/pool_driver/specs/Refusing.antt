@@ -9,16 +9,16 @@ use Rattle.pool_slots.specs.declared.errors.AllocError.TheVariants.{Memory, Unsu
 use Rattle.pool_slots.specs.declared.errors.ConcurrencyKind.{ConcurrencyKind}
 use Rattle.pool_slots.specs.declared.errors.ConcurrencyKind.TheVariants.{CoreInstances, ComponentInstances, MemoryStripe, Tables, Fibers, GcHeaps}
 use Rattle.pool_slots.specs.declared.plan.Plan.{Plan}
-use Rattle.pool_alloc.specs.CallStages.{IsBroken, Progress, untested, uncounted, admitted, seeks_stack, tests_heap, seeks_heap, counts_heap, Stage, no_call, keys, asks, tests_component, counts_component, returning, refusing, purging, reserving, releasing}
+use Rattle.pool_alloc.specs.CallStages.{IsBroken, Progress, untested, uncounted, admitted, seeks_single, seeks_stack, tests_heap, seeks_heap, counts_heap, Stage, no_call, keys, asks, tests_component, counts_component, returning, refusing, purging, reserving, releasing}
 use Rattle.pool_alloc.specs.Refusals.{module_refused, heap_refused, component_refused}
-use Rattle.pool_alloc.specs.StepReads.{IsModule, heaps_wanted, info_wanted}
+use Rattle.pool_alloc.specs.StepReads.{IsModule, heaps_wanted, info_wanted, singles_wanted}
 use Rattle.pool_alloc.specs.StepTable.{no_component_left}
 use Rattle.pool_alloc.specs.declared.frame.Asked.{Asked}
-use Rattle.pool_alloc.specs.declared.frame.Asked.TheVariants.{Stack as stack_asked, Heap as heap_asked}
+use Rattle.pool_alloc.specs.declared.frame.Asked.TheVariants.{Memory as memory_asked, Table as table_asked, Stack as stack_asked, Heap as heap_asked}
 use Rattle.pool_alloc.specs.declared.frame.Call.{Call}
 use Rattle.pool_alloc.specs.declared.frame.Call.TheVariants as call
 use Rattle.pool_alloc.specs.declared.frame.Grant.{Grant}
-use Rattle.pool_alloc.specs.declared.frame.Grant.TheVariants.{Instance, Component, Stack, Heap}
+use Rattle.pool_alloc.specs.declared.frame.Grant.TheVariants.{Instance, Component, Memory as memory_granted, Table as table_granted, Stack, Heap}
 use Rattle.pool_alloc.specs.declared.frame.Outcome.{Outcome}
 use Rattle.pool_alloc.specs.declared.frame.Outcome.TheVariants.{Key, Granted, Returned, Purged, Released, Refused}
 use Rattle.pool_alloc.specs.declared.pool_core.Settings.{Settings}
@@ -31,6 +31,15 @@ IsModuleLimit (MemoryStripe stripe) = Unit {0}
 IsModuleLimit Tables = Unit {0}
 IsModuleLimit Fibers = ⊥
 IsModuleLimit GcHeaps = ⊥
+
+-- A memory by itself may be refused by the limit of memories of a stripe.
+abbrev pub IsMemoryLimit : ConcurrencyKind → Type 0
+IsMemoryLimit CoreInstances = ⊥
+IsMemoryLimit ComponentInstances = ⊥
+IsMemoryLimit (MemoryStripe stripe) = Unit {0}
+IsMemoryLimit Tables = ⊥
+IsMemoryLimit Fibers = ⊥
+IsMemoryLimit GcHeaps = ⊥
 
 -- A heap may be refused by the limit of memories of a stripe, or of heaps.
 abbrev pub IsHeapLimit : ConcurrencyKind → Type 0
@@ -48,10 +57,15 @@ IsUnmade AddressSpace = Unit {0}
 IsUnmade (TableSize min room) = room < min
 IsUnmade _ = ⊥
 
--- Why the memory of a heap that passed its test isn't made: addresses can't hold its least size.
+-- Why the memory of a heap that passed its test isn't made, or one by itself: addresses can't hold its least size.
 abbrev pub IsUnmadeMemory : Unsupported → Type 0
 IsUnmadeMemory AddressSpace = Unit {0}
 IsUnmadeMemory _ = ⊥
+
+-- Why a table by itself isn't made: its slot can't hold its least size.
+abbrev pub IsUnmadeTable : Unsupported → Type 0
+IsUnmadeTable (TableSize min room) = room < min
+IsUnmadeTable _ = ⊥
 
 -- Why a module that passed its test may be refused.
 abbrev pub FailsModule : AllocError → Type 0
@@ -64,6 +78,47 @@ FailsModule (LimiterDenied table min) = Unit {0}
 FailsModule (LimiterFault e) = Unit {0}
 FailsModule PageFault = Unit {0}
 FailsModule HeapFault = ⊥
+
+-- Why a memory by itself may be refused. Its type isn't tested again, and nothing is reserved for it, so there is no want of memory. The
+-- limiter is asked for it, and for no table.
+abbrev pub FailsMemory : AllocError → Type 0
+FailsMemory Memory = ⊥
+FailsMemory (unsupported rule) = IsUnmadeMemory rule
+FailsMemory (Limit l) = IsMemoryLimit l.kind
+FailsMemory StacksDisabled = ⊥
+FailsMemory HeapsDisabled = ⊥
+FailsMemory (LimiterDenied table min) = table ≡ false
+FailsMemory (LimiterFault e) = Unit {0}
+FailsMemory PageFault = Unit {0}
+FailsMemory HeapFault = ⊥
+
+-- Why a table by itself may be refused. No page call is made for it.
+abbrev pub FailsTable : AllocError → Type 0
+FailsTable Memory = ⊥
+FailsTable (unsupported rule) = IsUnmadeTable rule
+FailsTable (Limit l) = l.kind ≡ Tables
+FailsTable StacksDisabled = ⊥
+FailsTable HeapsDisabled = ⊥
+FailsTable (LimiterDenied table min) = table ≡ true
+FailsTable (LimiterFault e) = Unit {0}
+FailsTable PageFault = ⊥
+FailsTable HeapFault = ⊥
+
+-- Why an object by itself may be refused, by what is asked for.
+abbrev pub FailsSingle : Asked → AllocError → Type 0
+FailsSingle (memory_asked m) e = FailsMemory e
+FailsSingle (table_asked ty) e = FailsTable e
+FailsSingle _ e = ⊥
+
+-- A memory by itself is asked for,
+abbrev pub IsMemoryAsked : Asked → Type 0
+IsMemoryAsked (memory_asked m) = Unit {0}
+IsMemoryAsked _ = ⊥
+
+-- or a table.
+abbrev pub IsTableAsked : Asked → Type 0
+IsTableAsked (table_asked ty) = Unit {0}
+IsTableAsked _ = ⊥
 
 -- Why a heap that passed its test may be refused. The limiter is asked for its memory, and for no table.
 abbrev pub FailsHeap : AllocError → Type 0
@@ -108,16 +163,18 @@ abbrev pub RequestRefused : Settings → Plan → Asked → Progress → AllocEr
 RequestRefused s plan asked untested e = ModuleRefused s plan (info_wanted asked) e
 RequestRefused s plan asked uncounted e = FailsModule e
 RequestRefused s plan asked (admitted n) e = FailsModule e
+RequestRefused s plan asked (seeks_single n) e = FailsSingle asked e
 RequestRefused s plan asked seeks_stack e = StackRefused s e
 RequestRefused s plan asked tests_heap e = HeapRefused s asked e
 RequestRefused s plan asked (seeks_heap n) e = FailsHeap e
 RequestRefused s plan asked counts_heap e = ⊥
 
--- A request is for what its progress says: an instance of a module, a stack or a heap.
+-- A request is for what its progress says: an instance of a module, a memory or a table by itself, a stack or a heap.
 abbrev pub IsRequestFor : Progress → Asked → Type 0
 IsRequestFor untested asked = IsModule asked
 IsRequestFor uncounted asked = IsModule asked
 IsRequestFor (admitted n) asked = IsModule asked
+IsRequestFor (seeks_single n) asked = singles_wanted asked ≡ 1
 IsRequestFor seeks_stack asked = asked ≡ stack_asked
 IsRequestFor tests_heap asked = heaps_wanted asked ≡ 1
 IsRequestFor (seeks_heap n) asked = heaps_wanted asked ≡ 1
@@ -142,6 +199,8 @@ module _ {P H : Type 0} where
   RequestGranted s plan asked untested (Instance lease) = module_refused s plan.totals.table (info_wanted asked) ≡ None
   RequestGranted s plan asked uncounted (Instance lease) = Unit {0}
   RequestGranted s plan asked (admitted n) (Instance lease) = Unit {0}
+  RequestGranted s plan asked (seeks_single n) (memory_granted lease) = IsMemoryAsked asked
+  RequestGranted s plan asked (seeks_single n) (table_granted lease) = IsTableAsked asked
   RequestGranted s plan asked seeks_stack (Stack lease) = 0 < s.stack_size
   RequestGranted s plan asked tests_heap (Heap lease memory) = HeapPasses s asked
   RequestGranted s plan asked (seeks_heap n) (Heap lease memory) = Unit {0}
@@ -165,15 +224,19 @@ module _ {P H : Type 0} where
   MayEnd s plan asked releasing (Released n) = Unit {0}
   MayEnd s plan asked _ _ = ⊥
 
-  -- What a call may be answered. A key, a give-back and a purge are never refused. A module, a component, a stack and a heap are granted
-  -- as what they are, and only where they pass their test; they are refused for their own reasons alone, and a release only for want
-  -- of memory.
+  -- What a call may be answered. A key, a give-back and a purge are never refused. A module, a component, a memory or a table by
+  -- itself, a stack and a heap are granted as what they are, and only where they pass their test, if they have one; they are refused for
+  -- their own reasons alone, and a release only for want of memory.
   abbrev pub AnswersCall : Settings → Plan → Call P H → Outcome P H → Type 0
   AnswersCall s plan call.Key Key = Unit {0}
   AnswersCall s plan (call.Module m) (Granted (Instance lease)) = module_refused s plan.totals.table m.info ≡ None
   AnswersCall s plan (call.Module m) (Refused e) = ModuleRefused s plan m.info e
   AnswersCall s plan (call.Component info) (Granted Component) = component_refused s info ≡ None
   AnswersCall s plan (call.Component info) (Refused e) = ComponentRefused s info e
+  AnswersCall s plan (call.Memory m) (Granted (memory_granted lease)) = Unit {0}
+  AnswersCall s plan (call.Memory m) (Refused e) = FailsMemory e
+  AnswersCall s plan (call.Table ty) (Granted (table_granted lease)) = Unit {0}
+  AnswersCall s plan (call.Table ty) (Refused e) = FailsTable e
   AnswersCall s plan call.Stack (Granted (Stack lease)) = 0 < s.stack_size
   AnswersCall s plan call.Stack (Refused e) = StackRefused s e
   AnswersCall s plan (call.Heap ty) (Granted (Heap lease memory)) = HeapPasses s (heap_asked ty)

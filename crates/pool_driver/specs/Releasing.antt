@@ -1,20 +1,15 @@
 -- What a seat's view tells of a release: each shard of memories was asked for all its warm slots.
-use Rattle.std.specs.Prelude.{ℕ, ◌+◌, ◌<◌, length}
+use Rattle.std.specs.Prelude.{ℕ, ◌+◌, length}
 use Rattle.pool_hall.specs.declared.view.View.{View}
 use Rattle.pool_index.specs.Part.{warm_takes}
 use Rattle.pool_slots.specs.declared.plan.Plan.{Plan}
-use Rattle.pool_alloc.specs.StepReads.{stripe_allocator}
 use Rattle.pool_alloc.specs.declared.frame.Outcome.{Outcome}
 use Rattle.pool_alloc.specs.declared.frame.Outcome.TheVariants.{Released}
 use Rattle.pool_alloc.specs.declared.frame.Phase.{Phase}
 use Rattle.pool_alloc.specs.declared.frame.Phase.TheVariants.{Release}
 use Rattle.pool_alloc.specs.declared.release.ReleaseStep.{ReleaseStep}
 use Rattle.pool_alloc.specs.declared.release.ReleaseStep.TheVariants.{Reserve, TakeWarm, TakeRegion, Decommit, PutRegion, Free}
-use Rattle.pool_driver.specs.Telling.{HasMore}
-
--- The place of a shard of a stripe's memories.
-abbrev pub stripe_shard : Plan → ℕ → ℕ → ℕ
-stripe_shard plan stripe j = (stripe_allocator plan stripe).first_place + j
+use Rattle.pool_driver.specs.Telling.{ShardsHaveMore, StripesHaveMore}
 
 -- What is known of a call that is answered with what it released.
 abbrev pub IfReleased : {P H : Type 0} → Type 0 → Outcome P H → Type 0
@@ -23,13 +18,13 @@ IfReleased known _ = Unit {0}
 
 -- Of a call that began with the first view, and has the second now
 module _ {T : Type 0} (base v : View T) (plan : Plan) where
-  -- The first shards of a stripe, so many of them, gave all their warm slots at once. Each has counted one take of all warm slots more.
+  -- Each of the first shards of a stripe, so many of them, gave all its warm slots at once, and has counted that.
   abbrev pub ShardsTaken : ℕ → ℕ → Type 0
-  ShardsTaken stripe n = (j : ℕ) → j < n → HasMore base v (stripe_shard plan stripe j) warm_takes
+  ShardsTaken stripe n = ShardsHaveMore base v plan warm_takes 1 stripe n
 
   -- So did all shards of the first stripes, so many of them.
   abbrev pub StripesTaken : ℕ → Type 0
-  StripesTaken n = (stripe : ℕ) → stripe < n → ShardsTaken stripe (stripe_allocator plan stripe).shards
+  StripesTaken n = StripesHaveMore base v plan warm_takes 1 n
 
   -- So did all shards of memories.
   abbrev pub HasTakenWarm : Type 0

@@ -58,7 +58,8 @@ wanted_of table_kind asked = length (tables_wanted asked)
 wanted_of stack_kind asked = stacks_wanted asked
 wanted_of heap_kind asked = heaps_wanted asked
 
--- How many objects of a kind a call was granted so far. It ends with its stack or its heap, and has none of them before.
+-- How many objects of a kind a call was granted so far. It ends with its stack or its heap, or with a memory or a table by
+-- itself, and has none of them before.
 abbrev pub granted_of : {P : Type 0} → SlotKind → InstanceLease P → ℕ
 granted_of memory_kind objects = length objects.memories.items
 granted_of table_kind objects = length objects.tables.items

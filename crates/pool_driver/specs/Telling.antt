@@ -16,7 +16,7 @@ use Rattle.pool_slots.specs.declared.plan.Allocator.{Allocator}
 use Rattle.pool_slots.specs.declared.plan.Plan.{Plan}
 use Rattle.pool_alloc.specs.Places.{counted_instance, counted_component}
 use Rattle.pool_alloc.specs.Searches.{IsSearchedBy}
-use Rattle.pool_alloc.specs.StepReads.{allocator_for, allocator_of}
+use Rattle.pool_alloc.specs.StepReads.{allocator_for, allocator_of, stripe_allocator}
 use Rattle.pool_alloc.specs.declared.frame.Ending.{Ending}
 use Rattle.pool_alloc.specs.declared.frame.Ending.TheVariants.{Returned as returned, Refused as refused}
 use Rattle.pool_alloc.specs.declared.frame.Frame.{Frame}
@@ -29,6 +29,10 @@ use Rattle.pool_driver.specs.Driving.{counter_number, counter_of}
 -- The place among a queue's counts of how often the queue was taken whole.
 abbrev pub queue_takes : ℕ
 queue_takes = 0
+
+-- The place of a shard of a stripe's memories.
+abbrev pub stripe_shard : Plan → ℕ → ℕ → ℕ
+stripe_shard plan stripe j = (stripe_allocator plan stripe).first_place + j
 
 -- The number of the counter of instances.
 abbrev pub instance_counter : ℕ
@@ -50,9 +54,21 @@ pub record HoldsMore {T : Type 0} (v w : View T) : Type 0 where
 
 -- Of a call that began with the first view, and has the second now
 module _ {T : Type 0} (base v : View T) where
-  -- A count at a place has risen.
+  -- A count at a place has risen by so much at least,
+  abbrev pub HasSoManyMore : ℕ → ℕ → ℕ → Type 0
+  HasSoManyMore p i n = number (counted p i) base + n ≤ number (counted p i) v
+
+  -- or by one.
   abbrev pub HasMore : ℕ → ℕ → Type 0
-  HasMore p i = number (counted p i) base + 1 ≤ number (counted p i) v
+  HasMore p i = HasSoManyMore p i 1
+
+  -- A count has risen by so much at each of the first shards of a stripe, so many of them,
+  abbrev pub ShardsHaveMore : Plan → ℕ → ℕ → ℕ → ℕ → Type 0
+  ShardsHaveMore plan i times stripe n = (j : ℕ) → j < n → HasSoManyMore (stripe_shard plan stripe j) i times
+
+  -- or at all shards of the first stripes, so many of them.
+  abbrev pub StripesHaveMore : Plan → ℕ → ℕ → ℕ → Type 0
+  StripesHaveMore plan i times n = (stripe : ℕ) → stripe < n → ShardsHaveMore plan i times stripe (stripe_allocator plan stripe).shards
 
   -- The shard at a place answered that it is full, and it is noted that each of its slots was used once.
   abbrev pub IsFullSince : ℕ → Type 0

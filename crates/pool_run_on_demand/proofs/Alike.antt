@@ -1,6 +1,6 @@
 -- A grant of a pool and one made on demand for the same begin alike, stay so, and are answered alike, where both are served.
 use Rattle.std.proofs.Common.{◌≡◌, ℕ, ◌%◌, Bool, true, false, List, [], ◌∷◌, length, map, replicate, Option, Some, None, refl, sym, ap, ◌∙◌, subst, arith, is_some, zero, suc, ◌==◌, if◌then◌else◌, IfSome, option_map, slice_get, slice_set}
-use Rattle.pool_run_on_demand.proofs.Imports.{AllByRecursion, minimum_byte_size, Image, start, ElementKind, empty, kind_of, TableType, no_slot, MemoryWant, MemoryOp, reads, writes, fills, grows, asks_size, TableOp, gets, sets, lengthens, asks_length, Wanted, an_instance, a_component, a_stack, a_heap, heap_type, MovesNamed, PrivateStack, BeginsStack, StackMoves, Host, PrivateTable, StoredTable, TableMoves, PrivateMemory, MemoryMoves, Terms, PrivateInstance, PrivateGrant, instance_grant, component_grant, stack_grant, heap_grant, put_memory, put_table, put_stack, tables_in_grant, request_of, begun, begun_instance, begun_memory, begun_table, heap_memory, Reply}
+use Rattle.pool_run_on_demand.proofs.Imports.{AllByRecursion, minimum_byte_size, Image, start, ElementKind, empty, kind_of, TableType, no_slot, MemoryWant, MemoryOp, reads, writes, fills, grows, asks_size, TableOp, gets, sets, lengthens, asks_length, Wanted, an_instance, a_component, a_stack, a_heap, heap_type, MovesNamed, PrivateStack, BeginsStack, StackMoves, Host, PrivateTable, StoredTable, TableMoves, PrivateMemory, MemoryMoves, Terms, PrivateInstance, PrivateGrant, instance_grant, component_grant, stack_grant, heap_grant, put_memory, put_table, put_stack, tables_named_in, request_of, begun, begun_instance, begun_memory, begun_table, heap_memory, Reply}
 use Rattle.pool_table.specs.Elements as elem
 use Rattle.pool_run_on_demand.specs.OnDemand.{MovesOnDemand, TableMovesOnDemand, made_memory, made_table, image_taken, heap_terms}
 use Rattle.pool_run_on_demand.specs.Alike.{OnObject, bytes_in, table_in, GrantStored, put_stored, DoesBytes, Does, OpsOn, IsServed, AreServed, HasWholePages, BothGive, AllocatorsAgree}
@@ -63,7 +63,7 @@ record AreGrantsAlike (s z : GrantStored) : Type 0 where
   calls : z.calls ≡ s.calls
 
 -- their tables are
-tables_alike : (g h : PrivateGrant) → AreAlikeGrants g h → AllAlike AreTablesAlike (tables_in_grant g) (tables_in_grant h)
+tables_alike : (g h : PrivateGrant) → AreAlikeGrants g h → AllAlike AreTablesAlike (tables_named_in g) (tables_named_in h)
 tables_alike (instance_grant g) (instance_grant h) are = are.1
 tables_alike component_grant component_grant are = tt
 tables_alike (stack_grant s) (stack_grant z) are = tt
@@ -152,8 +152,8 @@ module _ (host : Host) where
         let moved = bytes_there s.grant z.grant k op a.grant b.grant r q alike.grants one.0 two.0 (served_memory k op r first) (served_memory k op q second) in
         (record { grants = moved.0; calls = two.1 ∙ alike.calls ∙ sym one.1 }, moved.1)
     there_alike (table_in k op) one two first second =
-        let At : ℕ → Type 0 = λ calls. MovesNamed (InList op) (option_map (λ t. record { table = t; calls = calls }) (slice_get (tables_in_grant z.grant) k)) (put_stored k) z q b in
-        table_there k op (slice_get (tables_in_grant s.grant) k) (slice_get (tables_in_grant z.grant) k) (get_alike AreTablesAlike (tables_in_grant s.grant) (tables_in_grant z.grant) k (tables_alike s.grant z.grant alike.grants)) one (subst At alike.calls two) (served_table k op r first) (served_table k op q second)
+        let At : ℕ → Type 0 = λ calls. MovesNamed (InList op) (option_map (λ t. record { table = t; calls = calls }) (slice_get (tables_named_in z.grant) k)) (put_stored k) z q b in
+        table_there k op (slice_get (tables_named_in s.grant) k) (slice_get (tables_named_in z.grant) k) (get_alike AreTablesAlike (tables_named_in s.grant) (tables_named_in z.grant) k (tables_alike s.grant z.grant alike.grants)) one (subst At alike.calls two) (served_table k op r first) (served_table k op q second)
 
   ops_alike : (ops : List OnObject) (s z : GrantStored) (rs qs : List Reply) → AreGrantsAlike s z → OpsOn OnPooled InPool ops s rs → OpsOn OnMade InList ops z qs → AreServed ops rs → AreServed ops qs → rs ≡ qs
   ops_alike [] s z rs qs are one two first second = one ∙ sym two

@@ -1,6 +1,6 @@
 -- What a command of a party on demand makes of its live grants, as the party sees them; and one more reply to it.
 use Rattle.std.proofs.Common.{◌≡◌, ℕ, zero, suc, ◌+◌, ◌<◌, ◌≤◌, Bool, List, [], ◌∷◌, ◌++◌, length, map, All, replicate, Option, Some, None, refl, sym, ap, ◌∙◌, subst, arith, IfSome, option_map, slice_get, slice_index_or, slice_set}
-use Rattle.pool_run_on_demand.proofs.Imports.{option_map_or, map-set, set-get_or, length-replicate, All-set, sum_by-replicate, slice_get-get_or, MakerTold, Planned, Tunables, GrowthRule, ListedStore, ListedHeaps, ModuleAsked, OnDemandInstance, OnDemandTable, Reserved, with_item, MemoryOp, TableOp, gets, sets, lengthens, asks_length, Act, on_memory, on_table, act_of, MovesNamed, MovesObject, object_at, with_object, host_of, rule_of, Host, PrivateTable, StoredTable, PrivateInstance, PrivateGrant, instance_grant, Grants, grant_at, private_tables, tables_in_grant, put_table, with_table, Terms, Request, Drops, PrivateState, with_grants, no_grants, Command, PartyLimits, Reply, Returned, Refused, NoSuchGrant, mapped_at, AreSeen, on_seen, none_seen}
+use Rattle.pool_run_on_demand.proofs.Imports.{option_map_or, map-set, set-get_or, length-replicate, All-set, sum_by-replicate, slice_get-get_or, MakerTold, Planned, Tunables, GrowthRule, ListedStore, ListedHeaps, ModuleAsked, OnDemandInstance, OnDemandTable, Reserved, with_item, MemoryOp, TableOp, gets, sets, lengthens, asks_length, Act, on_memory, on_table, act_of, MovesNamed, MovesObject, object_at, with_object, host_of, rule_of, Host, PrivateTable, StoredTable, PrivateInstance, PrivateGrant, instance_grant, Grants, grant_at, private_tables, tables_named_in, put_table, with_table, Terms, Request, Drops, PrivateState, with_grants, no_grants, Command, PartyLimits, Reply, Returned, Refused, NoSuchGrant, mapped_at, AreSeen, on_seen, none_seen}
 use Rattle.pool_run.specs.declared.reply.Reply.TheVariants.{Instance}
 use Rattle.pool_run_on_demand.specs.OnDemand.{BytesOnDemand, TableMovesOnDemand, ActsOnDemand, StepOnDemand, Makes, IsMade, made_instance, no_slots}
 use Rattle.pool_run_on_demand.specs.Faults.{faults_met, StepsMeeting}
@@ -56,7 +56,7 @@ module _ {M L P : Type 0} (tells : Bool) where
   abbrev seen : OnDemandGrant M L P → PrivateGrant
   seen = seen_grant tells
 
-  tables_same : (g : OnDemandGrant M L P) → tables_in_grant (seen g) ≡ map seen_table_lease (tables_of_grant g)
+  tables_same : (g : OnDemandGrant M L P) → tables_named_in (seen g) ≡ map seen_table_lease (tables_of_grant g)
   tables_same (instance g) = refl
   tables_same component = refl
   tables_same (stack lease) = refl

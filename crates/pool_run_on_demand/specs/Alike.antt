@@ -1,7 +1,7 @@
 -- A pool and an allocator on demand give the same replies to the commands on a grant that both gave, but for what they have
 -- room or memory for.
 use Rattle.std.specs.Prelude.{◌≡◌, ◌≢◌, ℕ, ◌%◌, List, [], ◌∷◌, length, slice_get, true, Option, Some, option_map}
-use Rattle.pool_run_on_demand.specs.Imports.{AllByRecursion, minimum_byte_size, no_slot, MemoryWant, MemoryOp, grows, TableOp, lengthens, Wanted, an_instance, a_component, a_stack, a_heap, heap_type, MovesNamed, PrivateStack, BeginsStack, StackMoves, StoredTable, TableMoves, PrivateMemory, PrivateGrant, instance_grant, component_grant, stack_grant, heap_grant, memories_in_grant, put_memory, tables_in_grant, put_table, put_stack, MemoryMoves, Terms, request_of, begun_instance, begun_memory, heap_memory, Reply, Grown, Refused, Alloc}
+use Rattle.pool_run_on_demand.specs.Imports.{AllByRecursion, minimum_byte_size, no_slot, MemoryWant, MemoryOp, grows, TableOp, lengthens, Wanted, an_instance, a_component, a_stack, a_heap, heap_type, MovesNamed, PrivateStack, BeginsStack, StackMoves, StoredTable, TableMoves, PrivateMemory, PrivateGrant, instance_grant, component_grant, stack_grant, heap_grant, memories_named_in, put_memory, tables_named_in, put_table, put_stack, MemoryMoves, Terms, request_of, begun_instance, begun_memory, heap_memory, Reply, Grown, Refused, Alloc}
 use Rattle.pool_slots.specs.declared.errors.AllocError.TheVariants as alloc
 use Rattle.pool_run_on_demand.specs.OnDemand.{MovesOnDemand, TableMovesOnDemand, made_instance, made_memory, heap_terms, request_on_demand}
 
@@ -17,7 +17,7 @@ pub record GrantStored : Type 0 where
 
 -- Table k of a grant, beside the calls on the store.
 abbrev pub stored_table : ℕ → GrantStored → Option StoredTable
-stored_table k s = option_map (λ t. record { table = t; calls = s.calls }) (slice_get (tables_in_grant s.grant) k)
+stored_table k s = option_map (λ t. record { table = t; calls = s.calls }) (slice_get (tables_named_in s.grant) k)
 
 -- A grant with its table k replaced, and the calls on the store that came with that.
 abbrev pub put_stored : ℕ → StoredTable → GrantStored → GrantStored
@@ -28,7 +28,7 @@ module _ (OnMemory : MemoryOp → PrivateMemory → PrivateMemory → Reply → 
   -- what the grant is after an operation on its bytes, and the reply; where nothing is in the place, it is refused
   abbrev pub DoesBytes : ℕ → MemoryOp → PrivateGrant → Reply → PrivateGrant → Type 0
   DoesBytes k op (stack_grant s) reply new = MovesNamed (StackMoves op) (slice_get (s ∷ []) k) (put_stack k) (stack_grant s) reply new
-  DoesBytes k op grant reply new = MovesNamed (OnMemory op) (slice_get (memories_in_grant grant) k) (put_memory k) grant reply new
+  DoesBytes k op grant reply new = MovesNamed (OnMemory op) (slice_get (memories_named_in grant) k) (put_memory k) grant reply new
 
   -- What an operation on a grant answers and leaves, with the calls on the store; by one of the two allocators.
   abbrev pub Does : OnObject → GrantStored → Reply → GrantStored → Type 0

@@ -1,7 +1,7 @@
 -- How many of a run's replies tell of a fault, where memories are made on demand, and how many different calls on regions on
 -- demand a plan lists.
 use Rattle.std.specs.Prelude.{◌≡◌, ℕ, ◌+◌, ◌-◌, ◌^◌, ◌==◌, List, [], ◌∷◌, count_by, nat_le, nat_lt, ◌&&◌, ◌||◌, if◌then◌else◌, Bool, true, false, Option, None, slice_get}
-use Rattle.pool_run_on_demand.specs.Imports.{list_all, list_any, option_map_or, Planned, on_region, on_images, same_name, minimum_byte_size, MemoryTunables, GcHeap, MemoryType, OnDemand, one_if, GrowthRule, layout_len, first_layout, moved_layout, maximum_asked, extra_on_growth, PageFault, MemoryOp, grows, Act, requests, on_memory, act_of, GrowthEnd, has_grown, PrivateMemory, PrivateGrant, heap_grant, memories_in_grant, PrivateState, Grants, grant_at, growth, size_wanted, Terms, with_grants, no_grants, Command, Reply, Grown, Refused, Alloc}
+use Rattle.pool_run_on_demand.specs.Imports.{list_all, list_any, option_map_or, Planned, on_region, on_images, same_name, minimum_byte_size, MemoryTunables, GcHeap, MemoryType, OnDemand, one_if, GrowthRule, layout_len, first_layout, moved_layout, maximum_asked, extra_on_growth, PageFault, MemoryOp, grows, Act, requests, on_memory, act_of, GrowthEnd, has_grown, PrivateMemory, PrivateGrant, heap_grant, memories_named_in, PrivateState, Grants, grant_at, growth, size_wanted, Terms, with_grants, no_grants, Command, Reply, Grown, Refused, Alloc}
 use Rattle.pool_run_on_demand.specs.OnDemand.{StepOnDemand}
 
 -- the entry lists the making of a region on demand, or a call on one, whose number is this or a later one
@@ -75,7 +75,7 @@ met_among page tunables rule op o reply = option_map_or (λ m. met_by page tunab
 -- How many faults an operation on memory k of a grant met; a heap's memory goes by the settings of heaps.
 abbrev pub met_in : ℕ → MemoryTunables → GrowthRule → MemoryOp → PrivateGrant → ℕ → Reply → ℕ
 met_in page tunables rule op (heap_grant slot m) k reply = met_among page (for_heap tunables) rule op (slice_get (m ∷ []) k) reply
-met_in page tunables rule op g k reply = met_among page tunables rule op (slice_get (memories_in_grant g) k) reply
+met_in page tunables rule op g k reply = met_among page tunables rule op (slice_get (memories_named_in g) k) reply
 
 -- How many faults an operation on a live grant met; none where there is no such grant.
 abbrev pub met_at : ℕ → MemoryTunables → GrowthRule → MemoryOp → Option PrivateGrant → ℕ → Reply → ℕ

@@ -38,7 +38,7 @@ pub use Rattle.pool_run.specs.GrowthEnds.{GrowthEnd, has_grown}
 pub use Rattle.pool_run.specs.HeapFaults.{FewHeapFaults}
 pub use Rattle.pool_run.specs.Objects.{MovesNamed, MovesObject, Objects}
 pub use Rattle.pool_run.specs.PartyRules.{host_of}
-pub use Rattle.pool_run.specs.Private.{CountsRefused, Drops, Grants, MemoryMoves, OnGrants, PrivateGrant, PrivateInstance, PrivateMemory, PrivateState, Request, Terms, begun_instance, begun_memory, component_grant, grant_at, growth, heap_grant, heap_memory, images_of, instance_grant, memories_in_grant, module_of, no_grants, private_memories, private_stacks, put_memory, put_stack, put_table, request_of, size_wanted, stack_grant, table_at, tables_in_grant, wants_of, with_grants, with_table}
+pub use Rattle.pool_run.specs.Private.{CountsRefused, Drops, Grants, MemoryMoves, OnGrants, PrivateGrant, PrivateInstance, PrivateMemory, PrivateState, Request, Terms, begun_instance, begun_memory, component_grant, grant_at, growth, heap_grant, heap_memory, images_of, instance_grant, memories_named_in, module_of, no_grants, private_memories, private_stacks, put_memory, put_stack, put_table, request_of, size_wanted, stack_grant, table_at, tables_named_in, wants_of, with_grants, with_table}
 pub use Rattle.pool_run.specs.PrivateStacks.{BeginsStack, PrivateStack, StackMoves}
 pub use Rattle.pool_run.specs.PrivateTables.{Host, PrivateTable, StoredTable, TableMoves, goes_through, table_growth}
 pub use Rattle.pool_run.specs.Rooms.{World, open_host, under}

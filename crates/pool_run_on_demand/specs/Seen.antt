@@ -1,7 +1,7 @@
 -- The memories, tables, instances, stacks, heaps and live grants of an allocator on demand, as a party sees them, and what
 -- holds of them meanwhile.
 use Rattle.std.specs.Prelude.{◌≡◌, ℕ, ◌+◌, ◌^◌, ◌<◌, ◌≤◌, ◌⊎◌, List, [], ◌∷◌, length, map, slice_get, slice_set, All, Bool, true, if◌then◌else◌, Option, Some, None, IfSome, option_map, Result, Ok, Err}
-use Rattle.pool_run_on_demand.specs.Imports.{rounded_up, MakerTold, risen, LinearMemory, MemoryType, Tunables, page_size, GrowthGiven, GrowthRule, table_answer, LimiterTold, GrowFault, IsGrowth, GrowthLeavesMaker, obstacles, grown_size, MemoryState, bytes_of, state_of, AllocError, ListedHeaps, PlainHeap, IsTableGrowth, table_view, TableView, ListedStore, ModuleAsked, no_slot, IsModule, HasType, OnDemandInstanceAllocator, OnDemandHeap, OnDemandInstance, OnDemandMemory, OnDemandTable, MemoryOp, TableOp, Objects, MovesNamed, PrivateTable, StoredTable, PrivateMemory, PrivateInstance, PrivateGrant, instance_grant, component_grant, stack_grant, heap_grant, heap_memory, CountsRefused, memories_in_grant, put_memory, put_stack, PrivateState, Grants, Terms, Request, images_of, module_of, wants_of, StackMoves, seen_stack, Reply}
+use Rattle.pool_run_on_demand.specs.Imports.{rounded_up, MakerTold, risen, LinearMemory, MemoryType, Tunables, page_size, GrowthGiven, GrowthRule, table_answer, LimiterTold, GrowFault, IsGrowth, GrowthLeavesMaker, obstacles, grown_size, MemoryState, bytes_of, state_of, AllocError, ListedHeaps, PlainHeap, IsTableGrowth, table_view, TableView, ListedStore, ModuleAsked, no_slot, IsModule, HasType, OnDemandInstanceAllocator, OnDemandHeap, OnDemandInstance, OnDemandMemory, OnDemandTable, MemoryOp, TableOp, Objects, MovesNamed, PrivateTable, StoredTable, PrivateMemory, PrivateInstance, PrivateGrant, instance_grant, component_grant, stack_grant, heap_grant, heap_memory, CountsRefused, memories_named_in, put_memory, put_stack, PrivateState, Grants, Terms, Request, images_of, module_of, wants_of, StackMoves, seen_stack, Reply}
 use Rattle.pool_limits.specs.declared.errors.GrowFault.TheVariants as fault
 use Rattle.pool_run_on_demand.specs.OnDemand.{MovesOnDemand, TableMovesOnDemand, first_unmade, IsUnmade, made_instance, made_memory, IsMade, heap_terms, heap_wants, heap_barred_on_demand, IsHeapMade, IsHeapUnmade}
 use Rattle.pool_run_on_demand.specs.declared.grant.OnDemandGrant.{OnDemandGrant}
@@ -111,7 +111,7 @@ module _ {P : Type 0} where
 -- what a command makes of the bytes of a grant: of a stack's, or of those of a memory
 abbrev pub BytesOfGrant : MemoryOp → GrowthRule → ℕ → PrivateGrant → Reply → PrivateGrant → Type 0
 BytesOfGrant op rule k (stack_grant s) reply new = MovesNamed (StackMoves op) (slice_get (s ∷ []) k) (put_stack k) (stack_grant s) reply new
-BytesOfGrant op rule k grant reply new = MovesNamed (MovesOnDemand op rule) (slice_get (memories_in_grant grant) k) (put_memory k) grant reply new
+BytesOfGrant op rule k grant reply new = MovesNamed (MovesOnDemand op rule) (slice_get (memories_named_in grant) k) (put_memory k) grant reply new
 
 module _ {M L P : Type 0} where
   -- An instance that was granted, as its party sees it: its memories and tables.

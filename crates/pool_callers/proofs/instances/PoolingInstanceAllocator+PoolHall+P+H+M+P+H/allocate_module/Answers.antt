@@ -7,8 +7,10 @@ use Rattle.pool_alloc.specs.declared.frame.Outcome.TheVariants.{Granted, Refused
 use Rattle.pool_callers.specs.Callers.{about_pool, begun_from}
 use Rattle.pool_callers.specs.NoHeapsTold.{told_of}
 use Rattle.pool_callers.proofs.Images.{images_fit}
+use Rattle.pool_callers.proofs.Granted.{instance_alone}
 use Rattle.pool_callers.proofs.Answers.{is_granted, is_refused, nobody_asked}
 use Rattle.pool_callers.proofs.instances.PoolingInstanceAllocator+PoolHall+P+H+M+P+H.allocate_module.Goals as goal
+use Rattle.pool_callers.proofs.instances.PoolingInstanceAllocator+PoolHall+P+H+M+P+H.allocate_module.Goals.{in_default-via-in-Granted+in_default, in_default-via-in_default}
 
 pub call-requires-clause-begins : goal.call-requires-clause-begins
 call-requires-clause-begins g c κs within =
@@ -37,3 +39,10 @@ returns-in-Refused-clause-asked g c =
     nobody_asked g.L.ResourceLimiter.leads ⊥ ⊥ (call.Module c.args.request) c.args.limiter.now c.call.new.limiter (λ none. none)
     (g.L.ResourceLimiter.told c.args.limiter.now) (g.L.ResourceLimiter.told c.call.new.limiter) (told_of c.new.result) (told_of c.call.new.heaps)
     (Refused c.in-Refused.refusal) (Refused c.in-Refused.refusal) c.new.ensures refl c.in-Refused.ensures.asked
+
+pub unreachable-requires : goal.unreachable-requires
+unreachable-requires g c =
+    elim c.in_default.branch [
+      | in_default-via-in-Granted+in_default w ↦ grind (arith, (instance_alone c.args.self.now.pool.settings c.args.self.now.pool.plan c.call.result c.args.request w.in_default.field-0 w.in_default.is c.call.ensures.answers).1) steps 60000000
+      | in_default-via-in_default w ↦ grind (arith, c.call.ensures.answers, w.in_default.not-Refused)
+    ]
