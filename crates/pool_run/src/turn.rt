@@ -28,9 +28,8 @@ use pool_slots::{AllocError as Cause, ListedHeaps, PlainHeap};
 use std::alloc::{AllocError, Global};
 use std::mem;
 
-/// Makes a party's turn: the next step of its call, or the first of its next command, where there is one. Answers the reply to
-/// the command that ends with it. The slots of what the party asks for are listed in `slots`: its room is reserved before the
-/// request begins, so that want of memory for it is the request's refusal. `outcome` is empty between turns.
+/// Makes a party's turn: the next step of its call, or the first of its next command, where there is one. Answers the reply to the
+/// command that ends with it. A request begins once `slots` has room to list what it grants: for want of memory for it, it is refused.
 pub fn turn_of<P: Pages>(
     alloc: Global,
     core: &mut PoolCore<P, PlainHeap>,
