@@ -15,6 +15,7 @@ pub mod FullShards
 pub mod GuardPages
 pub mod HeapRows
 pub mod HeapSlots
+pub mod HeldSlots
 mod Imports
 pub mod InHand
 pub mod InstantiateAnswers
@@ -54,13 +55,17 @@ pub mod ShardsAfterFrees
 pub mod SharedByRows
 pub mod SlotCounts
 pub mod SlotIdentity
+pub mod SlotsOfAllocators
 pub mod SlotsOfFrames
 pub mod SoundSteps
 pub mod StackRegions
+pub mod StageCounts
 pub mod StepNeeds
 pub mod StepsAlone
 pub mod StepsAsRows
 pub mod Striping
+pub mod StripesKept
+pub mod StripesOfGrants
 pub mod SumsBelow
 pub mod SupportedModules
 pub mod SweepNeeds
@@ -68,8 +73,10 @@ pub mod TableRegions
 pub mod TableResets
 pub mod TableReturns
 pub mod TableRules
+pub mod TableWrites
 pub mod TakenSlots
 pub mod ToldElements
+pub mod UnhinderedRequests
 pub mod UninterruptedCalls
 pub mod UnusedPools
 pub mod UsedSlots

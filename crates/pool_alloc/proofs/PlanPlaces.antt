@@ -121,7 +121,7 @@ allocator_most plan places memory_kind stripe is below = omega (arith, (most_mor
 allocator_most plan places heap_kind stripe is below = omega (arith, most_at plan.heaps 0 no_allocator is.heaps, (most_more (plan.memories ++ (plan.tables ++ plan.stacks)) plan.heaps).1)
 
 -- it holds slots of that kind
-allocator_held : (plan : Plan) (places : ℕ) (kind : SlotKind) (stripe : ℕ) → IsPoolPlan plan places → stripe < length plan.memories → IsAllocator kind (of_kind kind plan.totals) (allocator_of plan kind stripe)
+pub allocator_held : (plan : Plan) (places : ℕ) (kind : SlotKind) (stripe : ℕ) → IsPoolPlan plan places → stripe < length plan.memories → IsAllocator kind (of_kind kind plan.totals) (allocator_of plan kind stripe)
 allocator_held plan places table_kind stripe is below = each_at (IsAllocator table_kind plan.totals.table) plan.tables 0 no_allocator is.tables (is.planned.slots table_kind).each
 allocator_held plan places memory_kind stripe is below = stripe_holds plan places stripe is below
 allocator_held plan places stack_kind stripe is below = each_at (IsAllocator stack_kind plan.totals.stack) plan.stacks 0 no_allocator is.stacks (is.planned.slots stack_kind).each

@@ -9,7 +9,7 @@ use Rattle.pool_alloc.specs.declared.pool_core.Settings.{Settings}
 use Rattle.pool_alloc.proofs.PlanPlaces.{IsShardPlace, IsQueuePlace, IsSlotAt, shard_inside, queue_inside, cell_inside, cell_role_at, heaps_place, heaps_inside, at_home, slot_at}
 
 -- slot k of shard j of an allocator has the number that the shard gives it
-number_of : (a : Allocator) (j k : ℕ) (s : ShardState) → IsShardOf a j s → slot_number s k ≡ number_at a j k
+pub number_of : (a : Allocator) (j k : ℕ) (s : ShardState) → IsShardOf a j s → slot_number s k ≡ number_at a j k
 number_of a j k s is =
     let first : s.first ≡ number_at a j 0 = is.first in
     let step : k * s.step ≡ k * a.step = ap (λ (n : ℕ). k * n) is.step in

@@ -52,7 +52,7 @@ module _ {P H : Type 0} (maker : MakerTold) where
       let first = one c f b can steps.0 in
       both c f b a first steps.1.0 (all b.core b.frame rest a first.can steps.1.1)
 
-  nothing_brought : (of : Grant P H → ℕ) (asks : Call P H) → IsAsking asks → call_has of asks ≡ 0
+  pub nothing_brought : (of : Grant P H → ℕ) (asks : Call P H) → IsAsking asks → call_has of asks ≡ 0
   nothing_brought of (call.GiveBack grant) is = absurd is
   nothing_brought of asks is = refl
 
@@ -60,7 +60,7 @@ module _ {P H : Type 0} (maker : MakerTold) where
   begun_units c f asks is can may t =
       omega (arith, begun_weight maker (of_units t) asks c.settings c.plan f can.frame may, nothing_brought (grant_weight (of_units t)) asks is, frame_units t f, frame_units t (begun_call asks f))
 
-  begun_can : (c : PoolCore P H) (f : Frame P H) (asks : Call P H) → IsAsking asks → CanStep maker c f → MayBegin maker c.settings c.plan asks f → CanStep maker c (begun_call asks f)
+  pub begun_can : (c : PoolCore P H) (f : Frame P H) (asks : Call P H) → IsAsking asks → CanStep maker c f → MayBegin maker c.settings c.plan asks f → CanStep maker c (begun_call asks f)
   begun_can c f asks is can may =
       let same = λ (w : Weight). begun_weight maker w asks c.settings c.plan f can.frame may in
       record {

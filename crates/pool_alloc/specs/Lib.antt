@@ -38,9 +38,11 @@ pub mod StepReads
 pub mod StepTable
 pub mod Stepping
 pub mod StepsAlone
+pub mod StripesOfGrants
 pub mod TableLeases
 pub mod TableSteps
 pub mod Targets
 pub mod Turns
+pub mod UnhinderedRequests
 pub mod UninterruptedCalls
 pub mod WantedObjects

@@ -2,7 +2,7 @@
 use Rattle.std.proofs.Common.{◌≡◌, ℕ, ◌+◌, ◌≤◌, List, length, take, replicate, Option, Some, None, Bool, refl, sym, ap, ◌∙◌, subst, arith, if◌then◌else◌, is_some, IfSome, option_map, slice_range}
 use Rattle.pool_run.proofs.Imports.{same_lists, places, take-replicate, Contents, written, minimum_byte_size, MemoryDecl, memory_region, OnDemand, MemoryType, Image, start, SlotIdentity, FitsInto, IsBegun, Storage, in_slot, stored, slot_in, first_bytes, storage_written, maximum_asked, image_slot_of, state_written, static_capacity, Lease, IsNew, IsPoolSlot, Settings, MakerTold}
 use Rattle.pool_pages.specs.Contents.{put}
-use Rattle.pool_run.proofs.HeldSlots.{held_name, held_tells}
+use Rattle.pool_alloc.proofs.HeldSlots.{held_name, held_tells}
 use Rattle.pool_run.specs.Private.{Terms, PrivateMemory, begun_memory, private_written}
 use Rattle.pool_run.specs.Turns.{seen_as, private_memory}
 

@@ -4,7 +4,7 @@ use Rattle.pool_run.proofs.Imports.{option_or, le-leb, same_Some, slice_get_with
 use Rattle.pool_memory.specs.declared.memory_error.MemoryError.TheVariants as unmade
 use Rattle.pool_slots.specs.declared.errors.AllocError.TheVariants as alloc
 use Rattle.pool_run.proofs.Wants.{memory_at, table_at}
-use Rattle.pool_run.proofs.HeldSlots.{held_plan}
+use Rattle.pool_alloc.proofs.HeldSlots.{held_plan}
 use Rattle.pool_run.specs.Private.{Grants, Terms, stripe_slots, Request, wants_of, refused_by, own_refusal, first_refusal, slots_asked, limit_for, is_memory, no_memory, no_instance, no_slot, page_fault, IsGiven, IsRefused, table_room}
 use Rattle.pool_run.specs.Rooms.{World, live_count, table_count, instance_count, SomeMayFault, IsForRoom}
 use Rattle.pool_run.specs.Ties.{HasNoRefusal, HasCause}

@@ -11,7 +11,7 @@ use Rattle.pool_run.proofs.SlotKinds.{stack_one, stacks_counted, stacks_sized, m
 use Rattle.pool_run.proofs.SlotsBelow.{below_le, sum_below, ones, one_below, none_made}
 use Rattle.pool_run.proofs.SlotsMade.{made_slot, made_once, away_made}
 use Rattle.pool_run.proofs.Weighed.{held_units, held_counts, counted_whole}
-use Rattle.pool_run.proofs.StageSteps.{no_instance_counted}
+use Rattle.pool_alloc.proofs.StageCounts.{no_instance_counted}
 
 -- a pool has fewer slots than places
 few_slots : (plan : Plan) (places total : ℕ) (named : ℕ → SlotName) → IsPoolPlan plan places → ((k : ℕ) → k < total → IsSlotName plan (named k)) → ((k : ℕ) → k ≤ cell_place plan (named k)) → total < 2 ^ 32

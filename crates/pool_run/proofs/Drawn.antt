@@ -1,6 +1,6 @@
 -- A party's stripe is the one that its key gave it: it draws it in its first turn, before any command, and keeps it.
 use Rattle.std.proofs.Common.{◌≡◌, ◌≤◌, ℕ, Bool, true, false, List, [], ◌∷◌, length, arith, Option, Some, None, refl, sym, ap, ◌∙◌, subst, inl, inr, ◌⊎◌, not, is_some, slice_get, slice_index_or}
-use Rattle.pool_run.proofs.Imports.{cases_Bool, not_both, MakerTold, ModuleAsked, IsIdle, Stage, no_call, stage_of, is_idle, After, Frame, Grant, Outcome, PoolCore, PlainHeap}
+use Rattle.pool_run.proofs.Imports.{cases_Bool, not_both, MakerTold, ModuleAsked, IsIdle, Stage, keys, no_call, stage_of, is_idle, After, Frame, Grant, Outcome, PoolCore, PlainHeap}
 use Rattle.pool_alloc.specs.declared.frame.Outcome.TheVariants as answer
 use Rattle.pool_run.specs.Acts.{Act, requests, on_memory, on_table, drops, purges, releases, act_of, Wanted, an_instance, a_component, a_stack, a_heap}
 use Rattle.pool_run.specs.Private.{Grants}
@@ -17,8 +17,11 @@ use Rattle.pool_run.proofs.Parties.{can_step, returned_stage}
 use Rattle.pool_run.proofs.Reserving.{answered_frame}
 use Rattle.pool_run.proofs.StageSteps.{is_key}
 use Rattle.pool_run.proofs.Stepped.{IsStepped, stepped}
-use Rattle.pool_run.proofs.Stripes.{step_stripe}
+use Rattle.pool_alloc.proofs.StripesKept.{step_stripe}
 use Rattle.pool_run.proofs.Turning.{SeesTurn}
+
+no_keys : (s : Stage) → is_drawing s ≡ false → s ≡ keys → ⊥
+no_keys s settled key = let wrong : true ≡ false = sym (ap is_drawing key) ∙ settled in absurd cc
 
 module _ {P : Type 0} where
   -- the turn drew the party's stripe, and replied to nothing
@@ -126,7 +129,7 @@ module _ {P : Type 0} (maker : MakerTold) (c : PoolCore P PlainHeap) (p : Runnin
         | inr settled ↦
             let has : p.keyed ≡ true = was_keyed p.keyed (sym keyed ∙ settled) in
             record {
-              stripe = inl (ap (λ (f : Frame P PlainHeap). f.stripe) is ∙ step_stripe steps.1.0 steps.1.1 c frame a settled steps.1.3 ∙ step.stripe);
+              stripe = inl (ap (λ (f : Frame P PlainHeap). f.stripe) is ∙ step_stripe steps.1.0 steps.1.1 c frame a (no_keys (stage_of frame) settled) steps.1.3 ∙ step.stripe);
               fresh = λ none. not_both (answered a.outcome a.core left).party.keyed (answered_keyed a.outcome a.core left has) none;
               drawn = ready;
             }

@@ -1,8 +1,8 @@
--- A run that is finished: party by party, turns until it has nothing left.
+-- A party that has nothing left, and the next call of one that has.
 use Rattle.std.proofs.Common.{◌≡◌, ◌≢◌, ℕ, zero, suc, ◌+◌, ◌<◌, ◌≤◌, Bool, true, false, List, [], ◌∷◌, ◌++◌, length, replicate, Option, Some, None, refl, sym, ap, ◌∙◌, subst, inl, inr, arith, append_assoc, add-zero, ◌&&◌, not, nat_lt, IfSome, IsSome, slice_get, slice_set, ◌-◌}
 use Rattle.pool_run.proofs.Imports.{lt-ltb, not-true, not-false, cases_lt, append-nil, length_push, replicate-append-replicate, set-get_or, slice_get_past, get_or_from_slice_get, one_at_most, is_there, one_if, is_idle, ModuleAsked}
 use Rattle.pool_run.specs.Folds.{RunState, commands_of, replies_to, party_by_party, TurnsIf, TurnsOf, Folds, HasNothingLeft, FinishesRun}
-use Rattle.pool_run.specs.Progress.{is_busy, commands_done, calls_begun, begins_call, TurnsSome}
+use Rattle.pool_run.specs.Progress.{is_busy, commands_done, calls_begun, begins_call}
 use Rattle.pool_run.specs.Turns.{OpensAt, OpensNext, rests}
 use Rattle.pool_run.specs.declared.command.Command.{Command}
 use Rattle.pool_run.specs.declared.reply.Reply.{Reply}
@@ -12,7 +12,7 @@ use Rattle.pool_run.proofs.KeptBetweenTurns.{set_other}
 use Rattle.pool_run.proofs.RunMade.{repeated}
 
 -- the turns of one party more
-party_by_party-push : (i n : ℕ) (counts : List ℕ) → party_by_party i (counts ++ n ∷ []) ≡ party_by_party i counts ++ replicate n (i + length counts)
+pub party_by_party-push : (i n : ℕ) (counts : List ℕ) → party_by_party i (counts ++ n ∷ []) ≡ party_by_party i counts ++ replicate n (i + length counts)
 party_by_party-push i n [] = append-nil (replicate n i) ∙ ap (λ (k : ℕ). replicate n k) (sym (add-zero i))
 party_by_party-push i n (m ∷ counts) =
     let next : i + 1 + length counts ≡ i + length (m ∷ counts) = omega arith in
@@ -25,27 +25,12 @@ pub set_same : {X : Type 0} (xs : List X) (i : ℕ) (x : X) → slice_get xs i �
 set_same xs i x there = ap (slice_set xs i) (sym (get_or_from_slice_get xs i x x there)) ∙ set-get_or xs i x
 
 module _ {P : Type 0} where
-  -- no turns, one more, and more after others
-  pub some_none : (modules : List ModuleAsked) (inputs : List (List Command)) (i : ℕ) (s : RunState P) → TurnsSome modules inputs i s s
-  some_none modules inputs i s = record { times = 0; folds = refl }
-
-  pub some_more : (modules : List ModuleAsked) (inputs : List (List Command)) (i : ℕ) (s mid new : RunState P) → TurnsSome modules inputs i s mid → TurnsOf modules inputs i mid new → TurnsSome modules inputs i s new
-  some_more modules inputs i s mid new some turns = record { times = some.times + 1; folds = repeated modules inputs i some.times s mid new some.folds turns }
-
-  pub some_on : (modules : List ModuleAsked) (inputs : List (List Command)) (i : ℕ) (s mid end : RunState P) → TurnsSome modules inputs i s mid → TurnsSome modules inputs i mid end → TurnsSome modules inputs i s end
-  some_on modules inputs i s mid end some more =
-      let F : List ℕ → Type 0 = λ turns. Folds modules inputs turns s end in
-      record {
-        times = some.times + more.times;
-        folds = subst F (replicate-append-replicate some.times more.times i) (folds_on modules inputs (replicate some.times i) (replicate more.times i) s mid end some.folds more.folds);
-      }
-
   -- The other parties stay as they are.
   pub turned_others : (modules : List ModuleAsked) (commands : List Command) (i k : ℕ) (o : Option (RunningParty P)) (s new : RunState P) → k ≢ i → TurnsIf modules commands i o s new → slice_get new.parties k ≡ slice_get s.parties k
   turned_others modules commands i k None s new other turns = ap (λ (x : RunState P). slice_get x.parties k) turns
   turned_others modules commands i k (Some p) s new other turns = ap (λ (x : RunState P). slice_get x.parties k) turns.2 ∙ set_other s.parties i k turns.0.party other
 
-  folds_others : (modules : List ModuleAsked) (inputs : List (List Command)) (i k n : ℕ) (s end : RunState P) → k ≢ i → Folds modules inputs (replicate n i) s end → slice_get end.parties k ≡ slice_get s.parties k
+  pub folds_others : (modules : List ModuleAsked) (inputs : List (List Command)) (i k n : ℕ) (s end : RunState P) → k ≢ i → Folds modules inputs (replicate n i) s end → slice_get end.parties k ≡ slice_get s.parties k
   folds_others modules inputs i k zero s end other folds = ap (λ (x : RunState P). slice_get x.parties k) folds
   folds_others modules inputs i k (suc n) s end other folds = folds_others modules inputs i k n folds.0 end other folds.2 ∙ turned_others modules (commands_of inputs i) i k (slice_get s.parties i) s folds.0 other folds.1
 
@@ -55,7 +40,7 @@ module _ {P : Type 0} where
   nothing_is_left commands (Some p) idle all = record { idle = not-false (is_idle p.frame.phase) idle; all = all }
 
   -- A turn of such a party may change nothing, and so may many.
-  rests_if : (modules : List ModuleAsked) (commands : List Command) (i : ℕ) (o : Option (RunningParty P)) (s : RunState P) → slice_get s.parties i ≡ o → IfSome o (HasNothingLeft commands) → TurnsIf modules commands i o s s
+  pub rests_if : (modules : List ModuleAsked) (commands : List Command) (i : ℕ) (o : Option (RunningParty P)) (s : RunState P) → slice_get s.parties i ≡ o → IfSome o (HasNothingLeft commands) → TurnsIf modules commands i o s s
   rests_if modules commands i None s there left = refl
   rests_if modules commands i (Some p) s there left =
       let next : OpensNext modules (slice_get commands p.done) p.keyed p rests = subst (λ (o : Option Command). OpensNext modules o p.keyed p rests) (sym (slice_get_past commands p.done left.all)) refl in
@@ -65,18 +50,6 @@ module _ {P : Type 0} where
       ap (λ (ps : List (RunningParty P)). With ps (slice_set s.replies i (replies_to i s.replies))) (set_same s.parties i p there)
       ∙ ap (With s.parties) (set-get_or s.replies i []) in
       (record { core = s.core; party = p; reply = None }, (rests, opens, refl), sym same)
-
-  rest_on : (modules : List ModuleAsked) (inputs : List (List Command)) (i n : ℕ) (s : RunState P) → TurnsOf modules inputs i s s → Folds modules inputs (replicate n i) s s
-  rest_on modules inputs i zero s turn = refl
-  rest_on modules inputs i (suc n) s turn = (s, turn, rest_on modules inputs i n s turn)
-
-  -- Once it has nothing left, all its turns are made.
-  pub rested : (modules : List ModuleAsked) (inputs : List (List Command)) (i n times : ℕ) (s end : RunState P) → n ≤ times → Folds modules inputs (replicate n i) s end → IfSome (slice_get end.parties i) (HasNothingLeft (commands_of inputs i)) → Folds modules inputs (replicate times i) s end
-  rested modules inputs i n times s end few folds left =
-      let F : List ℕ → Type 0 = λ turns. Folds modules inputs turns s end in
-      let turn : TurnsOf modules inputs i end end = rests_if modules (commands_of inputs i) i (slice_get end.parties i) end refl left in
-      let all : n + (times - n) ≡ times = omega (arith, few) in
-      subst F (replicate-append-replicate n (times - n) i ∙ ap (λ (k : ℕ). replicate k i) all) (folds_on modules inputs (replicate n i) (replicate (times - n) i) s end end folds (rest_on modules inputs i (times - n) end turn))
 
   -- While its call is under way none begins.
   pub none_begins : (count : ℕ) (o : Option (RunningParty P)) → is_busy o ≡ true → one_if (begins_call count o) ≡ 0
@@ -100,47 +73,3 @@ module _ {P : Type 0} where
 
   pub begins_there : (count i : ℕ) (s : RunState P) → i < length s.parties → is_busy (slice_get s.parties i) ≡ false → commands_done (slice_get s.parties i) < count → BeginsNext count (slice_get s.parties i)
   begins_there count i s below idle more = begins_some count (slice_get s.parties i) (is_there s.parties i below) idle more
-
-  -- the parties below i have nothing left, after so many turns of each
-  pub record FinishesBelow (modules : List ModuleAsked) (inputs : List (List Command)) (i : ℕ) (s end : RunState P) : Type 0 where
-    pub counts : List ℕ
-    pub parties : length counts ≡ i
-    pub folds : Folds modules inputs (party_by_party 0 counts) s end
-    pub finished : (k : ℕ) → k < i → IfSome (slice_get end.parties k) (HasNothingLeft (commands_of inputs k))
-
-  pub finishes_none : (modules : List ModuleAsked) (inputs : List (List Command)) (s : RunState P) → FinishesBelow modules inputs 0 s s
-  finishes_none modules inputs s = record { counts = []; parties = refl; folds = refl; finished = λ k below. absurd (omega (arith, below)) }
-
-  pub finishes_more : (modules : List ModuleAsked) (inputs : List (List Command)) (i : ℕ) (s mid end : RunState P) → FinishesBelow modules inputs i s mid → TurnsSome modules inputs i mid end → IfSome (slice_get end.parties i) (HasNothingLeft (commands_of inputs i)) → FinishesBelow modules inputs (i + 1) s end
-  finishes_more modules inputs i s mid end below some left =
-      let n : ℕ = some.times in
-      let F : List ℕ → Type 0 = λ turns. Folds modules inputs turns s end in
-      let number : 0 + length below.counts ≡ i = omega (arith, below.parties) in
-      let turns : party_by_party 0 (below.counts ++ n ∷ []) ≡ party_by_party 0 below.counts ++ replicate n i = party_by_party-push 0 n below.counts ∙ ap (λ (k : ℕ). party_by_party 0 below.counts ++ replicate n k) number in
-      record {
-        counts = below.counts ++ n ∷ [];
-        parties = omega (arith, length_push below.counts n, below.parties);
-        folds = subst F (sym turns) (folds_on modules inputs (party_by_party 0 below.counts) (replicate n i) s mid end below.folds some.folds);
-        finished = λ k inside.
-            let Left : ℕ → Type 0 = λ j. IfSome (slice_get end.parties j) (HasNothingLeft (commands_of inputs j)) in
-            elim (cases_lt k i) [
-              | inl before ↦
-                  let Q : Option (RunningParty P) → Type 0 = λ o. IfSome o (HasNothingLeft (commands_of inputs k)) in
-                  subst Q (sym (folds_others modules inputs i k n mid end (λ e. omega (arith, e, before)) some.folds)) (below.finished k before)
-              | inr past ↦ subst Left {x = i} {y = k} (omega (arith, inside, past)) left
-            ];
-      }
-
-  -- All of them have.
-  pub finishes_all : (modules : List ModuleAsked) (inputs : List (List Command)) (i : ℕ) (s end : RunState P) → FinishesBelow modules inputs i s end → i ≡ length s.parties → length end.parties ≡ length s.parties → FinishesRun modules inputs s end
-  finishes_all modules inputs i s end below all same = record {
-    counts = below.counts;
-    parties = below.parties ∙ all;
-    folds = below.folds;
-    finished = λ k.
-        let Q : Option (RunningParty P) → Type 0 = λ o. IfSome o (HasNothingLeft (commands_of inputs k)) in
-        elim (cases_lt k i) [
-          | inl before ↦ below.finished k before
-          | inr past ↦ subst Q (sym (slice_get_past end.parties k (omega (arith, past, all, same)))) tt
-        ];
-  }

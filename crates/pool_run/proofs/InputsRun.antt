@@ -1,5 +1,6 @@
 -- A run of an input: the program's conditions follow from those of the input, and its end from its turns.
 use Rattle.std.proofs.Common.{◌≡◌, ℕ, ◌+◌, ◌*◌, ◌^◌, ◌<◌, ◌≤◌, zero, suc, List, [], ◌∷◌, ◌++◌, length, map, get_or, replicate, refl, sym, ap, ◌∙◌, subst, arith, Option, None, Bool, true, false, slice_get, slice_index_or, ◌==◌}
+use Rattle.pool_run.proofs.Watched.{performs_watched}
 use Rattle.pool_run.proofs.Imports.{eqb-true, ltb-true, get_or-map, length-map, length-replicate, sum_by-append, sum_by-cons, one_if, is_idle, sizes_of, slice_get-get_or, first_true, second_true, MakerTold, ModuleInfo, Tunables, IsCore, metrics_of, IsUntouched, Grant, ModuleAsked, PoolCore, Settings, made_untouched, PlainHeap}
 use Rattle.pool_alloc.specs.StepBounds.{PoolSizes}
 use Rattle.pool_run.specs.Bounds.{own_turns}
@@ -17,6 +18,7 @@ use Rattle.pool_run.specs.Progress.{IsRunOf}
 use Rattle.pool_run.specs.Runs.{AreInTime, Performs, IsToldBy, IsMadeRun, IsRun, world_of, world_seen, stripe_of, HoldsFromStart}
 use Rattle.pool_run.specs.RunsMade.{Background, commands_in, party_made, party_made_for, parties_made, nothing_told, places_in}
 use Rattle.pool_run.specs.Schedules.{turns_of}
+use Rattle.pool_run.specs.Watching.{TurnTold, WatchesRun, IsWatchedRun}
 use Rattle.pool_run.specs.Validity.{is_valid, is_valid_act, are_valid_after, most_commands}
 use Rattle.pool_run.specs.Worlds.{IsWorldOf, AreCallsFor, NamesModule, NameModules}
 use Rattle.pool_run.specs.declared.command.Command.{Command}
@@ -219,6 +221,19 @@ module _ {P : Type 0} where
         in_time = subst (AreInTime input run.core (turns_of input.schedule) (nothing_told input.parties)) (sym replies) (performed_in_time input.finish input maker run end runnable made performed);
         metrics = metrics;
         calls_made = numbers;
+      }
+
+  -- The same of a run that was watched.
+  pub is_watched_run : {W : Type 0} (Leads : TurnTold P → W → W → Type 0) (input : Input) (maker : MakerTold) (run : RunParts P) (s end : RunState P) (output : RunOutput) (w out : W) → IsRunnable input maker → IsMadeRun input maker run → s ≡ told_state run (nothing_told input.parties)
+      → WatchesRun Leads input.finish s.modules (commands_in input.parties) (turns_of input.schedule) s end w out
+      → output.replies ≡ end.replies → output.metrics ≡ metrics_of end.core → output.calls ≡ calls_of_run end.core end.parties → IsWatchedRun P Leads input maker output w out
+  unfolding is_run
+  is_watched_run Leads input maker run s end output w out runnable made is watched replies metrics numbers =
+      let From : RunState P → Type 0 = λ x. WatchesRun Leads input.finish x.modules (commands_in input.parties) (turns_of input.schedule) x end w out in
+      let performs = performs_watched Leads s.modules (commands_in input.parties) input.finish (turns_of input.schedule) s end w out watched in
+      record {
+        run = is_run input maker run s end output runnable made is performs replies metrics numbers;
+        watched = subst From is watched;
       }
 
   -- Whatever turns are made from its start, pool and parties are sound.

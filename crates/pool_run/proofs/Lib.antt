@@ -21,7 +21,6 @@ pub mod Growths
 pub mod HeapCalls
 pub mod HeapFaults
 pub mod HeapRequests
-pub mod HeldSlots
 mod Imports
 pub mod InTime
 pub mod InputsRun
@@ -29,6 +28,7 @@ pub mod KeptBetweenTurns
 pub mod LeaseChanges
 pub mod Limits
 pub mod LimitsOfRuns
+pub mod LiveSlots
 pub mod MadeRuns
 pub mod Makings
 pub mod Moves
@@ -54,6 +54,7 @@ pub mod SameSlots
 pub mod SameSteps
 pub mod SameTables
 pub mod SameTurns
+pub mod ServedReplies
 pub mod SlotKinds
 pub mod SlotsBelow
 pub mod SlotsMade
@@ -64,7 +65,7 @@ pub mod StageSteps
 pub mod StepsLeft
 pub mod Started
 pub mod Stepped
-pub mod Stripes
+pub mod StripeSlots
 pub mod TableChanges
 pub mod TableKept
 pub mod TablesBegun
@@ -74,7 +75,9 @@ pub mod Tied
 pub mod Turned
 pub mod Turning
 pub mod TurnsMade
+pub mod Unhindered
 pub mod Valid
 pub mod Wants
+pub mod Watched
 pub mod Weighed
 pub mod WorldsMade

@@ -8,7 +8,7 @@ use Rattle.pool_run.specs.declared.reply.Reply.{Reply}
 use Rattle.pool_run.specs.declared.reply.Reply.TheVariants.{Done, Trap}
 use Rattle.pool_run.proofs.Bytes.{written_seen}
 use Rattle.pool_run.proofs.Growths.{growth_decided}
-use Rattle.pool_run.proofs.HeldSlots.{held_name, held_plan}
+use Rattle.pool_alloc.proofs.HeldSlots.{held_name, held_plan}
 
 -- a move leaves the memory in its slot
 abbrev pub KeepsSlot : MakerTold → Settings → Plan → (MemoryState → MemoryState → Reply → Type 0) → Type 0

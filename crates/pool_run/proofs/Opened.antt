@@ -7,7 +7,7 @@ use Rattle.pool_run.specs.Limits.{admitted_at, admitted_to, live_components}
 use Rattle.pool_run.specs.Objects.{MovesObject, object_at}
 use Rattle.pool_run.specs.PartyRules.{rule_of}
 use Rattle.pool_run.specs.Private.{Terms}
-use Rattle.pool_run.proofs.Stripes.{begun_stripe}
+use Rattle.pool_alloc.proofs.StripesKept.{begun_stripe}
 use Rattle.pool_run.proofs.StageSteps.{is_none, none_idle}
 use Rattle.pool_run.specs.Turns.{LeaseMoves, MovesTable, leases_named, tables_named, memory_leases, table_leases, with_lease, with_table_lease, Opening, rests, replies, makes_step, drop_opening, IsPlain, asks_grant, OpensRequest, OpensPurge, OpensAct, OpensNext, OpensAt, MovesLeasedBytes, StackLeaseMoves, stack_leases, stack_of, with_stack_lease, OpensWanted}
 use Rattle.pool_run.specs.Ties.{is_for_objects, granted_to, CanTurn, IsSoundParty, IsAlone}

@@ -19,7 +19,7 @@ use Rattle.pool_run.proofs.TablesBegun.{table_seen}
 use Rattle.pool_run.proofs.Growths.{answer_told}
 use Rattle.pool_run.proofs.Wants.{IsWanted, wants_there, count_wanted, count_all, memory_at, table_at}
 use Rattle.pool_run.proofs.Weighed.{alone_units, alone_counts}
-use Rattle.pool_run.proofs.StageSteps.{no_instance_counted}
+use Rattle.pool_alloc.proofs.StageCounts.{no_instance_counted}
 
 -- the tables of the module that is asked for
 tables_told_by : (asked : Asked) → IsModule asked → tables_wanted asked ≡ (info_wanted asked).tables

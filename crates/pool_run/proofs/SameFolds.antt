@@ -56,7 +56,7 @@ module _ {P : Type 0} where
       let G : RunState P → Type 0 = λ x. slice_get (replies_to j x.replies) n ≡ Some r in
       subst G (sym turns.2) (replies_stay i j n turns.0.reply s.replies r there)
 
-  folds_tell : (modules : List ModuleAsked) (inputs : List (List Command)) (schedule : List ℕ) (j n : ℕ) (s end : RunState P) (r : Reply) → Folds modules inputs schedule s end → slice_get (replies_to j s.replies) n ≡ Some r → slice_get (replies_to j end.replies) n ≡ Some r
+  pub folds_tell : (modules : List ModuleAsked) (inputs : List (List Command)) (schedule : List ℕ) (j n : ℕ) (s end : RunState P) (r : Reply) → Folds modules inputs schedule s end → slice_get (replies_to j s.replies) n ≡ Some r → slice_get (replies_to j end.replies) n ≡ Some r
   folds_tell modules inputs [] j n s end r folds there = let G : RunState P → Type 0 = λ x. slice_get (replies_to j x.replies) n ≡ Some r in subst G (sym folds) there
   folds_tell modules inputs (i ∷ schedule) j n s end r folds there = folds_tell modules inputs schedule j n folds.0 end r folds.2 (turn_tells modules (commands_of inputs i) i j n (slice_get s.parties i) s folds.0 r folds.1 there)
 

@@ -14,7 +14,7 @@ use Rattle.pool_run.specs.declared.reply.Reply.{Reply}
 use Rattle.pool_run.specs.declared.reply.Reply.TheVariants.{Bytes, Refused, Trap}
 use Rattle.pool_run.specs.declared.reply.Refusal.{Refusal}
 use Rattle.pool_run.specs.declared.reply.Refusal.TheVariants.{Alloc}
-use Rattle.pool_run.proofs.HeldSlots.{held_name, held_plan, held_tells}
+use Rattle.pool_alloc.proofs.HeldSlots.{held_name, held_plan, held_tells}
 use Rattle.pool_run.proofs.Growths.{growth_decided}
 
 -- the slots of the pool tell which calls on them fail,

@@ -98,7 +98,7 @@ runs_agree P input maker b runnable two tells planned a one alike =
     ap (λ (rs : List (List Reply)). O rs a.metrics a.calls) replies ∙ ap (λ (m : Metrics). O b.replies m a.calls) metrics ∙ ap (O b.replies b.metrics) calls
 
 -- So the answer to a call that runs is the only one.
-runnable_so : (input : Input) (maker : MakerTold) → is_built input ≡ true → broken_rule input ≡ None → maker.page ≡ input.page → IsRunnable input maker
+pub runnable_so : (input : Input) (maker : MakerTold) → is_built input ≡ true → broken_rule input ≡ None → maker.page ≡ input.page → IsRunnable input maker
 runnable_so input maker built rules page = record { built = built; rules = rules; page = page }
 
 pub only_ok : (P : Type 0) (input : Input) (maker told : MakerTold) (r : Result RunOutput RunFault) → told ≡ maker → maker.page ≡ input.page → is_built input ≡ true → OnOk r (broken_rule input ≡ None) → IfOk r (IsRun P input told) → IfOk r (IsOnlyRun P input maker)

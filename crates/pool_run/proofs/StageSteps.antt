@@ -1,6 +1,6 @@
 -- How a step takes a party's call from one stage to another: what follows of the stages alone.
 use Rattle.std.proofs.Common.{◌≡◌, ℕ, ◌+◌, ◌<◌, ◌≤◌, ◌⊎◌, inl, inr, Bool, true, false, Option, Some, None, refl, ap, arith, ◌&&◌, not, is_some, ◌*◌}
-use Rattle.pool_run.proofs.Imports.{MakerTold, PartyTold, IfGranted, phase_instances, instances_for, Progress, untested, uncounted, admitted, Stage, no_call, keys, asks, returning, refusing, purging, reserving, releasing, stage_by, stage_of_release, stage_at, Follows, Goes, seeks_stack, tests_heap, seeks_heap, seeks_single, counts_heap, tests_component, counts_component, stage_back, stage_of, is_idle, count_granted, grant_instances, grant_components, objects_wanted, objects_in, IsFrame, IsShapedAt, Plan, PlainHeap, Settings, PoolCore, Asked, stack_asked, memory_asked, table_asked, heap_asked, Ending, Frame, instance, component, one_memory, one_table, stack, heap, Outcome, Phase, Idle, Key, Validate, CountInstance, CountObject, Purge, Release, TestStack, TestHeap, CountHeap, ValidateComponent, CountComponent, UncountComponent, ReleaseStep, Reserve, counted_component, counted_instance, only, phase_counted}
+use Rattle.pool_run.proofs.Imports.{MakerTold, PartyTold, IfGranted, phase_instances, instances_for, Progress, untested, uncounted, admitted, Stage, no_call, keys, asks, returning, refusing, purging, reserving, releasing, stage_by, stage_of_release, stage_at, Follows, Goes, seeks_stack, tests_heap, seeks_heap, seeks_single, counts_heap, tests_component, counts_component, stage_back, stage_of, is_idle, count_granted, grant_instances, grant_components, objects_wanted, objects_in, IsFrame, IsShapedAt, Plan, PlainHeap, Settings, PoolCore, Asked, stack_asked, memory_asked, table_asked, heap_asked, Ending, Frame, instance, component, one_memory, one_table, stack, heap, Outcome, Phase, Idle, Key, Validate, CountInstance, CountObject, Purge, Release, TestStack, TestHeap, CountHeap, ValidateComponent, CountComponent, UncountComponent, ReleaseStep, Reserve, only}
 use Rattle.pool_alloc.specs.declared.frame.Ending.TheVariants as ending
 use Rattle.pool_alloc.specs.declared.frame.Outcome.TheVariants as answer
 use Rattle.pool_run.specs.Limits.{admitted_at}
@@ -33,10 +33,6 @@ none_by asked ending.Granted n = refl
 none_by asked ending.Returned n = refl
 none_by asked (ending.Refused e) n = refl
 
-back_counts : (e : Ending) → stage_back e ≡ counts_component → ⊥
-back_counts (ending.Refused e) is = absurd cc
-back_counts e is = absurd cc
-
 none_back : (e : Ending) → is_none (stage_back e) ≡ false
 none_back (ending.Refused e) = refl
 none_back e = refl
@@ -44,10 +40,6 @@ none_back e = refl
 admitted_back : (e : Ending) → admitted_at (stage_back e) ≡ 0
 admitted_back (ending.Refused e) = refl
 admitted_back e = refl
-
-counted_back : (e : Ending) → stage_back e ≡ asks uncounted → ⊥
-counted_back (ending.Refused e) is = absurd cc
-counted_back e is = absurd cc
 
 admitted_by : (asked : Asked) (e : Ending) (n : ℕ) → admitted_at (stage_by asked e n) ≤ instances_for asked
 admitted_by (memory_asked m) ending.Granted n = omega arith
@@ -57,15 +49,6 @@ admitted_by (heap_asked ty) ending.Granted n = omega arith
 admitted_by _ ending.Granted n = omega arith
 admitted_by asked ending.Returned n = omega arith
 admitted_by asked (ending.Refused e) n = omega arith
-
-counted_by : (asked : Asked) (e : Ending) (n : ℕ) → stage_by asked e n ≡ asks uncounted → ⊥
-counted_by (memory_asked m) ending.Granted n is = absurd cc
-counted_by (table_asked ty) ending.Granted n is = absurd cc
-counted_by stack_asked ending.Granted n is = absurd cc
-counted_by (heap_asked ty) ending.Granted n is = absurd cc
-counted_by _ ending.Granted n is = absurd cc
-counted_by asked ending.Returned n is = absurd cc
-counted_by asked (ending.Refused e) n is = absurd cc
 
 seeks_by : (asked : Asked) (e : Ending) (n : ℕ) → stage_by asked e n ≡ asks seeks_stack → asked ≡ stack_asked
 seeks_by stack_asked e n is = refl
@@ -107,7 +90,7 @@ module _ {P : Type 0} where
   none_idle (CountObject object) asked e n = none_by asked e (n + 1)
   none_idle _ asked e n = none_by asked e n
 
-  -- and a call that was admitted has counted its instance,
+  -- and a call that was admitted has counted its instance.
   pub admitted_counts : (phase : Phase P PlainHeap) (asked : Asked) (e : Ending) (n : ℕ) → admitted_at (stage_at phase asked e n) ≤ phase_instances phase * instances_for asked
   admitted_counts Idle asked e n = omega arith
   admitted_counts Key asked e n = omega arith
@@ -123,33 +106,6 @@ module _ {P : Type 0} where
   admitted_counts (Release step) asked e n = omega (arith, released_none step)
   admitted_counts (CountObject object) asked e n = omega (arith, admitted_by asked e (n + 1))
   admitted_counts _ asked e n = omega (arith, admitted_by asked e n)
-
-  -- and one that isn't counted yet hasn't.
-  pub uncounted_none : (phase : Phase P PlainHeap) (asked : Asked) (e : Ending) (n : ℕ) → stage_at phase asked e n ≡ asks uncounted → phase_instances phase * instances_for asked ≡ 0
-  uncounted_none Idle asked e n is = omega arith
-  uncounted_none Key asked e n is = omega arith
-  uncounted_none Validate asked e n is = omega arith
-  uncounted_none CountInstance asked e n is = omega arith
-  uncounted_none TestStack asked e n is = omega arith
-  uncounted_none TestHeap asked e n is = omega arith
-  uncounted_none (CountHeap lease) asked e n is = absurd cc
-  uncounted_none (ValidateComponent info) asked e n is = omega arith
-  uncounted_none CountComponent asked e n is = omega arith
-  uncounted_none UncountComponent asked e n is = absurd (counted_back e is)
-  uncounted_none (Purge p step) asked e n is = omega arith
-  uncounted_none (Release step) asked e n is = omega arith
-  uncounted_none (CountObject object) asked e n is = absurd (counted_by asked e (n + 1) is)
-  uncounted_none _ asked e n is = absurd (counted_by asked e n is)
-
-  -- So it is with a component.
-  pub uncounted_component : (phase : Phase P PlainHeap) (asked : Asked) (e : Ending) (n : ℕ) → stage_at phase asked e n ≡ counts_component → phase_counted (only counted_component) phase ≡ 0
-  uncounted_component UncountComponent asked e n is = absurd (back_counts e is)
-  uncounted_component _ asked e n is = refl
-
-  -- No phase has an instance that is counted beside that of its call.
-  pub no_instance_counted : (phase : Phase P PlainHeap) → phase_counted (only counted_instance) phase ≡ 0
-  no_instance_counted UncountComponent = refl
-  no_instance_counted _ = refl
 
   seeks_released : (step : ReleaseStep P) → stage_of_release step ≡ asks seeks_stack → ⊥
   seeks_released Reserve is = absurd cc

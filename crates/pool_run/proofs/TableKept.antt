@@ -1,6 +1,7 @@
 -- A table of the pool stays one, whatever its party does with it: it lies where it lay, and what it doesn't use holds zeros.
-use Rattle.std.proofs.Common.{[], ◌≡◌, ℕ, zero, suc, ◌+◌, ◌-◌, ◌*◌, ◌%◌, ◌^◌, ◌<◌, ◌≤◌, Bool, true, false, List, length, replicate, Option, Some, None, inl, inr, refl, sym, ap, ◌∙◌, subst, arith, ◌==◌, nat_lt, if◌then◌else◌, is_some, option_map}
-use Rattle.pool_run.proofs.Imports.{concat, mul-le-mul_right, cases_Bool, ltb-false, length-append, rounded_is_whole, rounded_up_above, Contents, written, MakerTold, Told, overwritten, risen, range-put_above, range_within, Slot, identity, size_of, rounded_up_more, GrowthRule, TableOutOfBounds, IsPlain, IsUnusedFrom, plain_slot, Plan, rounded_within, plain_after, ElementKind, functions, gc_refs, continuations, type_of, width, IsTable, TableView, state_in, ListedStore, IsPoolTable, IsTableLease, LeasedTable, LiesInRegion, bytes_used, Settings}
+use Rattle.std.proofs.Common.{[], ◌≡◌, ℕ, zero, suc, ◌+◌, ◌-◌, ◌*◌, ◌%◌, ◌<◌, ◌≤◌, Bool, true, false, List, length, replicate, Some, inl, inr, refl, sym, ap, ◌∙◌, subst, arith, ◌==◌, nat_lt, if◌then◌else◌, option_map}
+use Rattle.pool_run.proofs.Imports.{concat, mul-le-mul_right, cases_Bool, ltb-false, rounded_is_whole, rounded_up_above, MakerTold, Told, risen, rounded_up_more, GrowthRule, TableOutOfBounds, IsPlain, plain_slot, Plan, rounded_within, ElementKind, functions, gc_refs, continuations, type_of, width, IsTable, TableView, state_in, ListedStore, IsPoolTable, IsTableLease, LeasedTable, LiesInRegion, bytes_used, Settings}
+use Rattle.pool_alloc.proofs.TableWrites.{CanLie, lies_after, unused_later, word_wide, words_wide}
 use Rattle.pool_table.specs.Elements as elem
 use Rattle.pool_run.specs.Acts.{TableOp, gets, sets, lengthens, asks_length}
 use Rattle.pool_run.specs.GrowthEnds.{GrowthEnd, as_it_was, could_not, has_grown}
@@ -10,69 +11,6 @@ use Rattle.pool_run.specs.Turns.{private_table, stored_as, region_set, region_le
 use Rattle.pool_run.specs.declared.reply.Reply.{Reply}
 use Rattle.pool_run.specs.declared.reply.Reply.TheVariants.{Done, Refused, Trap}
 use Rattle.pool_run.specs.declared.reply.Refusal.TheVariants.{GcStoreFault}
-
--- A region is that of its table's slot, and a table that uses so many of its bytes can lie there.
-record CanLie (maker : MakerTold) (s : Settings) (slot used : ℕ) (region : Told) : Type 0 where
-  is : IsPoolTable maker s slot (plain_slot 0 region)
-  same_page : region.page ≡ s.page
-  plain : IsPlain (plain_slot 0 region)
-  few : region.len ≤ 2 ^ 32
-  unused : IsUnusedFrom used (plain_slot 0 region)
-
-told_still : (at : ℕ) (bytes : List ℕ) (o : Option Contents) → is_some (option_map (written at bytes) o) ≡ is_some o
-told_still at bytes None = refl
-told_still at bytes (Some c) = refl
-
--- what a plain slot holds from a place on it still holds after bytes before that were written
-unused_by : (at used : ℕ) (bytes : List ℕ) (region : Told) (o : Option Contents) → IsPlain (plain_slot 0 (record region { contents = o })) → at + length bytes ≤ used → used ≤ region.len → IsUnusedFrom used (plain_slot 0 (record region { contents = o })) → IsUnusedFrom used (plain_slot 0 (record region { contents = option_map (written at bytes) o }))
-unused_by at used bytes region None p before inside unused = unused
-unused_by at used bytes region (Some c) p before inside unused =
-    let z : Slot = plain_slot 0 (record region { contents = Some c }) in
-    let long : length c.bytes ≡ region.len = p.fits.told.shaped.bytes in
-    range-put_above at bytes c.bytes (z.base.bytes + used) (z.base.bytes + size_of z) (omega (arith, before, inside, long)) (omega (arith, p.fits.sizes.inside, long)) (omega (arith, before)) ∙ unused
-
--- what is not used from one place on isn't from a later one
-unused_later : (from used : ℕ) (region : Told) (o : Option Contents) → IsPlain (plain_slot 0 (record region { contents = o })) → from ≤ used → IsUnusedFrom from (plain_slot 0 (record region { contents = o })) → IsUnusedFrom used (plain_slot 0 (record region { contents = o }))
-unused_later from used region None p more unused = unused
-unused_later from used region (Some c) p more unused =
-    let z : Slot = plain_slot 0 (record region { contents = Some c }) in
-    range_within c.bytes c.origin (z.base.bytes + from) (z.base.bytes + size_of z) (z.base.bytes + used) (z.base.bytes + size_of z)
-    (omega (arith, p.fits.sizes.inside, p.fits.told.shaped.bytes)) (omega (arith, p.fits.sizes.inside, p.fits.told.shaped.origin)) (omega (arith, more)) (omega arith) unused
-
--- It stays so once bytes of its elements are written.
-lies_after : (maker : MakerTold) (s : Settings) (slot used at : ℕ) (bytes : List ℕ) (region : Told) → at + length bytes ≤ used → used ≤ region.len → CanLie maker s slot used region → CanLie maker s slot used (overwritten at bytes region)
-lies_after maker s slot used at bytes region before inside can =
-    let z : Slot = plain_slot 0 region in
-    let all : region.len - 0 ≡ region.len = omega arith in
-    let start : 0 + at ≡ at = omega arith in
-    let Plain : ℕ → Type 0 = λ n. IsPlain (plain_slot 0 (overwritten n bytes region)) in
-    record {
-      is = record { same = ap (λ (b : Bool). record (identity z) { tells = b }) (told_still at bytes region.contents) ∙ can.is.same };
-      same_page = can.same_page;
-      plain = subst Plain start (plain_after at bytes z can.plain (omega (arith, can.plain.all, all, before, inside)));
-      few = can.few;
-      unused = unused_by at used bytes region region.contents can.plain before inside can.unused;
-    }
-
--- the words of so many elements
-word_wide : (kind : ElementKind) (e : elem.Element) → length (elem.word kind e) ≡ elem.width kind
-word_wide (functions lazy) elem.uninitialised = refl
-word_wide (functions lazy) (elem.func f) = refl
-word_wide (functions lazy) (elem.gc_ref r) = refl
-word_wide (functions lazy) (elem.cont c) = refl
-word_wide gc_refs elem.uninitialised = refl
-word_wide gc_refs (elem.func f) = refl
-word_wide gc_refs (elem.gc_ref r) = refl
-word_wide gc_refs (elem.cont c) = refl
-word_wide continuations elem.uninitialised = refl
-word_wide continuations (elem.func f) = refl
-word_wide continuations (elem.gc_ref r) = refl
-word_wide continuations (elem.cont None) = refl
-word_wide continuations (elem.cont (Some object)) = refl
-
-words_wide : (count : ℕ) (piece : List ℕ) → length (concat (replicate count piece)) ≡ count * length piece
-words_wide zero piece = omega arith
-words_wide (suc n) piece = grind (arith, length-append piece (concat (replicate n piece)), words_wide n piece)
 
 -- no more are set than are wanted
 through_most : (failing : List ℕ) (made count : ℕ) → calls_through failing made count ≤ count

@@ -1,7 +1,7 @@
 -- The replies are kept in lists beside the run, which have room for all of them.
 use Rattle.std.proofs.Common.{◌≡◌, ℕ, ◌<◌, ◌≤◌, Option, Some, None, List, [], ◌∷◌, ◌++◌, length, map, refl, sym, ap, ◌∙◌, subst, inl, inr, arith, IfSome, replicate, slice_set, slice_index_or}
 use Rattle.pool_run.proofs.Imports.{cases_eq, length-map, length-replicate, length-set, length_push, get_or-map, get_or-set_same, get_or-set_other, map-set, Reserved, no_room, Grant, Settings, PlainHeap}
-use Rattle.pool_run.specs.Folds.{RunParts, commands_of, replies_to, told_state, replies_after}
+use Rattle.pool_run.specs.Folds.{RunParts, RunState, commands_of, replies_to, told_state, replies_after}
 use Rattle.pool_run.specs.Progress.{IsRunOf}
 use Rattle.pool_run.specs.RunsMade.{Background, HaveRoom, party_made, party_made_for, parties_made, room_for, with_told}
 use Rattle.pool_run.specs.Turns.{with_reply}
@@ -34,6 +34,10 @@ all_empty (p ∷ ps) = ap (λ (l : List (List Reply)). [] ∷ l) (all_empty ps)
 -- and before the first
 pub none_told : (parties : List Party) (told : List (Reserved Reply)) → told ≡ map room_for parties → lists_of told ≡ replicate (length parties) []
 none_told parties told is = ap lists_of is ∙ all_empty parties
+
+-- the party is one of the run that is kept with the replies
+pub inside_now : {P : Type 0} (run : RunParts P) (told : List (List Reply)) (s : RunState P) (of : Background) (given : List Party) (i : ℕ) → told_state run told ≡ s → IsRunOf of given s → i < length given → i < length run.parties
+inside_now {P = P} run told s of given i is way inside = omega (arith, ap (λ (x : RunState P). length x.parties) is, way.parties, inside)
 
 module _ {P : Type 0} where
   pub room_made : (s : Settings) (parties : List Party) (made : List (RunningParty P)) (told : List (Reserved Reply)) → made ≡ parties_made s parties → told ≡ map room_for parties → HaveRoom made told

@@ -18,7 +18,8 @@ use Rattle.pool_run.specs.declared.running_party.RunningParty.{RunningParty}
 use Rattle.pool_run.proofs.Grants.{one_more}
 use Rattle.pool_run.proofs.Parties.{can_step}
 use Rattle.pool_run.proofs.Tied.{TiedBy, tied_by}
-use Rattle.pool_run.proofs.StageSteps.{is_none, none_idle, uncounted_none, uncounted_component, stack_is_asked}
+use Rattle.pool_alloc.proofs.StageCounts.{uncounted_none, uncounted_component}
+use Rattle.pool_run.proofs.StageSteps.{is_none, none_idle, stack_is_asked}
 use Rattle.pool_run.proofs.HeapCalls.{calls_now}
 use Rattle.pool_run.proofs.Stepped.{IsStepped, stepped}
 use Rattle.pool_run.proofs.Requests.{IsBefore}

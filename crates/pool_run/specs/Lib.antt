@@ -3,6 +3,7 @@ pub mod Agreeing
 pub mod AtOnce
 pub mod Bounds
 pub mod Built
+pub mod FirstTurns
 pub mod Folds
 pub mod GrowthEnds
 pub mod HeapFaults
@@ -25,5 +26,7 @@ pub mod Schedules
 pub mod TableValues
 pub mod Ties
 pub mod Turns
+pub mod Unhindered
 pub mod Validity
+pub mod Watching
 pub mod Worlds

@@ -1,8 +1,8 @@
 -- How far the parties are: how many calls began, whether one is under way, and at most how many turns it still takes.
-use Rattle.std.specs.Prelude.{◌≡◌, ◌≢◌, ℕ, ◌+◌, ◌<◌, ◌≤◌, List, length, replicate, slice_get, slice_index_or, nat_lt, ◌&&◌, Bool, true, false, not, Option, Some, None}
+use Rattle.std.specs.Prelude.{◌≡◌, ◌≢◌, ℕ, ◌+◌, ◌<◌, ◌≤◌, List, length, slice_get, slice_index_or, nat_lt, ◌&&◌, Bool, true, false, not, Option, Some, None}
 use Rattle.pool_run.specs.Imports.{one_if, bound_of, steps_left, is_idle, PoolCore, Grant, ModuleAsked, PlainHeap}
 use Rattle.pool_alloc.specs.declared.frame.Call.TheVariants as call
-use Rattle.pool_run.specs.Folds.{RunState, Folds, IsUnderWay}
+use Rattle.pool_run.specs.Folds.{RunState, IsUnderWay}
 use Rattle.pool_run.specs.RunsMade.{Background, commands_in}
 use Rattle.pool_run.specs.Worlds.{NameModules}
 use Rattle.pool_run.specs.Acts.{Act, requests, on_memory, on_table, drops, purges, releases, act_of, an_instance, a_component, a_stack, a_heap, heap_type}
@@ -95,11 +95,6 @@ module _ {P : Type 0} where
     pub bounded : is_busy (slice_get s.parties i) ≡ false → turns_left new.core (slice_get new.parties i) + 1 ≤ bound_next modules commands s.core (slice_get s.parties i)
     pub begun : calls_begun (slice_get new.parties i) ≡ calls_begun (slice_get s.parties i) + one_if (begins_call (length commands) (slice_get s.parties i))
     pub others : (k : ℕ) → k ≢ i → turns_left new.core (slice_get new.parties k) ≡ turns_left s.core (slice_get s.parties k)
-
-  -- some turns of party i, one after another
-  pub record TurnsSome (modules : List ModuleAsked) (inputs : List (List Command)) (i : ℕ) (s end : RunState P) : Type 0 where
-    pub times : ℕ
-    pub folds : Folds modules inputs (replicate times i) s end
 
   -- The run is under way, and is one of these parties, whose commands name modules that are there.
   pub record IsRunOf (of : Background) (given : List Party) (s : RunState P) : Type 0 where

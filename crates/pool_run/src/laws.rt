@@ -1,7 +1,9 @@
 ghost use Rattle.pool_run.specs.Agreeing.{RunsAgree};
+ghost use Rattle.pool_run.specs.FirstTurns.{MadeRunsTurn};
 ghost use Rattle.pool_run.specs.HeapFaults.{HeapFaultsAreListed};
 ghost use Rattle.pool_run.specs.InTime.{RepliesComeInTime};
 ghost use Rattle.pool_run.specs.Placed.{SlotsAreInOnePlace, UsedSlotsAreNotPicked};
+ghost use Rattle.pool_run.specs.Unhindered.{UnhinderedAreServed};
 
 use pool_pages::Pages;
 
@@ -29,4 +31,16 @@ pub fn slots_have_places<P: Pages>()
 /// between. The bound is a number of the pool's sizes, the modules and the commands. It does nothing.
 pub fn replies_come_in_time<P: Pages>()
     ensures { RepliesComeInTime P }
+{}
+
+/// A request that nothing hinders is granted, or there is no memory for it, or one of its page calls or the making of its heap
+/// fails; whatever turns were made before, and whatever still lies in queues. It does nothing.
+pub fn unhindered_requests_are_served<P: Pages>()
+    ensures { UnhinderedAreServed P }
+{}
+
+/// A run that `Run::new` made is what `Run::turn` asks for: it is one of the input's parties, with what each was told so far,
+/// which is nothing. It does nothing.
+pub fn made_runs_turn<P: Pages>()
+    ensures { MadeRunsTurn P }
 {}

@@ -1,4 +1,4 @@
-ghost use Rattle.std.specs.Prelude.{◌≡◌, ◌<◌, length, replicate, slice_index_or, slice_set, None, Some, IfOk, fold};
+ghost use Rattle.std.specs.Prelude.{◌≡◌, ◌<◌, length, replicate, slice_index_or, slice_set, None, Some, IfOk, fold, option_map};
 ghost use Rattle.pool_run.specs.Numbers.{with_grant};
 
 use pool_alloc::Grant;
@@ -39,6 +39,17 @@ impl<P: Pages> Leases<P> {
         ensures { result ≡ length self.now }
     {
         self.places.len()
+    }
+
+    /// The grant of a command, where it is live.
+    pub fn get(&self, of: usize) -> Option<&Grant<P, PlainHeap>>
+        ensures { option_map (λ g. g.now) result ≡ slice_index_or self.now of None }
+    {
+        if of < self.places.len() {
+            self.places[of].as_ref()
+        } else {
+            None
+        }
     }
 
     /// Takes out the grant of a command.

@@ -36,6 +36,7 @@ mod run;
 mod run_input;
 mod schedule;
 mod told_run;
+mod watcher;
 
 // A party's turn
 mod act;
@@ -64,7 +65,10 @@ pub use calls::make_calls;
 pub use command::{Command, TableValue};
 pub use copies::zeros;
 pub use input::{Input, Party, PartyLimits, ScheduleEntry};
-pub use laws::{heap_faults_are_listed, replies_come_in_time, runs_agree, slots_have_places};
+pub use laws::{
+    heap_faults_are_listed, made_runs_turn, replies_come_in_time, runs_agree, slots_have_places,
+    unhindered_requests_are_served,
+};
 pub use leases::Leases;
 pub use limiter::limiter_of;
 pub use output::{RunFault, RunOutput};
@@ -73,7 +77,7 @@ pub use replies::{element_reply, fill_reply, growth_reply, write_reply};
 pub use reply::{Refusal, Reply, ReplyList, SlotList};
 pub use reserved_vec::ReservedVec;
 pub use run::Run;
-pub use run_input::run_schedule;
+pub use run_input::{run_schedule, run_watched};
 pub use running_party::{RunningParty, heaps_for, store_for};
 pub use slot_lists::SlotLists;
 pub use table_values::element_for;
@@ -82,3 +86,4 @@ pub use validity::{
     HOMES, MOST_BYTES, MOST_COMMANDS, MOST_INSTANCE_BYTES, MOST_MEMORIES, MOST_MODULES,
     MOST_PARTIES, MOST_STEPS, MOST_TABLES, is_valid,
 };
+pub use watcher::{Nobody, Watcher};

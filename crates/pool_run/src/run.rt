@@ -188,6 +188,21 @@ impl<P: Pages> Run<P> {
         StepBounds::of(&self.core.settings, &self.core.plan)
     }
 
+    /// The pool, for who looks at it between turns.
+    pub fn core(&self) -> &PoolCore<P, PlainHeap>
+        ensures { result.now ≡ self.now.core }
+    {
+        &self.core
+    }
+
+    /// Party `i`, likewise.
+    pub fn party(&self, i: usize) -> &RunningParty<P>
+        requires { i < length self.now.parties }
+        ensures { (d : RunningParty P) → result.now ≡ slice_index_or self.now.parties i d }
+    {
+        &self.parties[i]
+    }
+
     /// The pool's numbers.
     pub fn metrics(&self) -> Metrics
         ensures { result ≡ metrics_of self.now.core }

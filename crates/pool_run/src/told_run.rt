@@ -1,15 +1,17 @@
 ghost use Rattle.std.specs.Prelude.{◌≡◌, ℕ, ◌+◌, ◌<◌, ◌≤◌, [], length, map, replicate, slice_get, slice_set, slice_index_or, vec_capacity, Some, IfOk, IfSome};
 ghost use Rattle.pool_alloc.specs.PoolTotals.{metrics_of};
 ghost use Rattle.pool_alloc.specs.Reserved.{no_room};
-ghost use Rattle.pool_run.specs.Folds.{TurnsOf, commands_of, told_state, replies_after};
+ghost use Rattle.pool_run.specs.Folds.{commands_of, told_state};
 ghost use Rattle.pool_run.specs.Numbers.{calls_of_run};
 ghost use Rattle.pool_run.specs.Progress.{is_busy, commands_done, Advances, IsRunOf};
 ghost use Rattle.pool_run.specs.RunsMade.{SoFar, IsKept, parties_made, room_for, with_told};
+ghost use Rattle.pool_run.specs.Watching.{TellsTurn, TurnTold};
 
 use crate::input::{Input, Party};
 use crate::reply::{Reply, ReplyList};
 use crate::reserved_vec::ReservedVec;
 use crate::run::Run;
+use crate::watcher::Watcher;
 use pool_alloc::Metrics;
 use pool_pages::{PageCalls, Pages};
 use pool_types::PlainList;
@@ -45,17 +47,25 @@ impl<P: Pages> ToldRun<P> {
         Ok(ToldRun { run, told })
     }
 
-    /// Makes a turn of a party, and keeps the reply, if there is one.
-    pub(crate) fn turn(&mut self, alloc: Global, input: &Input, party: usize)
+    /// Makes a turn of a party, and keeps the reply, if there is one. The watcher is told.
+    pub(crate) fn turn<W: Watcher<P>>(
+        &mut self,
+        alloc: Global,
+        input: &Input,
+        party: usize,
+        watcher: &mut W,
+    )
         ghost before: { SoFar }
         requires told { before.told ≡ self.old.replies }
         requires run { IsRunOf before.of input.now.parties self.old }
         requires inside { party < length input.now.parties }
-        ensures turn { TurnsOf before.of.modules before.of.inputs party self.old self.new }
+        ensures told { (t : TurnTold P) × TellsTurn before.of.modules before.of.inputs party self.old self.new t × W.leads input.now t watcher.old watcher.new }
         ensures run { IsRunOf before.of input.now.parties self.new }
         ensures advances { Advances before.of.modules (commands_of before.of.inputs party) party self.old self.new }
     {
+        let note = watcher.look(&self.run, input, party);
         let reply = self.run.turn(alloc, input, party);
+        watcher.learn(note, &self.run, input, party, &reply);
         add_reply(&mut self.told, party, reply);
     }
 

@@ -1,5 +1,5 @@
 //! Laws of the pool, which do nothing.
-ghost use Rattle.std.specs.Prelude.{◌≡◌, ◌≢◌, ◌+◌, ◌<◌, ◌≤◌, ℕ, List, All, length, slice_index_or, slice_set, sum_by, Some};
+ghost use Rattle.std.specs.Prelude.{◌≡◌, ◌≢◌, ◌+◌, ◌<◌, ◌≤◌, ℕ, List, All, length, slice_index_or, slice_set, sum_by, Some, false};
 ghost use Rattle.pool_pages.specs.MakerTold.{MakerTold};
 ghost use Rattle.pool_slots.specs.Parts.{part_at};
 ghost use Rattle.pool_slots.specs.declared.errors.AllocError.{AllocError};
@@ -9,8 +9,13 @@ ghost use Rattle.pool_alloc.specs.Calls.{MayBegin, begun_call};
 ghost use Rattle.pool_alloc.specs.PartFlows.{FlowsOnPart};
 ghost use Rattle.pool_alloc.specs.Places.{Thing, right_to, of_units, kept_count, frame_count};
 ghost use Rattle.pool_alloc.specs.PoolAndHolders.{Holding, HasSlots, AddUp, held_by, times_warm, IsPartitioned};
-ghost use Rattle.pool_alloc.specs.Stepping.{Conserves, count_granted, grant_count, CanStep};
+ghost use Rattle.pool_alloc.specs.Stepping.{Conserves, count_granted, grant_count, CanStep, StepsTo};
 ghost use Rattle.pool_alloc.specs.Turns.{After};
+ghost use Rattle.pool_alloc.specs.CallStages.{keys, stage_of};
+ghost use Rattle.pool_alloc.specs.PartyTold.{PartyTold};
+ghost use Rattle.pool_alloc.specs.StepReads.{stripe_allocator};
+ghost use Rattle.pool_alloc.specs.StripesOfGrants.{KeepsToItsStripe, right_outside};
+ghost use Rattle.pool_alloc.specs.UnhinderedRequests.{is_for_room, IsForGrant, HasAllItNeeds};
 ghost use Rattle.pool_alloc.specs.UninterruptedCalls.{IsAsking, AreSteps, HasSameCounts};
 ghost use Rattle.pool_alloc.specs.declared.frame.Call.{Call};
 ghost use Rattle.pool_alloc.specs.declared.frame.Outcome.TheVariants.{Refused};
@@ -43,5 +48,16 @@ impl<P: Pages, H: GcHeap> PoolCore<P, H> {
     /// leaves every count as it was, whatever was granted to it meanwhile.
     pub fn refused_requests_change_no_count(&self, frame: &Frame<P, H>)
         ensures { (maker : MakerTold) (asks : Call P H) (before : List (After P H)) (a : After P H) (e : AllocError) → IsAsking asks → CanStep maker self.now frame.now → MayBegin maker self.now.settings self.now.plan asks frame.now → AreSteps self.now (begun_call asks frame.now) before a → a.outcome ≡ Some (Refused e) → HasSameCounts self.now a.core }
+    {}
+    /// A law, which does nothing: a request is never refused for room where, before its first step, nobody is in the middle of a
+    /// call and enough of all that it needs is not live, and where no other call makes a step before it ends. So it is after any
+    /// history, with all resets still queued.
+    pub fn unhindered_requests_find_room(&self, frame: &Frame<P, H>)
+        ensures { (maker : MakerTold) (asks : Call P H) (before : List (After P H)) (a : After P H) (e : AllocError) → IsForGrant asks → CanStep maker self.now frame.now → MayBegin maker self.now.settings self.now.plan asks frame.now → HasAllItNeeds self.now frame.now.stripe asks → AreSteps self.now (begun_call asks frame.now) before a → a.outcome ≡ Some (Refused e) → is_for_room e ≡ false }
+    {}
+    /// A law, which does nothing: a call has its memories from its party's stripe, and so they are where it is granted them. No step but
+    /// that for a party's key changes the stripe.
+    pub fn memories_lie_in_their_stripe(&self, frame: &Frame<P, H>)
+        ensures { (maker : MakerTold) (old new : PartyTold) (after : After P H) → CanStep maker self.now frame.now → (stage_of frame.now ≡ keys → ⊥) → StepsTo old new self.now frame.now after → KeepsToItsStripe self.now.plan frame.now → KeepsToItsStripe self.now.plan after.frame × (count_granted (grant_count (right_outside (stripe_allocator self.now.plan frame.now.stripe))) after.outcome ≡ 0) }
     {}
 }

@@ -1,5 +1,6 @@
 use Rattle.std.proofs.Common.{◌≡◌, slice_get}
-use Rattle.pool_run.specs.Progress.{calls_begun, turns_left, TurnsSome, IsRunOf}
+use Rattle.pool_run.specs.Progress.{calls_begun, turns_left, IsRunOf}
+use Rattle.pool_run.specs.Watching.{WatchesSome}
 use Rattle.pool_run.proofs.schedule.end_call.Given as goal
 
 abbrev pub ghost-turn : goal.ghost-turn
@@ -8,7 +9,7 @@ ghost-turn g a = record { of = g.of; told = a.self.now.replies }
 -- some turns so far, and no call more
 abbrev pub invariant-loop-alloc : goal.invariant-loop-alloc
 invariant-loop-alloc g l = record {
-  turns : TurnsSome g.of.modules g.of.inputs l.i l.fn.run l.run;
+  watched : WatchesSome (g.W.Watcher.leads l.input) g.of.modules g.of.inputs l.i l.fn.run l.run l.fn.watcher l.watcher;
   run : IsRunOf g.of l.input.parties l.run;
   begun : calls_begun (slice_get l.run.parties l.i) ≡ calls_begun (slice_get l.fn.run.parties l.i);
 }

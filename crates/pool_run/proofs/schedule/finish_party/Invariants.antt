@@ -1,6 +1,7 @@
 use Rattle.std.proofs.Common.{◌≡◌, ◌+◌, ◌-◌, false, length, slice_get}
 use Rattle.pool_run.specs.Folds.{commands_of}
-use Rattle.pool_run.specs.Progress.{is_busy, calls_begun, TurnsSome, IsRunOf}
+use Rattle.pool_run.specs.Progress.{is_busy, calls_begun, IsRunOf}
+use Rattle.pool_run.specs.Watching.{WatchesSome}
 use Rattle.pool_run.proofs.schedule.finish_party.Given as goal
 
 abbrev pub ghost-end_call : goal.ghost-end_call
@@ -12,7 +13,7 @@ ghost-next_call g a = g.of
 -- some turns so far, after which no call of the party is under way
 abbrev pub invariant-loop-alloc : goal.invariant-loop-alloc
 invariant-loop-alloc g l = record {
-  turns : TurnsSome g.of.modules g.of.inputs l.i l.fn.run l.run;
+  watched : WatchesSome (g.W.Watcher.leads l.input) g.of.modules g.of.inputs l.i l.fn.run l.run l.fn.watcher l.watcher;
   run : IsRunOf g.of l.input.parties l.run;
   idle : is_busy (slice_get l.run.parties l.i) ≡ false;
   count : l.count ≡ length (commands_of g.of.inputs l.i);

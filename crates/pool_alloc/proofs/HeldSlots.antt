@@ -1,7 +1,10 @@
 -- What the slot of a memory keeps of the region that was made for it, whatever colour that has.
 use Rattle.std.proofs.Common.{◌≡◌, ℕ, Option, Some, None, refl, ap, ◌∙◌, is_some}
-use Rattle.pool_run.proofs.Imports.{told_if, count, rounded_up, MakerTold, made_region, plan_for, Told, Slot, SlotIdentity, coloured, told_same, stripe_colour, IsPoolSlot, Settings}
+use Rattle.pool_alloc.proofs.Imports.{count, rounded_up, MakerTold, made_region, plan_for, Told, Slot, SlotIdentity, coloured, told_same, stripe_colour}
+use Rattle.pool_pages.proofs.Small.{told_if}
 use Rattle.pool_pages.specs.declared.pages.RegionName.TheVariants.{Memory}
+use Rattle.pool_alloc.specs.BetweenSteps.{IsPoolSlot}
+use Rattle.pool_alloc.specs.declared.pool_core.Settings.{Settings}
 
 coloured_name : (colour : Option ℕ) (start len : ℕ) (t : Told) → (coloured colour start len t).name ≡ t.name
 coloured_name None start len t = refl

@@ -1,20 +1,48 @@
 -- No step but that for a party's key changes the stripe from which it has its memories.
 use Rattle.std.proofs.Common.{◌≡◌, ℕ, Bool, true, false, List, [], ◌∷◌, Option, Some, None, Result, Ok, Err, refl, ap, ◌∙◌, ◌==◌, length, nat_lt, if◌then◌else◌}
-use Rattle.pool_run.proofs.Imports.{memory_kept, table_kept, Slot, MemoryState, Told, Unsupported, Queue, Queued, first_of_kind, others_of_kind, AllocError, PlainHeap, PartyTold, Lease, objects_in, objects_wanted, begun_call, memory_made, LeasedHeap, HeapMakeFault, heap_refused, module_refused, component_refused, FlushStep, run, zero, put, free, flush_step, merged, validated, counted, stacks_tested, heaps_tested, heap_granted, make_heap_row, component_tested, component_counted, paged, was_made, was_made_table, was_reset, put_first, flush_row, row_of, StepGiven, info_wanted, memories_wanted, tables_wanted, stage_at, stage_of, StepsTo, LeasedTable, table_made, After, Left, Row, Turn, goes, ends, next, flush, search, stays, after, is_flushed, all_returned, returned_next, next_by, Asked, nothing_asked, module_asked, stack_asked, memory_asked, table_asked, heap_asked, Call, Ending, granted, returned, refused, Frame, Phase, Idle, Key, Validate, CountInstance, Pick, TakeQueue, TakeRegion, Empty, Instantiate, MakeMemory, MakeTable, CountObject, PutBack, FreeOne, UncountObject, Reset, Merge, Flush, UncountInstance, Purge, Release, TestStack, TestHeap, TakeHeap, MakeHeap, CountHeap, PutNoHeap, UncountHeap, PutHeap, FreeHeap, ValidateComponent, CountComponent, UncountComponent, TakenSlot, has_turns, pick_affine_row, purge_row, reserve_row, release_row, PurgeCursor, PurgeStep, ReleaseStep, PoolCore}
+use Rattle.pool_alloc.proofs.Imports.{Slot, MemoryState, Told, Unsupported, Queue, Queued, first_of_kind, others_of_kind, AllocError, HeapMakeFault}
+use Rattle.pool_alloc.specs.CallStages.{keys, stage_at, stage_of}
+use Rattle.pool_alloc.specs.Calls.{begun_call}
+use Rattle.pool_alloc.specs.HeapLeases.{LeasedHeap}
+use Rattle.pool_alloc.specs.Leases.{Lease}
+use Rattle.pool_alloc.specs.MemorySteps.{memory_made}
+use Rattle.pool_alloc.specs.Objects.{objects_in, objects_wanted}
+use Rattle.pool_alloc.specs.PartyTold.{PartyTold}
+use Rattle.pool_alloc.specs.Purges.{has_turns, pick_affine_row, purge_row}
+use Rattle.pool_alloc.specs.Refusals.{heap_refused, module_refused, component_refused}
+use Rattle.pool_alloc.specs.Releases.{reserve_row, release_row}
+use Rattle.pool_alloc.specs.StepReads.{StepGiven, info_wanted, memories_wanted, tables_wanted}
+use Rattle.pool_alloc.specs.StepTable.{FlushStep, run, zero, put, free, flush_step, memory_kept, table_kept, merged, validated, counted, stacks_tested, heaps_tested, heap_granted, make_heap_row, component_tested, component_counted, paged, was_made, was_made_table, was_reset, put_first, flush_row, row_of}
+use Rattle.pool_alloc.specs.Stepping.{StepsTo}
+use Rattle.pool_alloc.specs.TableLeases.{LeasedTable}
+use Rattle.pool_alloc.specs.TableSteps.{table_made}
+use Rattle.pool_alloc.specs.Turns.{After, Left, Row, Turn, goes, ends, next, flush, search, stays, after, is_flushed, all_returned, returned_next, next_by}
+use Rattle.pool_alloc.specs.declared.frame.Asked.{Asked}
+use Rattle.pool_alloc.specs.declared.frame.Asked.TheVariants.{Nothing as nothing_asked, Module as module_asked, Memory as memory_asked, Table as table_asked, Stack as stack_asked, Heap as heap_asked}
+use Rattle.pool_alloc.specs.declared.frame.Call.{Call}
 use Rattle.pool_alloc.specs.declared.frame.Call.TheVariants as call
+use Rattle.pool_alloc.specs.declared.frame.Ending.{Ending}
+use Rattle.pool_alloc.specs.declared.frame.Ending.TheVariants.{Granted as granted, Returned as returned, Refused as refused}
+use Rattle.pool_alloc.specs.declared.frame.Frame.{Frame}
 use Rattle.pool_alloc.specs.declared.frame.Grant.TheVariants.{Instance, Component, Memory as one_memory, Table as one_table, Stack, Heap}
 use Rattle.pool_alloc.specs.declared.frame.Object.TheVariants.{Memory, Table}
 use Rattle.pool_alloc.specs.declared.frame.Object.TheVariants as object
+use Rattle.pool_alloc.specs.declared.frame.Phase.{Phase}
+use Rattle.pool_alloc.specs.declared.frame.Phase.TheVariants.{Idle, Key, Validate, TestStack, TestHeap, CountInstance, Pick, TakeQueue, TakeRegion, Empty, Instantiate, MakeMemory, MakeTable, CountObject, TakeHeap, MakeHeap, CountHeap, PutNoHeap, PutBack, FreeOne, UncountObject, UncountHeap, PutHeap, FreeHeap, Reset, Merge, Flush, UncountInstance, ValidateComponent, CountComponent, UncountComponent, Purge, Release}
+use Rattle.pool_alloc.specs.declared.frame.TakenSlot.{TakenSlot}
+use Rattle.pool_alloc.specs.declared.pool_core.PoolCore.{PoolCore}
+use Rattle.pool_alloc.specs.declared.purge.PurgeCursor.{PurgeCursor}
+use Rattle.pool_alloc.specs.declared.purge.PurgeStep.{PurgeStep}
 use Rattle.pool_alloc.specs.declared.purge.PurgeStep.TheVariants as purging
+use Rattle.pool_alloc.specs.declared.release.ReleaseStep.{ReleaseStep}
 use Rattle.pool_alloc.specs.declared.release.ReleaseStep.TheVariants as releasing
-use Rattle.pool_run.specs.RunsMade.{is_drawing}
 
-module _ {P : Type 0} where
-  either : (b : Bool) (x y : Left P PlainHeap) (n : ℕ) → x.frame.stripe ≡ n → y.frame.stripe ≡ n → (if b then x else y).frame.stripe ≡ n
+module _ {P H : Type 0} where
+  either : (b : Bool) (x y : Left P H) (n : ℕ) → x.frame.stripe ≡ n → y.frame.stripe ≡ n → (if b then x else y).frame.stripe ≡ n
   either true x y n one other = one
   either false x y n one other = other
 
-  all_stripe : (asked : Asked) (f : Frame P PlainHeap) → (all_returned asked f).frame.stripe ≡ f.stripe
+  all_stripe : (asked : Asked) (f : Frame P H) → (all_returned asked f).frame.stripe ≡ f.stripe
   all_stripe (memory_asked m) f = refl
   all_stripe (table_asked ty) f = refl
   all_stripe stack_asked f = refl
@@ -22,18 +50,18 @@ module _ {P : Type 0} where
   all_stripe (module_asked m) f = refl
   all_stripe (heap_asked ty) f = refl
 
-  returned_stripe : (ms : List Lease) (ts : List LeasedTable) (f : Frame P PlainHeap) → (returned_next ms ts f).frame.stripe ≡ f.stripe
+  returned_stripe : (ms : List Lease) (ts : List LeasedTable) (f : Frame P H) → (returned_next ms ts f).frame.stripe ≡ f.stripe
   returned_stripe (l ∷ ls) ts f = refl
   returned_stripe [] (l ∷ ls) f = refl
   returned_stripe [] [] f = all_stripe f.asked f
 
-  next_stripe : (e : Ending) (f : Frame P PlainHeap) → (next_by e f).frame.stripe ≡ f.stripe
+  next_stripe : (e : Ending) (f : Frame P H) → (next_by e f).frame.stripe ≡ f.stripe
   next_stripe granted f = either (nat_lt (objects_in f.objects) (objects_wanted f.asked)) _ _ f.stripe refl refl
   next_stripe returned f = returned_stripe f.objects.memories.items f.objects.tables.items f
   next_stripe (refused e) f = returned_stripe f.objects.memories.items f.objects.tables.items f
 
   -- a turn leaves it
-  turn_stripe : (f : Frame P PlainHeap) (t : Turn P PlainHeap) → (after f t).frame.stripe ≡ f.stripe
+  turn_stripe : (f : Frame P H) (t : Turn P H) → (after f t).frame.stripe ≡ f.stripe
   turn_stripe f (goes phase) = refl
   turn_stripe f (ends outcome) = refl
   turn_stripe f next = next_stripe f.ending f
@@ -42,7 +70,7 @@ module _ {P : Type 0} where
   turn_stripe f stays = refl
 
   -- and so does a call that begins.
-  pub begun_stripe : (c : Call P PlainHeap) (f : Frame P PlainHeap) → (begun_call c f).stripe ≡ f.stripe
+  pub begun_stripe : (c : Call P H) (f : Frame P H) → (begun_call c f).stripe ≡ f.stripe
   begun_stripe call.Key f = refl
   begun_stripe (call.Module m) f = refl
   begun_stripe (call.Purge id) f = refl
@@ -60,81 +88,81 @@ module _ {P : Type 0} where
   begun_stripe (call.GiveBack (Instance lease)) f = returned_stripe lease.memories.items lease.tables.items (record f { asked = nothing_asked; objects = lease; ending = returned })
 
   -- Rows that have several ends.
-  validated_stripe : (o : Option Unsupported) (wants : Bool) (phase : Phase P PlainHeap) (c : PoolCore P PlainHeap) (f : Frame P PlainHeap) → (validated o wants phase c f).frame.stripe ≡ f.stripe
+  validated_stripe : (o : Option Unsupported) (wants : Bool) (phase : Phase P H) (c : PoolCore P H) (f : Frame P H) → (validated o wants phase c f).frame.stripe ≡ f.stripe
   validated_stripe (Some rule) wants phase c f = refl
   validated_stripe None true phase c f = refl
   validated_stripe None false phase c f = refl
 
-  heaps_stripe : (enabled wants : Bool) (c : PoolCore P PlainHeap) (f : Frame P PlainHeap) → (heaps_tested enabled wants c f).frame.stripe ≡ f.stripe
+  heaps_stripe : (enabled wants : Bool) (c : PoolCore P H) (f : Frame P H) → (heaps_tested enabled wants c f).frame.stripe ≡ f.stripe
   heaps_stripe false wants c f = refl
   heaps_stripe true wants c f = validated_stripe (heap_refused c.settings f.asked) wants (Pick 0) c f
 
-  make_heap_stripe : (r : Result PlainHeap HeapMakeFault) (at : TakenSlot) (c : PoolCore P PlainHeap) (f : Frame P PlainHeap) → (make_heap_row r at c f).frame.stripe ≡ f.stripe
+  make_heap_stripe : (r : Result H HeapMakeFault) (at : TakenSlot) (c : PoolCore P H) (f : Frame P H) → (make_heap_row r at c f).frame.stripe ≡ f.stripe
   make_heap_stripe (Ok heap) at c f = refl
   make_heap_stripe (Err fault) at c f = refl
 
-  heap_stripe : (ms : List Lease) (lease : LeasedHeap PlainHeap) (c : PoolCore P PlainHeap) (f : Frame P PlainHeap) → (heap_granted ms lease c f).frame.stripe ≡ f.stripe
+  heap_stripe : (ms : List Lease) (lease : LeasedHeap H) (c : PoolCore P H) (f : Frame P H) → (heap_granted ms lease c f).frame.stripe ≡ f.stripe
   heap_stripe [] lease c f = refl
   heap_stripe (m ∷ ms) lease c f = refl
 
-  memory_stripe : (asked : Asked) (lease : Lease) (f : Frame P PlainHeap) → (memory_kept asked lease f).stripe ≡ f.stripe
+  memory_stripe : (asked : Asked) (lease : Lease) (f : Frame P H) → (memory_kept asked lease f).stripe ≡ f.stripe
   memory_stripe (memory_asked m) lease f = refl
   memory_stripe _ lease f = refl
 
-  table_kept_stripe : (asked : Asked) (lease : LeasedTable) (f : Frame P PlainHeap) → (table_kept asked lease f).stripe ≡ f.stripe
+  table_kept_stripe : (asked : Asked) (lease : LeasedTable) (f : Frame P H) → (table_kept asked lease f).stripe ≡ f.stripe
   table_kept_stripe (table_asked ty) lease f = refl
   table_kept_stripe _ lease f = refl
 
-  counted_stripe : (b : Bool) (c : PoolCore P PlainHeap) (f : Frame P PlainHeap) → (counted b c f).frame.stripe ≡ f.stripe
+  counted_stripe : (b : Bool) (c : PoolCore P H) (f : Frame P H) → (counted b c f).frame.stripe ≡ f.stripe
   counted_stripe true c f = refl
   counted_stripe false c f = refl
 
-  tested_stripe : (o : Option Unsupported) (c : PoolCore P PlainHeap) (f : Frame P PlainHeap) → (component_tested o c f).frame.stripe ≡ f.stripe
+  tested_stripe : (o : Option Unsupported) (c : PoolCore P H) (f : Frame P H) → (component_tested o c f).frame.stripe ≡ f.stripe
   tested_stripe (Some rule) c f = refl
   tested_stripe None c f = refl
 
-  component_stripe : (b : Bool) (c : PoolCore P PlainHeap) (f : Frame P PlainHeap) → (component_counted b c f).frame.stripe ≡ f.stripe
+  component_stripe : (b : Bool) (c : PoolCore P H) (f : Frame P H) → (component_counted b c f).frame.stripe ≡ f.stripe
   component_stripe true c f = refl
   component_stripe false c f = refl
 
-  paged_stripe : (b : Bool) (at : TakenSlot) (held : Slot) (phase : Phase P PlainHeap) (c : PoolCore P PlainHeap) (f : Frame P PlainHeap) → (paged b at held phase c f).frame.stripe ≡ f.stripe
+  paged_stripe : (b : Bool) (at : TakenSlot) (held : Slot) (phase : Phase P H) (c : PoolCore P H) (f : Frame P H) → (paged b at held phase c f).frame.stripe ≡ f.stripe
   paged_stripe true at held phase c f = refl
   paged_stripe false at held phase c f = refl
 
-  made_stripe : (at : TakenSlot) (held : Slot) (r : Result MemoryState AllocError) (c : PoolCore P PlainHeap) (f : Frame P PlainHeap) → (was_made at held r c f).frame.stripe ≡ f.stripe
+  made_stripe : (at : TakenSlot) (held : Slot) (r : Result MemoryState AllocError) (c : PoolCore P H) (f : Frame P H) → (was_made at held r c f).frame.stripe ≡ f.stripe
   made_stripe at held (Ok memory) c f = refl
   made_stripe at held (Err e) c f = refl
 
-  table_stripe : (at : TakenSlot) (region : Told) (r : Result LeasedTable AllocError) (c : PoolCore P PlainHeap) (f : Frame P PlainHeap) → (was_made_table at region r c f).frame.stripe ≡ f.stripe
+  table_stripe : (at : TakenSlot) (region : Told) (r : Result LeasedTable AllocError) (c : PoolCore P H) (f : Frame P H) → (was_made_table at region r c f).frame.stripe ≡ f.stripe
   table_stripe at region (Ok lease) c f = refl
   table_stripe at region (Err e) c f = refl
 
-  reset_stripe : (b : Bool) (held : Slot) (lease : Lease) (c : PoolCore P PlainHeap) (f : Frame P PlainHeap) → (was_reset b held lease c f).frame.stripe ≡ f.stripe
+  reset_stripe : (b : Bool) (held : Slot) (lease : Lease) (c : PoolCore P H) (f : Frame P H) → (was_reset b held lease c f).frame.stripe ≡ f.stripe
   reset_stripe true held lease c f = refl
   reset_stripe false held lease c f = refl
 
-  put_stripe : (o : Option Queued) (rest : List Queued) (c : PoolCore P PlainHeap) (f : Frame P PlainHeap) → (put_first o rest c f).frame.stripe ≡ f.stripe
+  put_stripe : (o : Option Queued) (rest : List Queued) (c : PoolCore P H) (f : Frame P H) → (put_first o rest c f).frame.stripe ≡ f.stripe
   put_stripe None rest c f = refl
   put_stripe (Some m) rest c f = refl
 
-  merged_stripe : (b : Bool) (whole : Queue) (f : Frame P PlainHeap) → (merged b whole f).frame.stripe ≡ f.stripe
+  merged_stripe : (b : Bool) (whole : Queue) (f : Frame P H) → (merged b whole f).frame.stripe ≡ f.stripe
   merged_stripe true whole f = refl
   merged_stripe false whole f = refl
 
-  enabled_stripe : (disabled : Bool) (c : PoolCore P PlainHeap) (f : Frame P PlainHeap) → (stacks_tested disabled c f).frame.stripe ≡ f.stripe
+  enabled_stripe : (disabled : Bool) (c : PoolCore P H) (f : Frame P H) → (stacks_tested disabled c f).frame.stripe ≡ f.stripe
   enabled_stripe true c f = refl
   enabled_stripe false c f = refl
 
-  flush_stripe : (step : FlushStep) (queue : Queue) (c : PoolCore P PlainHeap) (f : Frame P PlainHeap) → (flush_row step queue c f).frame.stripe ≡ f.stripe
+  flush_stripe : (step : FlushStep) (queue : Queue) (c : PoolCore P H) (f : Frame P H) → (flush_row step queue c f).frame.stripe ≡ f.stripe
   flush_stripe run queue c f = refl
   flush_stripe (zero kind) queue c f = refl
   flush_stripe (put kind) queue c f = put_stripe (first_of_kind kind f.local.slots) (others_of_kind kind f.local.slots) c f
   flush_stripe free queue c f = refl
 
-  purge_stripe : (g : StepGiven PlainHeap) (p : PurgeCursor) (step : PurgeStep P) (c : PoolCore P PlainHeap) (f : Frame P PlainHeap) → (purge_row g p step c f).frame.stripe ≡ f.stripe
+  purge_stripe : (g : StepGiven H) (p : PurgeCursor) (step : PurgeStep P) (c : PoolCore P H) (f : Frame P H) → (purge_row g p step c f).frame.stripe ≡ f.stripe
   purge_stripe g p (purging.Pick tried) c f = picked_stripe (has_turns c.settings.max_memories_per_module c.plan) p tried c f
     where
-      picked_stripe : (b : Bool) (p : PurgeCursor) (tried : ℕ) (c : PoolCore P PlainHeap) (f : Frame P PlainHeap) → (pick_affine_row b p tried c f).frame.stripe ≡ f.stripe
+      picked_stripe : (b : Bool) (p : PurgeCursor) (tried : ℕ) (c : PoolCore P H) (f : Frame P H) → (pick_affine_row b p tried c f).frame.stripe ≡ f.stripe
       picked_stripe true p tried c f = refl
       picked_stripe false p tried c f = refl
   purge_stripe g p (purging.TakeRegion name) c f = refl
@@ -142,11 +170,11 @@ module _ {P : Type 0} where
   purge_stripe g p (purging.PutRegion at held) c f = refl
   purge_stripe g p (purging.Free name) c f = refl
 
-  reserved_stripe : (wants : Bool) (c : PoolCore P PlainHeap) (f : Frame P PlainHeap) → (reserve_row wants c f).frame.stripe ≡ f.stripe
+  reserved_stripe : (wants : Bool) (c : PoolCore P H) (f : Frame P H) → (reserve_row wants c f).frame.stripe ≡ f.stripe
   reserved_stripe true c f = refl
   reserved_stripe false c f = refl
 
-  release_stripe : (g : StepGiven PlainHeap) (step : ReleaseStep P) (c : PoolCore P PlainHeap) (f : Frame P PlainHeap) → (release_row g step c f).frame.stripe ≡ f.stripe
+  release_stripe : (g : StepGiven H) (step : ReleaseStep P) (c : PoolCore P H) (f : Frame P H) → (release_row g step c f).frame.stripe ≡ f.stripe
   release_stripe g releasing.Reserve c f = reserved_stripe g.wants c f
   release_stripe g (releasing.TakeWarm r j) c f = refl
   release_stripe g (releasing.TakeRegion r k) c f = refl
@@ -155,9 +183,9 @@ module _ {P : Type 0} where
   release_stripe g (releasing.Free r x) c f = refl
 
   -- Each row but that of a key leaves it.
-  row_stripe : (g : StepGiven PlainHeap) (p : Phase P PlainHeap) (c : PoolCore P PlainHeap) (f : Frame P PlainHeap) → is_drawing (stage_at p f.asked f.ending (objects_in f.objects)) ≡ false → (row_of g p c f).frame.stripe ≡ f.stripe
+  row_stripe : (g : StepGiven H) (p : Phase P H) (c : PoolCore P H) (f : Frame P H) → (stage_at p f.asked f.ending (objects_in f.objects) ≡ keys → ⊥) → (row_of g p c f).frame.stripe ≡ f.stripe
   row_stripe g Idle c f on = refl
-  row_stripe g Key c f on = absurd cc
+  row_stripe g Key c f on = absurd (on refl)
   row_stripe g Validate c f on = validated_stripe (module_refused c.settings c.plan.totals.table (info_wanted f.asked)) g.wants CountInstance c f
   row_stripe g CountInstance c f on = counted_stripe (nat_lt c.counters.core_instances c.settings.max_core_instances) c f
   row_stripe g (Pick tried) c f on = refl
@@ -196,7 +224,7 @@ module _ {P : Type 0} where
   row_stripe g CountComponent c f on = component_stripe (nat_lt c.counters.component_instances c.settings.max_component_instances) c f
   row_stripe g UncountComponent c f on = refl
 
-  pub step_stripe : (old new : PartyTold) (c : PoolCore P PlainHeap) (f : Frame P PlainHeap) (a : After P PlainHeap) → is_drawing (stage_of f) ≡ false → StepsTo old new c f a → a.frame.stripe ≡ f.stripe
+  pub step_stripe : (old new : PartyTold) (c : PoolCore P H) (f : Frame P H) (a : After P H) → (stage_of f ≡ keys → ⊥) → StepsTo old new c f a → a.frame.stripe ≡ f.stripe
   step_stripe old new c f a on steps =
-      let r : Row (PoolCore P PlainHeap) P PlainHeap = row_of steps.0 f.phase c (record f { phase = Idle }) in
-      ap (λ (x : After P PlainHeap). x.frame.stripe) steps.1.is ∙ turn_stripe r.frame r.turn ∙ row_stripe steps.0 f.phase c (record f { phase = Idle }) on
+      let r : Row (PoolCore P H) P H = row_of steps.0 f.phase c (record f { phase = Idle }) in
+      ap (λ (x : After P H). x.frame.stripe) steps.1.is ∙ turn_stripe r.frame r.turn ∙ row_stripe steps.0 f.phase c (record f { phase = Idle }) on

@@ -5,7 +5,9 @@ use Rattle.pool_run.specs.Runs.{with_faults}
 use Rattle.pool_run.proofs.Makings.{fault_of_run}
 use Rattle.pool_run.proofs.RulesNamed.{page_named}
 use Rattle.pool_run.proofs.SameRuns.{only_ok, holds_ok}
-use Rattle.pool_run.proofs.run_input.run_schedule.Goals as goal
+use Rattle.pool_run.proofs.Unhindered.{serves_ok}
+use Rattle.pool_run.proofs.Watched.{run_of_watched}
+use Rattle.pool_run.proofs.run_input.run_watched.Goals as goal
 
 pub returns-in-Ok-clause-fault : goal.returns-in-Ok-clause-fault
 returns-in-Ok-clause-fault g c is =
@@ -26,7 +28,10 @@ returns-in-Ok-clause-only g c =
     c.new-maker.ensures.told
     ∙ ap (λ (page : ℕ). failing_maker maker page (planned_faults c.as_slice.result.now) maker.next maker.faults) c.in-Ok.ensures.ok
     ∙ ap (λ (fs : List Fault). failing_maker maker c.args.input.now.page (planned_faults fs) maker.next maker.faults) c.as_slice.ensures in
-    only_ok _ c.args.input.now (with_faults c.args.input.now maker) _ c.run_with-answer.result before refl c.requires.built c.run_with-answer.ensures.rules c.run_with-answer.ensures.ok
+    only_ok _ c.args.input.now (with_faults c.args.input.now maker) _ c.run_with-answer.result before refl c.requires.built c.run_with-answer.ensures.rules (run_of_watched _ _ _ _ _ c.run_with-answer.result c.run_with-answer.ensures.watched)
 
 pub returns-in-Ok-clause-throughout : goal.returns-in-Ok-clause-throughout
 returns-in-Ok-clause-throughout g c = holds_ok _ c.args.input.now (with_faults c.args.input.now (g.M.PageMaker.told c.args.pages.now)) c.run_with-answer.result refl c.requires.built c.run_with-answer.ensures.rules
+
+pub returns-in-Ok-clause-served : goal.returns-in-Ok-clause-served
+returns-in-Ok-clause-served g c = serves_ok _ c.args.input.now (with_faults c.args.input.now (g.M.PageMaker.told c.args.pages.now)) c.run_with-answer.result refl c.requires.built c.run_with-answer.ensures.rules
