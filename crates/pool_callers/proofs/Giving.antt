@@ -1,5 +1,5 @@
 -- When a grant may be given back: whatever else came or went meanwhile, and however the caller used it.
-use Rattle.std.proofs.Common.{◌≡◌, ◌+◌, ◌-◌, ◌≤◌, List, [], ◌∷◌, refl, ap, arith, Some}
+use Rattle.std.proofs.Common.{◌≡◌, ◌+◌, ◌-◌, ◌≤◌, List, [], ◌∷◌, refl, sym, ap, subst, arith, Some}
 use Rattle.pool_hall.specs.Sum.{total}
 use Rattle.pool_hall.specs.Unit.{times, minus, pick_of, Beside}
 use Rattle.pool_hall.specs.declared.unit_name.UnitName.{UnitName}
@@ -26,6 +26,16 @@ module _ {T P H : Type 0} (a : About) (grant : Grant P H) where
     units = λ u. omega (arith, has (this u), units_weigh (this u) grant);
     beside = beside_same rest (minus v.units (grant_units grant)) (λ u. omega (arith, has (this u), units_weigh (this u) grant, times_minus u v.units (grant_units grant))) beside;
     counted = counts;
+  }
+
+  -- It may be given back however its owner used it, where its slots and its counts are the same.
+  pub gives_used : (used : Grant P H) (v : View T) → IsGrant a.maker a.settings a.plan used → GrantKeeps used → grant_units used ≡ grant_units grant → ((k : Counter) → grant_counted (only k) used ≡ grant_counted (only k) grant) → Gives a grant v → Gives a used v
+  gives_used used v is keeps same counts gives = record {
+    is = is;
+    keeps = keeps;
+    units = subst (λ (us : List UnitName). (u : UnitName) → times u us ≤ times u v.units) (sym same) gives.units;
+    beside = subst (λ (us : List UnitName). Beside (minus v.units us)) (sym same) gives.beside;
+    counted = λ k. omega (arith, gives.counted k, counts k);
   }
 
   -- It may be given back still, where nothing came or went,

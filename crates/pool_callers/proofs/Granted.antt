@@ -1,10 +1,11 @@
--- What a call for an instance, a stack or a heap is granted, where it is granted something.
+-- What a call for an instance, a memory, a table, a stack or a heap is granted, where it is granted something.
 use Rattle.std.proofs.Common.{◌≡◌, refl, subst}
 use Rattle.pool_slots.specs.declared.plan.Plan.{Plan}
 use Rattle.pool_alloc.specs.HeapLeases.{LeasedHeap}
 use Rattle.pool_alloc.specs.Leases.{Lease}
-use Rattle.pool_alloc.specs.PlainModules.{ModuleAsked}
+use Rattle.pool_alloc.specs.PlainModules.{MemoryAsked, ModuleAsked}
 use Rattle.pool_alloc.specs.StackLeases.{LeasedStack}
+use Rattle.pool_alloc.specs.TableLeases.{LeasedTable}
 use Rattle.pool_alloc.specs.declared.frame.Call.TheVariants as call
 use Rattle.pool_alloc.specs.declared.frame.Grant.{Grant}
 use Rattle.pool_alloc.specs.declared.frame.Grant.TheVariants as grant
@@ -13,6 +14,7 @@ use Rattle.pool_alloc.specs.declared.frame.Outcome.TheVariants.{Granted}
 use Rattle.pool_alloc.specs.declared.leases.instance.InstanceLease.{InstanceLease}
 use Rattle.pool_alloc.specs.declared.pool_core.Settings.{Settings}
 use Rattle.pool_types.specs.declared.module_types.MemoryType.{MemoryType}
+use Rattle.pool_types.specs.declared.table_type.TableType.{TableType}
 use Rattle.pool_driver.specs.Refusing.{AnswersCall}
 
 module _ {P H : Type 0} (s : Settings) (plan : Plan) (o : Outcome P H) where
@@ -23,6 +25,14 @@ module _ {P H : Type 0} (s : Settings) (plan : Plan) (o : Outcome P H) where
   pub instance_alone : (m : ModuleAsked) (x : Grant P H) → o ≡ Granted x → AnswersCall s plan (call.Module m) o → (lease : InstanceLease P) × (x ≡ grant.Instance lease)
   instance_alone m (grant.Instance lease) is answers = (lease, refl)
   instance_alone m _ is answers = absurd (subst (AnswersCall s plan (call.Module m)) is answers)
+
+  pub memory_alone : (m : MemoryAsked) (x : Grant P H) → o ≡ Granted x → AnswersCall s plan (call.Memory m) o → (lease : Lease) × (x ≡ grant.Memory lease)
+  memory_alone m (grant.Memory lease) is answers = (lease, refl)
+  memory_alone m _ is answers = absurd (subst (AnswersCall s plan (call.Memory m)) is answers)
+
+  pub table_alone : (ty : TableType) (x : Grant P H) → o ≡ Granted x → AnswersCall s plan (call.Table ty) o → (lease : LeasedTable) × (x ≡ grant.Table lease)
+  table_alone ty (grant.Table lease) is answers = (lease, refl)
+  table_alone ty _ is answers = absurd (subst (AnswersCall s plan (call.Table ty)) is answers)
 
   pub heap_alone : (ty : MemoryType) (x : Grant P H) → o ≡ Granted x → AnswersCall s plan (call.Heap ty) o → (lease : LeasedHeap H) × (memory : Lease) × (x ≡ grant.Heap lease memory)
   heap_alone ty (grant.Heap lease memory) is answers = (lease, memory, refl)

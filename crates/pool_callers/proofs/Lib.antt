@@ -3,7 +3,9 @@ pub mod Giving
 pub mod GrantUnits
 pub mod Granted
 pub mod Images
+pub mod Reading
 pub mod Seats
 pub mod Sent
 pub mod Settling
+pub mod SingleCalls
 pub mod Writing

@@ -1,5 +1,5 @@
 -- A grant that its owner wrote into may be given back still.
-use Rattle.std.proofs.Common.{◌≡◌, ◌⊎◌, inl, inr, ℕ, ◌+◌, ◌*◌, ◌≤◌, Bool, arith, zero, suc, List, [], ◌∷◌, ◌++◌, length, refl, sym, ap, ◌∙◌, subst, Result, Ok, Err, All}
+use Rattle.std.proofs.Common.{◌≡◌, ◌⊎◌, inl, inr, ℕ, ◌+◌, ◌*◌, ◌≤◌, Bool, arith, zero, suc, List, [], ◌∷◌, ◌++◌, length, refl, sym, ap, ◌∙◌, subst, Option, Some, None, IfSome, Result, Ok, Err, All}
 use Rattle.std.specs.Prelude.{slice_index_or, slice_set}
 use Rattle.std.proofs.lemmas.List.Elements.{All-cons, All-head, All-tail}
 use Rattle.std.specs.List.{AllByRecursion}
@@ -13,21 +13,28 @@ use Rattle.pool_limits.specs.declared.errors.Trap.{Trap}
 use Rattle.pool_memory.specs.Linear.{Storage, in_slot, stored, slot_in, storage_written}
 use Rattle.pool_memory.specs.Memories.{MemoryState, memory_written, slot_of}
 use Rattle.pool_pages.specs.Contents.{written}
+use Rattle.pool_pages.specs.Told.{Told}
+use Rattle.pool_table.specs.Elements.{Element}
+use Rattle.pool_table.specs.Stores.{StoreCall, StoreTold}
+use Rattle.pool_table.specs.declared.gc_store.GcTableError.{GcTableError}
 use Rattle.pool_alloc.specs.BetweenSteps.{IsLeaseOf}
 use Rattle.pool_alloc.specs.Leases.{IsChanged, IsUsable, IsWritten, Lease, memory_slot}
 use Rattle.pool_hall.specs.declared.unit_name.SlotKind.TheVariants.{Memory as memory_kind}
 use Rattle.pool_alloc.specs.Places.{counted_object, only}
 use Rattle.pool_alloc.specs.Reserved.{Reserved}
 use Rattle.pool_alloc.specs.StackLeases.{LeasedStack}
-use Rattle.pool_alloc.specs.declared.frame.Grant.TheVariants.{Instance, Stack}
+use Rattle.pool_alloc.specs.TableLeases.{IsFilled, LeasedTable}
+use Rattle.pool_alloc.specs.declared.frame.Grant.TheVariants.{Instance, Memory, Stack, Table}
 use Rattle.pool_alloc.specs.declared.leases.instance.InstanceLease.{InstanceLease}
 use Rattle.pool_alloc.proofs.SlotIdentity.{IsOneSlot, slot_of_one}
+use Rattle.pool_alloc.proofs.TableWrites.{IsRewritten, lease_filled, region_filled}
 use Rattle.pool_slots.specs.PlainSlots.{IsPlain, plain_written}
-use Rattle.pool_driver.specs.Faults.{KeepsFaults, LeaseKeeps}
+use Rattle.pool_slots.specs.declared.slot_name.RegionNumbers.{RegionNumbers}
+use Rattle.pool_driver.specs.Faults.{KeepsFaults, LeaseKeeps, TableKeeps}
 use Rattle.pool_driver.specs.Placed.{About}
 use Rattle.pool_callers.specs.Callers.{Gains, Gives, Keeps, Loses}
 use Rattle.pool_callers.specs.GrantUnits.{both_units, grant_units, memory_units, table_units}
-use Rattle.pool_callers.proofs.Giving.{keeps_round}
+use Rattle.pool_callers.proofs.Giving.{gives_used, keeps_round}
 use Rattle.pool_callers.proofs.GrantUnits.{units_weigh}
 
 -- a write leaves the slot, and what has failed in it
@@ -59,6 +66,15 @@ module _ (a : About) where
 lease_keeps : (at : ℕ) (bytes : List ℕ) (l new : Lease) → Written at bytes l new → LeaseKeeps l → LeaseKeeps new
 lease_keeps at bytes l new (inl is) keeps = subst LeaseKeeps (sym is) (subst (λ n. KeepsFaults l.numbers.faults n) (sym (faults_written at bytes l.memory.linear.storage)) keeps)
 lease_keeps at bytes l new (inr is) keeps = subst LeaseKeeps (sym is) keeps
+
+-- what has failed in a table's region is as before, whatever was written there
+region_keeps : (told : ℕ) (old new : Option Told) → IsRewritten old new → IfSome old (λ region. KeepsFaults told region.faults) → IfSome new (λ region. KeepsFaults told region.faults)
+region_keeps told old new (inl is) keeps = subst (λ (o : Option Told). IfSome o (λ region. KeepsFaults told region.faults)) (sym is) keeps
+region_keeps told None new (inr is) keeps = subst (λ (o : Option Told). IfSome o (λ region. KeepsFaults told region.faults)) (sym is.1.1) keeps
+region_keeps told (Some region) new (inr is) keeps = subst (λ (o : Option Told). IfSome o (λ region. KeepsFaults told region.faults)) (sym is.1.1) keeps
+
+table_keeps : (l new : LeasedTable) → new ≡ record l { table = new.table } → IsRewritten l.table.region new.table.region → TableKeeps l → TableKeeps new
+table_keeps l new same is keeps = subst (λ (n : RegionNumbers). IfSome new.table.region (λ region. KeepsFaults n.faults region.faults)) (sym (ap (λ (x : LeasedTable). x.numbers) same)) (region_keeps l.numbers.faults l.table.region new.table.region is keeps)
 
 -- one lease of a list changes, and stays where it is
 units_set : (leases : List Lease) (k : ℕ) (lease : Lease) → ((d : Lease) → lease ≡ record (slice_index_or leases k d) { memory = lease.memory }) → memory_units (slice_set leases k lease) ≡ memory_units leases
@@ -97,6 +113,17 @@ module _ {T P H : Type 0} (a : About) (v : View T) where
         beside = subst (λ (us : List UnitName). Beside (minus v.units us)) (sym all) gives.beside;
         counted = λ c. omega (arith, gives.counted c, ap (λ (n : ℕ). n * only c (counted_object memory_kind)) (length_set items k one));
       })
+
+  -- a memory by itself,
+  pub gives_memory_written : (l new : Lease) (at : ℕ) (bytes : List ℕ) (r : Result (Unit {0}) Trap) → IsWritten at bytes l new r → Gives {P = P} {H = H} a (Memory l) v → Gives {P = P} {H = H} a (Memory new) v
+  gives_memory_written l new at bytes r is gives =
+      let one : Written at bytes l new = is_written at bytes l new r is in
+      gives_used a (Memory l) (Memory new) v (lease_of a at bytes l new is.memory one gives.is) (lease_keeps at bytes l new one gives.keeps) (ap (λ (x : Lease). grant_units {P = P} {H = H} (Memory x)) is.same) (λ k. refl) gives
+
+  -- a table whose elements were set,
+  pub gives_table_filled : {G : Type 0} (told : G → StoreTold) (leads : G → StoreCall → G → Type 0) (l new : LeasedTable) (at count : ℕ) (e : Element) (before after : G) (r : Result (Unit {0}) GcTableError) → IsFilled told leads at count e l new before after r → Gives {P = P} {H = H} a (Table l) v → Gives {P = P} {H = H} a (Table new) v
+  gives_table_filled told leads l new at count e before after r is gives =
+      gives_used a (Table l) (Table new) v (lease_filled told leads at count e l new before after r is a.maker a.settings a.plan gives.is) (table_keeps l new is.same (region_filled told leads at count e l new before after r is) gives.keeps) (ap (λ (x : LeasedTable). grant_units {P = P} {H = H} (Table x)) is.same) (λ k. refl) gives
 
   -- and so may a stack.
   pub gives_stack_written : (l new : LeasedStack) (at : ℕ) (bytes : List ℕ) → new ≡ record l { stack = record l.stack { slot = plain_written at bytes l.stack.slot } } → IsPlain new.stack.slot → Gives {P = P} {H = H} a (Stack l) v → Gives {P = P} {H = H} a (Stack new) v

@@ -26,6 +26,7 @@ mod calls;
 mod counts;
 mod instances;
 mod others;
+mod singles;
 mod stacks;
 
 // Its numbers

@@ -1,1 +1,2 @@
+mod ModuleMemories
 mod Sent

@@ -5,12 +5,13 @@ ghost use Rattle.pool_hall.specs.Tally.{all_portions};
 ghost use Rattle.pool_callers.specs.Callers.{HasNothing, IsAllocator, IsCaller};
 ghost use Rattle.pool_uses.specs.Requests.{IsRequest};
 
+use crate::instances::{module_call, module_with};
+use crate::threads::{MemoryAllocator, MemoryCaller, Worker, four_work, work};
 use pool_alloc::ModuleCall;
 use pool_callers::PoolingInstanceAllocator;
 use pool_pages::MemoryPages;
 use pool_slots::PoolNewError;
 use pool_types::{CompiledModuleId, Offered, PageSize, PoolingAllocationConfig, Tunables};
-use pool_uses::{MemoryAllocator, MemoryCaller, Worker, four_work, module_call, module_with, work};
 use std::alloc::{AllocError, Global};
 use std::sync::Wait;
 use std::thread::Threads;

@@ -4,7 +4,7 @@ use Rattle.pool_hall.specs.Seat.{view}
 use Rattle.pool_callers.specs.Callers.{HasNothing}
 use Rattle.pool_callers.proofs.Giving.{nothing_kept}
 use Rattle.pool_callers.proofs.Seats.{nothing_joined, nothing_left, nothing_new}
-use Rattle.pool_cycle.proofs.measure.together.Goals as goal
+use Rattle.pool_uses.proofs.measure.together.Goals as goal
 
 pub close-parts-requires-clause-nothing : goal.close-parts-requires-clause-nothing
 close-parts-requires-clause-nothing g c =

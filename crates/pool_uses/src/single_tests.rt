@@ -1,0 +1,93 @@
+//! A memory and a table by themselves, in a pool with one slot of each: what was written there is gone when they come again.
+use crate::instances::{module_call, module_with};
+use crate::singles::{fill_a_table, look_at_a_table, read_a_memory, read_one_of, write_a_memory};
+use pool_alloc::Element;
+use pool_callers::PoolingInstanceAllocator;
+use pool_index::ShardId;
+use pool_limits::Unlimited;
+use pool_pages::MemoryPages;
+use pool_slots::PlainHeap;
+use pool_table::ListedStore;
+use pool_types::{
+    CompiledModuleId, DefinedMemoryIndex, IndexType, Limits, MemoryType, Offered, PageSize,
+    PlainList, PoolingAllocationConfig, TableElementType, TableType, Tunables,
+};
+use std::test::*;
+
+const HOME: ShardId = ShardId(0);
+
+#[test]
+fn a_memory_and_a_table_come_alone(rt: HostRuntime) -> Result<(), Fail> {
+    let alloc = rt.alloc();
+    let page = PageSize::new(4096)?;
+    let mut maker = MemoryPages::new(page);
+    let mut config = PoolingAllocationConfig::default();
+    config.limits.total_memories = 1;
+    config.limits.total_tables = 1;
+    let info = module_with(alloc, b"init")?;
+    let call = module_call(alloc, &mut maker, page, CompiledModuleId(0), info)?;
+    let (allocator, mut seat) = PoolingInstanceAllocator::<_, _, PlainHeap>::new(
+        alloc,
+        &config,
+        &Tunables::default(),
+        page,
+        1,
+        &Offered::default(),
+        &mut maker,
+    )?;
+    let limits = Limits { min: 1, max: None };
+    let memory = MemoryType {
+        idx_type: IndexType::I32,
+        limits,
+        shared: false,
+        page_size_log2: 16,
+    };
+    let limiter = &mut Unlimited;
+    let written = write_a_memory(
+        &rt,
+        alloc,
+        &allocator,
+        HOME,
+        &mut seat,
+        memory,
+        limiter,
+        65_528,
+        b"8 bytes.",
+    );
+    assert_eq!(rt; written, Ok(Ok(())));
+    let mut bytes = *b"as it was";
+    let read = read_a_memory(
+        &rt, alloc, &allocator, HOME, &mut seat, memory, limiter, 65_527, &mut bytes,
+    );
+    assert_eq!(rt; read, Ok(Ok(())));
+    assert_eq!(rt; bytes, [0; 9]);
+    let read = read_one_of(
+        &rt,
+        alloc,
+        &allocator,
+        HOME,
+        &mut seat,
+        &call,
+        DefinedMemoryIndex(0),
+        limiter,
+        0,
+        &mut bytes,
+    );
+    assert_eq!(rt; read, Ok(Ok(())));
+    assert_eq!(rt; &bytes, b"init\0\0\0\0\0");
+    let table = TableType {
+        idx_type: IndexType::I32,
+        limits,
+        element: TableElementType::GcRef,
+    };
+    let store = &mut ListedStore::new(PlainList::new(alloc));
+    let some = Element::Gc(Some(7));
+    let filled = fill_a_table(
+        &rt, alloc, &allocator, HOME, &mut seat, table, limiter, store, some, 1,
+    );
+    assert_eq!(rt; filled, Ok(Ok(())));
+    let element = look_at_a_table(&rt, alloc, &allocator, HOME, &mut seat, table, limiter, 0);
+    assert_eq!(rt; element, Ok(Ok(Element::Gc(None))));
+    let _parts = allocator.close(alloc, seat);
+    Ok(())
+}
