@@ -296,9 +296,10 @@ fn run_seated<M: PageMaker>(
 /// Makes the images of the input's modules, and has the parties make their commands, each of which is one step: those of the
 /// schedule first, and then, where the input says so, those that are left, party by party. Memories, tables, stacks and heaps
 /// are made for the request that asks for them, and dropped when they are given back; there is no pool, whose settings are
-/// tested but not used. Makings and page calls fail where the input lists them. Nothing is run where the input isn't valid,
-/// which is tested first, or a rule of its settings is broken, where an image can't be made, or where there is no memory for
-/// the run and the lists of its replies.
+/// tested but not used. The making of an image fails exactly where the input lists it. Makings and page calls on demand fail no
+/// more often than it lists them, which its clause says of the whole run, and no clause says that a listed one fails. Nothing is
+/// run where the input isn't valid, which is tested first, or a rule of its settings is broken, where an image can't be made,
+/// or where there is no memory for the run and the lists of its replies.
 pub fn run_on_demand<M: PageMaker>(
     alloc: Global,
     input: &Input,
