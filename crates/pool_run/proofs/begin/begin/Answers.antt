@@ -1,0 +1,40 @@
+use Rattle.std.proofs.Common.{◌≡◌, Option, Some, refl, rules, slice_get, subst, sym}
+use Rattle.pool_run.proofs.Imports.{ModuleAsked, begun_call}
+use Rattle.pool_alloc.specs.declared.frame.Call.TheVariants as call
+use Rattle.pool_run.specs.AtOnce.{given_act}
+use Rattle.pool_run.specs.Turns.{Opening, makes_step, replies, BeginsFrom, OpensAct, OpensPurge}
+use Rattle.pool_run.specs.declared.act.Act.{Act}
+use Rattle.pool_run.specs.declared.begin.Begun.{Begun}
+use Rattle.pool_run.specs.declared.running_party.RunningParty.{RunningParty}
+use Rattle.pool_run.proofs.begin.begin.Goals as goal
+
+pub returns-in-OnMemory-clause-begins : goal.returns-in-OnMemory-clause-begins
+returns-in-OnMemory-clause-begins g c =
+    let p : RunningParty g.row.P.Denot = c.args.party.now in
+    let B : Act → Type 0 = λ act. BeginsFrom (OpensAct c.args.modules.now (given_act act) p) p c.end_at_once.new.party c.end_at_once.result in
+    subst B (sym c.in-OnMemory.is) (
+      replies c.act_on_bytes-reply.result c.act_on_bytes-reply.new.live p.store,
+      (c.act_on_bytes-reply.result, c.act_on_bytes-reply.new.live, c.act_on_bytes-reply.ensures, refl),
+      (c.end_at_once.ensures.party, c.end_at_once.ensures.replies),
+    )
+
+pub returns-in-OnTable-clause-begins : goal.returns-in-OnTable-clause-begins
+returns-in-OnTable-clause-begins g c =
+    let p : RunningParty g.row.P.Denot = c.args.party.now in
+    let B : Act → Type 0 = λ act. BeginsFrom (OpensAct c.args.modules.now (given_act act) p) p c.end_at_once-in-OnTable.new.party c.end_at_once-in-OnTable.result in
+    subst B (sym c.in-OnTable.is) (
+      replies c.act_on_table-reply.result c.act_on_table-reply.new.live c.act_on_table-reply.new.store,
+      (c.act_on_table-reply.result, c.act_on_table-reply.new.live, c.act_on_table-reply.new.store, c.act_on_table-reply.ensures.moves, c.act_on_table-reply.ensures.unasked, refl),
+      (c.end_at_once-in-OnTable.ensures.party, c.end_at_once-in-OnTable.ensures.replies),
+    )
+
+pub returns-in-Drop-clause-reserved : goal.returns-in-Drop-clause-reserved
+returns-in-Drop-clause-reserved g c = c.give_back.ensures.reserved c.args.slots.now c.requires.reserved
+
+pub returns-in-Purge-clause-begins : goal.returns-in-Purge-clause-begins
+returns-in-Purge-clause-begins g c =
+    let p : RunningParty g.row.P.Denot = c.args.party.now in
+    let B : Act → Type 0 = λ act. BeginsFrom (OpensAct c.args.modules.now (given_act act) p) p c.begin_plain.new.party c.begin_plain.result in
+    let there : slice_get c.args.modules.now c.in-Purge.module ≡ Some c.index-modules-module.result = search rules in
+    let opens : (o : Opening g.row.P.Denot) → o ≡ makes_step (begun_call (call.Purge c.index-modules-module.result.id) p.frame) p.live → OpensPurge (slice_get c.args.modules.now c.in-Purge.module) p o = λ o is. subst (λ (k : Option ModuleAsked). OpensPurge k p o) (sym there) is in
+    subst B (sym c.in-Purge.is) (c.begin_plain.ensures.begins.0, opens c.begin_plain.ensures.begins.0 c.begin_plain.ensures.begins.1, c.begin_plain.ensures.begins.2)

@@ -1,0 +1,9 @@
+pub mod Begins
+pub mod CallEnds
+pub mod LiveFaults
+pub mod LiveUnits
+pub mod Regiven
+pub mod Starts
+pub mod Steps
+pub mod StepsHere
+pub mod TurnsAgain
