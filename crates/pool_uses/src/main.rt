@@ -20,7 +20,6 @@
 // Callers
 mod instances;
 mod one_caller;
-mod singles;
 mod threads;
 mod turnover;
 mod two_stacks;
@@ -37,8 +36,6 @@ mod counted_pages;
 mod one_caller_tests;
 #[cfg(test)]
 mod page_call_tests;
-#[cfg(test)]
-mod single_tests;
 #[cfg(test)]
 mod thread_tests;
 

@@ -14,4 +14,4 @@ returns-then-input-clause-watched g c =
     let Leads = g.W.Watcher.leads c.args.input.now in
     let Of : List ScheduleEntry → Type 0 = λ entries. Watches Leads g.of.modules g.of.inputs (turns_of entries) c.args.run.now c.follow.new.run c.args.watcher.now c.follow.new.watcher in
     follows_finished Leads g.of.modules g.of.inputs c.args.input.now.finish (turns_of c.args.input.now.schedule) c.args.run.now c.follow.new.run c.finish.new.run c.args.watcher.now c.follow.new.watcher c.finish.new.watcher c.if-input.true
-    (c.finish.ensures.run.parties ∙ sym c.follow.ensures.run.parties) (subst Of c.as_slice.ensures c.follow.ensures.watched) c.finish.ensures.watched
+        (c.finish.ensures.run.parties ∙ sym c.follow.ensures.run.parties) (subst Of c.as_slice.ensures c.follow.ensures.watched) c.finish.ensures.watched
