@@ -1,10 +1,10 @@
 -- The images of a module, one memory after another.
-use Rattle.std.proofs.Common.{◌≡◌, ℕ, zero, suc, ◌+◌, ◌<◌, List, [], ◌∷◌, ◌++◌, length, get_or, take, refl, sym, subst, ap, ◌∙◌, arith, Option, Some, None, Bool, true, false, Result, Ok, Err, MatchResult, is_some, IfSome, option_map, ◌&&◌, ◌||◌, if◌then◌else◌}
-use Rattle.pool_images.proofs.Imports.{list_any, IsErrAnd, take_more, length-take-le, list_any_at, or_false, and_false, CompiledModuleId, MemoryDecl, RaisesBehind, Planned, fails_images}
+use Rattle.std.proofs.Common.{◌≡◌, ℕ, zero, suc, ◌+◌, ◌<◌, List, [], ◌∷◌, ◌++◌, length, get_or, take, refl, sym, subst, ap, ◌∙◌, arith, Option, Some, None, Bool, true, false, Result, Ok, Err, MatchResult, is_some, IsErr, IfOk, ◌≢◌, IfSome, option_map, ◌&&◌, ◌||◌, if◌then◌else◌}
+use Rattle.pool_images.proofs.Imports.{true≢false, list_any, IsErrAnd, take_more, length-take-le, list_any_at, or_false, and_false, CompiledModuleId, MemoryDecl, RaisesBehind, Planned, fails_images}
 use Rattle.pool_pages.specs.declared.maker.MakeFault.TheVariants as making
 use Rattle.pool_images.specs.declared.memory_image.ImageError.{ImageError}
 use Rattle.pool_images.specs.declared.memory_image.ImageError.TheVariants.{Memory, Unsupported, PageFault}
-use Rattle.pool_images.specs.ImageErrors.{RaisesImageBehind}
+use Rattle.pool_images.specs.ImageErrors.{RaisesImageBehind, IsListedImageFault}
 use Rattle.pool_images.specs.Images.{image_of, images_from, makes_listed_images, misplaced, first_misplaced}
 
 -- one more memory
@@ -71,3 +71,36 @@ raises_one id own decls i d old new PageFault below has raises = subst (λ b. Ra
 pub handed_on : {T : Type 0} (Q : T → Type 0) (P : ImageError → Type 0) (r : Result T ImageError) (e : ImageError) → IsErrAnd r (λ x. x ≡ e) → P e → MatchResult r Q P
 handed_on Q P (Ok t) e h p = absurd h
 handed_on Q P (Err x) e h p = subst P (sym h) p
+
+-- a listed making of one image is one of the module's
+pub listed_one : (id : CompiledModuleId) (plan : List Planned) (decls : List MemoryDecl) (i : ℕ) (d : MemoryDecl) (e : ImageError) → i < length decls → IsListedImageFault (is_some (get_or decls i d).image && fails_images id.0 plan) e → IsListedImageFault (makes_listed_images id plan decls) e
+listed_one id plan decls i d Memory below listed = tt
+listed_one id plan decls i d (Unsupported u) below listed = tt
+listed_one id plan decls i d PageFault below listed = list_any_at (λ d. is_some d.image && fails_images id.0 plan) decls i d below listed
+
+pub listed_told : {T : Type 0} (o : Option (List Planned)) (id : CompiledModuleId) (decls : List MemoryDecl) (i : ℕ) (d : MemoryDecl) (Q : List Planned → T → Type 0) (r : Result T ImageError) (e : ImageError) → i < length decls → IsErrAnd r (λ x. x ≡ e) →
+    IfSome o (λ plan. IsListedImageFault (is_some (get_or decls i d).image && fails_images id.0 plan) e) → IfSome o (λ plan. MatchResult r (Q plan) (IsListedImageFault (makes_listed_images id plan decls)))
+listed_told None id decls i d Q r e below err listed = tt
+listed_told (Some p) id decls i d Q r e below err listed = handed_on (Q p) (IsListedImageFault (makes_listed_images id p decls)) r e err (listed_one id p decls i d e below listed)
+
+-- an error that is handed on is none that the one before wasn't
+pub still_supported : {T U : Type 0} (r : Result T ImageError) (q : Result U ImageError) (e : ImageError) → IsErrAnd r (λ x. x ≡ e) → q ≡ Err e → ((u : _) → q ≢ Err (Unsupported u)) → (u : _) → r ≢ Err (Unsupported u)
+still_supported (Ok t) q e h same supported u = absurd h
+still_supported (Err x) q e h same supported u = λ is.
+    let inner : x ≡ Unsupported u = cc in
+    supported u (same ∙ ap Err (sym h ∙ inner))
+
+-- where an error is handed on, nothing is asked of a success
+pub none_ok : {T E : Type 0} (r : Result T E) (P : T → Type 0) → IsErr r → IfOk r P
+none_ok (Ok t) P err = absurd (true≢false (sym err))
+none_ok (Err e) P err = tt
+
+pub handed_told : {T X : Type 0} (o : Option X) (Q : X → T → Type 0) (P : X → ImageError → Type 0) (r : Result T ImageError) (e : ImageError) → IsErrAnd r (λ x. x ≡ e) → IfSome o (λ plan. P plan e) → IfSome o (λ plan. MatchResult r (Q plan) (P plan))
+handed_told None Q P r e h p = tt
+handed_told (Some x) Q P r e h p = handed_on (Q x) (P x) r e h p
+
+pub same_error : {T : Type 0} (r : Result T ImageError) (e f : ImageError) → IsErrAnd r (λ x. x ≡ e) → r ≡ Err f → e ≡ f
+same_error (Ok t) e f h is = absurd h
+same_error (Err x) e f h is =
+    let inner : x ≡ f = cc in
+    sym h ∙ inner

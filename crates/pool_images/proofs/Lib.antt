@@ -6,6 +6,7 @@ pub mod Fitting
 pub mod Identity
 pub mod Images
 mod Imports
+pub mod Instantiated
 pub mod Kept
 pub mod Making
 pub mod Marks
