@@ -17,6 +17,8 @@ mod numbers_tests;
 #[cfg(test)]
 mod memory_tests;
 #[cfg(test)]
+mod reset_tests;
+#[cfg(test)]
 mod table_tests;
 
 // Threads on what is behind a lock

@@ -75,7 +75,7 @@ fresh_clean t base accessible static_size colour fresh shaped = record {
 }
 
 -- a part of what can be reached can be reached
-reach_part : (base had at n : ℕ) (c : Contents) → 0 < c.page → at + n ≤ had → CanReach base had c → CanReach (base + at) n c
+pub reach_part : (base had at n : ℕ) (c : Contents) → 0 < c.page → at + n ≤ had → CanReach base had c → CanReach (base + at) n c
 reach_part base had at n c some within reach k from below =
     let lower : base / c.page ≤ (base + at) / c.page = (le-div_iff_mul-le some).1 (omega (arith, div-mul-le_self base c.page)) in
     reach k (omega arith) (omega arith)

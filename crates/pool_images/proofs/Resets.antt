@@ -7,7 +7,7 @@ use Rattle.pool_images.proofs.Backs.{back_here, back_there, length-back}
 use Rattle.pool_images.proofs.Ready.{IsStarted, lifted, followed, paired}
 
 -- where pages go back to a mapped image, the image of a slot is what it goes back to
-image_restored : (image : Option ImageName) (b : DecommitBehavior) → b ≡ RestoreOriginalMapping → image ≡ restored_image image b
+pub image_restored : (image : Option ImageName) (b : DecommitBehavior) → b ≡ RestoreOriginalMapping → image ≡ restored_image image b
 image_restored None b is = refl
 image_restored (Some name) b is =
     let P : DecommitBehavior → Type 0 = λ x. Some name ≡ restored_image (Some name) x in

@@ -1,12 +1,13 @@
 -- What a reset keeps of a slot, and what it leaves, by the dirty marks of the slot's pages. Where it is given none, each page
 -- counts as dirty, and it is the plain reset.
-use Rattle.std.specs.Prelude.{ℕ, ◌+◌, ◌-◌, ◌*◌, ◌/◌, ◌&&◌, ◌==◌, List, [], ◌∷◌, ◌++◌, length, take, drop, fold, slice_range, slice_index_or, Bool, false, nat_lt, if◌then◌else◌, Option, None, Some}
+use Rattle.std.specs.Prelude.{◌≡◌, ℕ, ◌+◌, ◌-◌, ◌*◌, ◌/◌, ◌^◌, ◌<◌, ◌≤◌, ◌&&◌, ◌==◌, List, [], ◌∷◌, ◌++◌, length, take, drop, fold, slice_range, slice_index_or, Bool, false, nat_lt, if◌then◌else◌, Option, None, Some}
 use Rattle.std.specs.List.{filter, range_with_len}
 use Rattle.pool_pages.specs.Told.{Told, restored}
 use Rattle.pool_types.specs.declared.decommit_behavior.DecommitBehavior.{DecommitBehavior}
 use Rattle.pool_types.specs.declared.decommit_behavior.DecommitBehavior.TheVariants.{Zero, RestoreOriginalMapping}
 use Rattle.pool_images.specs.Orders.{set_by_hand}
 use Rattle.pool_images.specs.Slots.{Slot, wiped, kept_bytes, left_ranges, reset_slot}
+use Rattle.pool_images.specs.declared.image_slot.dirty_pages.PageSpan.{PageSpan}
 use Rattle.pool_images.specs.declared.ranges.ByteRange.{ByteRange}
 
 -- the dirty marks of the slot's accessible pages
@@ -21,6 +22,10 @@ given_marks offered s = if offered && nat_lt s.region.page s.accessible.bytes th
 -- the numbers of the marked pages, counted from the slot's base, in rising order
 abbrev pub marked_pages : List Bool → List ℕ
 marked_pages marks = filter (λ k. slice_index_or marks k false) (range_with_len 0 (length marks))
+
+-- the numbers of the marked pages from one on
+abbrev pub marked_from : ℕ → List Bool → List ℕ
+marked_from from marks = filter (λ k. slice_index_or marks k false) (range_with_len from (length marks - from))
 
 -- The first dirty pages, which a reset sets by hand, as far as bytes may stay resident.
 abbrev pub pages_by_hand : ℕ → ℕ → List Bool → List ℕ
@@ -76,3 +81,25 @@ abbrev pub told_by_hand : Option (List Bool) → DecommitBehavior → ℕ → Sl
 told_by_hand None behaviour keep s = set_by_hand behaviour keep s
 told_by_hand (Some marks) RestoreOriginalMapping keep s = pages_restored s.base.bytes (pages_by_hand s.region.page keep marks) s.region
 told_by_hand (Some marks) Zero keep s = s.region
+
+-- a run of a region's pages: the first one's number and place, and how many they are
+pub record IsSpan (s : PageSpan) (t : Told) : Type 0 where
+  pub page : t.page ≡ s.page
+  pub some : 0 < s.page
+  pub base : s.base ≡ s.first * s.page
+  pub inside : s.first + s.pages ≤ t.len / t.page
+  pub bytes : s.base + s.pages * s.page ≤ t.len
+  pub bounded : t.len < 2 ^ 64
+  pub marks : length t.marks ≡ t.len / t.page
+
+-- the dirty marks of these pages
+abbrev pub span_marks : PageSpan → Told → List Bool
+span_marks s t = slice_range t.marks s.first (s.first + s.pages)
+
+-- some of the pages as a range
+abbrev pub pages_range : ℕ → ℕ → ℕ → ByteRange
+pages_range page from end = record { start = from * page; len = (end - from) * page }
+
+-- one range of these: the first, which reaches to the end where there are more
+abbrev pub at_most_one : ℕ → List ByteRange → List ByteRange
+at_most_one end rs = if nat_lt 1 (length rs) then reaching end rs else rs

@@ -11,7 +11,7 @@
 //!
 //! ```rust
 //! slot.instantiate(initial, Some(&image), &ty, &tunables)?;
-//! let kept = slot.clear_and_remain_ready(false, keep_resident, &mut ranges)?;
+//! let kept = slot.clear_and_remain_ready(dirty_pages, keep_resident, &mut ranges)?;
 //! ```
 #![tactic(auto)]
 
@@ -23,7 +23,9 @@ mod memory_image;
 
 // What a reset leaves
 mod ranges;
+mod reset_laws;
 
 pub use image_slot::{ImageName, MemoryImageSlot};
 pub use memory_image::{ImageError, MemoryImage, ModuleMemoryImages};
 pub use ranges::{ByteRange, MAX_RANGES, Ranges};
+pub use reset_laws::resets_leave_the_same;

@@ -1,11 +1,13 @@
-ghost use Rattle.std.specs.Prelude.{◌≡◌, ◌+◌, ◌≤◌, [], min, false, true, All, IfOk, IfSome, is_ok, OnOk, OnErr};
+ghost use Rattle.std.specs.Prelude.{◌≡◌, ◌+◌, ◌*◌, ◌≤◌, [], min, false, true, None, Some, All, IfOk, IfSome, is_ok, OnOk, OnErr};
 ghost use Rattle.pool_pages.specs.Contents.{CanReach};
-ghost use Rattle.pool_pages.specs.Told.{TellsShaped, restored};
+ghost use Rattle.pool_pages.specs.Told.{TellsMarks, TellsShaped, restored};
 ghost use Rattle.pool_images.specs.Orders.{Follows, wiping, resetting};
-ghost use Rattle.pool_images.specs.Resets.{given_marks, kept_by, left_by, reset_by, told_by_hand};
+ghost use Rattle.pool_images.specs.ResetLaws.{bytes_after, bytes_of};
+ghost use Rattle.pool_images.specs.Resets.{IsSpan, given_marks, kept_by, left_by, marks_of, reset_by, span_marks, told_by_hand};
 ghost use Rattle.pool_images.specs.Slots.{size_of, IsSlot, IsReady, IsClean, IsLeft, IsShut, IsPart, forgotten, wiped, cleared, reset_ranges, decommitted_all};
 
 use crate::image_slot::MemoryImageSlot;
+use crate::image_slot::dirty_pages::{PageSpan, leave_dirty, restore_dirty};
 use crate::ranges::{ByteRange, Ranges};
 use pool_pages::{PageFault, PageRegion, Pages};
 use pool_types::{DecommitBehavior, HostAlignedByteCount};
@@ -15,13 +17,13 @@ impl<P: Pages> MemoryImageSlot<P> {
     ///
     /// Where the region's pages go back to a mapped image, as much of what is accessible as `keep_resident` says is set
     /// by hand to the image and zeros, and stays resident. What has to be decommitted is left in `ranges`; once that is
-    /// done the slot is clean. No page call is made, and none fails.
+    /// done the slot is clean. No page call is made, and none fails. Where `dirty_pages` is true and more than one page is
+    /// accessible, only pages that the region marks as dirty are set by hand, in rising order, and only they are left, as
+    /// far as eight ranges can say that: where dirty pages lie behind the eighth, it reaches to the end of what is
+    /// accessible.
     ///
     /// Where pages go back to zeros, the slot is reset as by `reset_with_anon_memory`, which takes the image out too and
     /// may answer `PageFault`. Whatever `keep_resident` says, nothing stays resident and nothing is left in `ranges`.
-    ///
-    /// `dirty_pages` says whether the region's dirty marks are offered to the reset. They may not be so far: each page
-    /// counts as dirty then.
     pub fn clear_and_remain_ready(
         &mut self,
         dirty_pages: bool,
@@ -32,7 +34,6 @@ impl<P: Pages> MemoryImageSlot<P> {
         requires ready { IfSome self.old.region.contents (IsReady self.old) }
         requires page { keep_resident.page ≡ self.old.region.page }
         requires empty { ranges.old ≡ [] }
-        requires unmarked { dirty_pages ≡ false }
         ensures resident { IfOk result (λ n. n ≡ kept_by (given_marks dirty_pages self.old) self.old.region.behaviour keep_resident.bytes self.old) }
         ensures ranges { ranges.new ≡ left_by (given_marks dirty_pages self.old) self.old.region.behaviour keep_resident.bytes self.old }
         ensures value { OnOk result (self.new ≡ reset_by (given_marks dirty_pages self.old) self.old.region.behaviour keep_resident.bytes self.old) }
@@ -43,17 +44,89 @@ impl<P: Pages> MemoryImageSlot<P> {
         ensures restores { self.old.region.behaviour ≡ DecommitBehavior.RestoreOriginalMapping → is_ok result ≡ true }
         ensures mark { OnErr result (self.new.dirty ≡ self.old.dirty) }
         ensures fault { OnErr result (IsLeft self.old self.new) }
+        ensures alike { OnOk result (bytes_of (decommitted_all ranges.new self.new) ≡ bytes_after None 0 self.old) }
         ensures order { Follows (resetting self.old.region.behaviour self.old) (is_ok result) (told_by_hand (given_marks dirty_pages self.old) self.old.region.behaviour keep_resident.bytes self.old) self.new.region }
     {
+        self.fits();
+        let _len = self.region.len();
         match self.region.behaviour() {
             DecommitBehavior::RestoreOriginalMapping => {
-                Ok(self.reset_by_hand(keep_resident, ranges))
+                Ok(self.reset_in_place(dirty_pages, keep_resident, ranges))
             }
             DecommitBehavior::Zero => self.reset_to_zeros(),
         }
     }
 
-    // The reset where pages go back to a mapped image.
+    // The reset where pages go back to a mapped image: by the dirty marks where they are offered and are of use.
+    fn reset_in_place(
+        &mut self,
+        dirty_pages: bool,
+        keep_resident: HostAlignedByteCount,
+        ranges: &mut Ranges,
+    ) -> usize
+        requires restores { self.old.region.behaviour ≡ DecommitBehavior.RestoreOriginalMapping }
+        requires ready { IfSome self.old.region.contents (IsReady self.old) }
+        requires page { keep_resident.page ≡ self.old.region.page }
+        requires empty { ranges.old ≡ [] }
+        ensures resident { result ≡ kept_by (given_marks dirty_pages self.old) DecommitBehavior.RestoreOriginalMapping keep_resident.bytes self.old }
+        ensures ranges { ranges.new ≡ left_by (given_marks dirty_pages self.old) DecommitBehavior.RestoreOriginalMapping keep_resident.bytes self.old }
+        ensures value { self.new ≡ reset_by (given_marks dirty_pages self.old) DecommitBehavior.RestoreOriginalMapping keep_resident.bytes self.old }
+        ensures parts { All (IsPart self.new.region.page (size_of self.new)) ranges.new }
+        ensures clean_after { IsClean (decommitted_all ranges.new self.new) }
+        ensures clean { self.old.accessible.bytes ≤ keep_resident.bytes → IsClean self.new }
+        ensures fits { IsSlot self.new }
+    {
+        if dirty_pages && self.accessible.byte_count() > self.region.page().get() {
+            self.reset_by_marks(keep_resident, ranges)
+        } else {
+            self.reset_by_hand(keep_resident, ranges)
+        }
+    }
+
+    // The reset by dirty marks.
+    fn reset_by_marks(&mut self, keep_resident: HostAlignedByteCount, ranges: &mut Ranges) -> usize
+        requires restores { self.old.region.behaviour ≡ DecommitBehavior.RestoreOriginalMapping }
+        requires ready { IfSome self.old.region.contents (IsReady self.old) }
+        requires page { keep_resident.page ≡ self.old.region.page }
+        requires empty { ranges.old ≡ [] }
+        ensures resident { result ≡ kept_by (Some (marks_of self.old)) DecommitBehavior.RestoreOriginalMapping keep_resident.bytes self.old }
+        ensures ranges { ranges.new ≡ left_by (Some (marks_of self.old)) DecommitBehavior.RestoreOriginalMapping keep_resident.bytes self.old }
+        ensures value { self.new ≡ reset_by (Some (marks_of self.old)) DecommitBehavior.RestoreOriginalMapping keep_resident.bytes self.old }
+        ensures parts { All (IsPart self.new.region.page (size_of self.new)) ranges.new }
+        ensures clean_after { IsClean (decommitted_all ranges.new self.new) }
+        ensures clean { self.old.accessible.bytes ≤ keep_resident.bytes → IsClean self.new }
+        ensures fits { IsSlot self.new }
+    {
+        self.fits();
+        let span = self.span();
+        let most = keep_resident.byte_count() / span.page;
+        let done = restore_dirty(&mut self.region, span, most);
+        self.dirty = false;
+        leave_dirty(&self.region, span, done.next, ranges);
+        done.count * span.page
+    }
+
+    // The accessible pages of the slot.
+    fn span(&self) -> PageSpan
+        ensures span { IsSpan result self.now.region }
+        ensures base { result.base ≡ self.now.base.bytes }
+        ensures page { result.page ≡ self.now.region.page }
+        ensures bytes { result.pages * result.page ≡ self.now.accessible.bytes }
+        ensures marks { span_marks result self.now.region ≡ marks_of self.now }
+        ensures told { TellsMarks self.now.region }
+    {
+        let _len = self.region.len();
+        let page = self.region.page().get();
+        let base = self.base.byte_count();
+        PageSpan {
+            page,
+            base,
+            first: base / page,
+            pages: self.accessible.byte_count() / page,
+        }
+    }
+
+    // The reset where pages go back to a mapped image, which asks no marks.
     fn reset_by_hand(&mut self, keep_resident: HostAlignedByteCount, ranges: &mut Ranges) -> usize
         requires restores { self.old.region.behaviour ≡ DecommitBehavior.RestoreOriginalMapping }
         requires ready { IfSome self.old.region.contents (IsReady self.old) }
