@@ -31,6 +31,7 @@ use Rattle.pool_alloc.specs.declared.step.targets.Target.TheVariants.{Up, Down, 
 use Rattle.pool_alloc.proofs.OnCounters.{steps_up, steps_down}
 use Rattle.pool_alloc.proofs.StepNeeds.{step_ok}
 use Rattle.pool_alloc.proofs.NextTargets.{can_up, can_down, can_alone}
+use Rattle.pool_driver.specs.Beside.{StepsBeside, StepsBesideAlike}
 use Rattle.pool_driver.specs.Driving.{Given, IsDriven, StandsOn, StandsFor, SeesStep, SeesAlike, Decides, counted, uncounted, unchanged, counted_by, counter_number, counter_of}
 use Rattle.pool_driver.specs.Growing.{AreKept}
 use Rattle.pool_driver.specs.Placed.{About, about_made, pool_meaning}
@@ -41,6 +42,7 @@ use Rattle.pool_driver.proofs.CountingSteps.{counted_down}
 use Rattle.pool_driver.proofs.Driven.{core_with, can_with, places_with, kept_with, steps_at, recounted, found_by, counts_found, carries_alike, driven_next}
 use Rattle.pool_driver.proofs.Hearing.{is_alone, alike}
 use Rattle.pool_driver.proofs.HeldParts.{nobody}
+use Rattle.pool_driver.proofs.MomentsBeside.{away_beside}
 
 -- the number found at this counter decides
 abbrev decides : Target → Bool
@@ -134,6 +136,14 @@ module _ {T P H : Type 0} (about : T → About) (inner : T → PoolPart P H) (ma
           (carries_alike g.rest v.units (core_now numbers) f after_up ok refl driven.carries)
           (even_up g.counted v (add_view (counter_number name) found v) (core_now numbers) f after_up ok name found refl refl driven.counted)
 
+      pub beside_up : StepsBesideAlike g f next o
+      beside_up party = record {
+        core = core_now numbers;
+        left = after_up.core;
+        stands = record { settings = refl; plan = refl; can = can_found; away = away_beside about inner made limits v.units moment g.rest f driven.carries };
+        row = asking party;
+      }
+
       pub sees_up : SeesAlike about inner g.about v (add_view (counter_number name) found v) f next o
       sees_up party = record {
         core = core_now numbers;
@@ -173,6 +183,14 @@ module _ {T P H : Type 0} (about : T → About) (inner : T → PoolPart P H) (ma
           driven_next g (length made) v (subtract_view (counter_number name) v) f driven (counted_by f) parts_now can_now kept_now nobody nobody after_down.core.counters parts_now next o steps_off long kept_now
           (carries_alike g.rest v.units (core_now (counted_by f)) f after_down ok refl driven.carries)
           (even_down g.counted v (subtract_view (counter_number name) v) (core_now (counted_by f)) f after_down ok name can_here.1 refl refl driven.counted)
+
+      pub beside_down : StepsBesideAlike g f next o
+      beside_down party = record {
+        core = core_now (counted_by f);
+        left = after_down.core;
+        stands = record { settings = refl; plan = refl; can = can_now; away = away_beside about inner made limits v.units moment g.rest f driven.carries };
+        row = asking_down party;
+      }
 
       pub sees_down : SeesAlike about inner g.about v (subtract_view (counter_number name) v) f next o
       sees_down party = record {
@@ -218,6 +236,9 @@ module _ {T P H : Type 0} (places : ℕ) (g : Given) (v : View T) (f : Frame P H
           driven_next g places v v f driven stands.counters stands.parts stands.can stands.kept old new stands.counters stands.parts next o steps stands.long stands.kept
           (carries_alike g.rest v.units core_left f left ok refl driven.carries)
           (even_alike g.counted v v core_left f left ok refl (λ t. refl) (λ t. refl) driven.counted)
+
+      pub beside_alone : StepsBeside Passes old new g f next o
+      beside_alone c left = record { core = c; left = c; stands = left; row = row c left.settings left.plan }
 
       pub sees_alone : (about : T → About) (inner : T → PoolPart P H) → SeesStep about inner Passes old new g.about v v f next o
       sees_alone about inner = record {

@@ -36,6 +36,7 @@ use Rattle.pool_alloc.proofs.PartFlows.{flows_on_part}
 use Rattle.pool_alloc.proofs.PoolParts.{part_same, part_other}
 use Rattle.pool_alloc.proofs.StepNeeds.{can_still, step_ok}
 use Rattle.pool_alloc.proofs.NextTargets.{can_on}
+use Rattle.pool_driver.specs.Beside.{StepsBesideAlike}
 use Rattle.pool_driver.specs.Carrying.{Carries, Grows}
 use Rattle.pool_driver.specs.Driving.{Given, IsDriven, SeesAlike, changed, counted_by}
 use Rattle.pool_driver.specs.Faults.{PartKeeps}
@@ -49,6 +50,7 @@ use Rattle.pool_driver.proofs.Driven.{core_with, can_with, places_with, kept_wit
 use Rattle.pool_driver.proofs.Faulted.{keeps_step}
 use Rattle.pool_driver.proofs.GrowingSteps.{grows_step}
 use Rattle.pool_driver.proofs.Hearing.{is_alone, alike}
+use Rattle.pool_driver.proofs.MomentsBeside.{away_beside}
 use Rattle.pool_driver.proofs.Puts.{may_put, carries_on}
 use Rattle.pool_driver.proofs.Standing.{fits_stands}
 
@@ -155,4 +157,13 @@ module _ {T P H : Type 0} (about : T → About) (inner : T → PoolPart P H) (ma
       change = changed p x y;
       of = (target, below, part_here, refl, told.stands.fits.small, small);
       view = refl;
+    }
+
+    -- What else the seat has was away on that core.
+    pub beside_here : StepsBesideAlike g f next o
+    beside_here party = record {
+      core = core_now;
+      left = after_now.core;
+      stands = record { settings = refl; plan = refl; can = can_now; away = away_beside about inner made limits v.units told.moment g.rest f driven.carries };
+      row = asking party;
     }

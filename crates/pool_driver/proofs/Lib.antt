@@ -29,6 +29,7 @@ pub mod Lists
 pub mod MadeObjects
 pub mod Makers
 pub mod MomentSteps
+pub mod MomentsBeside
 pub mod Multisets
 pub mod Naming
 pub mod Noted

@@ -28,7 +28,7 @@ use Rattle.pool_alloc.specs.declared.frame.TakenSlot.{TakenSlot}
 use Rattle.pool_alloc.specs.declared.pool_core.Settings.{Settings}
 use Rattle.pool_driver.specs.Faults.{HasFaulted, KeepsFaults, QueueKeeps, QueuedKeeps}
 
-rose_keeps : (told old new : ℕ) → KeepsFaults told old → Rose old new → KeepsFaults told new
+pub rose_keeps : (told old new : ℕ) → KeepsFaults told old → Rose old new → KeepsFaults told new
 rose_keeps told old new k rose = record { least = let a = k.least in let b = k.small in omega arith; small = k.small }
 
 same_keeps : (told : ℕ) (old new : Slot) → KeepsFaults told old.region.faults → new.region.faults ≡ old.region.faults → KeepsFaults told new.region.faults

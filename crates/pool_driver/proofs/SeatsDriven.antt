@@ -23,11 +23,12 @@ use Rattle.pool_alloc.specs.declared.frame.Frame.{Frame}
 use Rattle.pool_alloc.specs.declared.frame.Outcome.{Outcome}
 use Rattle.pool_alloc.specs.declared.pool_core.Settings.{Settings}
 use Rattle.pool_alloc.specs.declared.step.targets.Target.TheVariants.{Part, Up, Down, Alone}
+use Rattle.pool_driver.specs.Beside.{StepsBeside, StepsBesideAlike}
 use Rattle.pool_driver.specs.Driving.{Given, IsDriven, SeesAlike, SeesStep, counter_number}
 use Rattle.pool_driver.specs.Placed.{About, IsSmall, about_made, pool_meaning}
 use Rattle.pool_driver.specs.Pools.{IsPool}
-use Rattle.pool_driver.proofs.CountersDriven.{can_count_up, can_count_down, driven_up, driven_down, sees_up, sees_down, counted_more, can_alone_here, driven_alone, sees_alone}
-use Rattle.pool_driver.proofs.HeldParts.{can_here, may_put_here, driven_here, sees_here}
+use Rattle.pool_driver.proofs.CountersDriven.{can_count_up, can_count_down, driven_up, driven_down, beside_up, beside_down, beside_alone, sees_up, sees_down, counted_more, can_alone_here, driven_alone, sees_alone}
+use Rattle.pool_driver.proofs.HeldParts.{can_here, may_put_here, driven_here, beside_here, sees_here}
 
 module _ {T P H : Type 0} (about : T → About) (inner : T → PoolPart P H) (h : Hall T) (g : Given) (of : about_made about (made_with h) ≡ Some g.about) (pool : IsPool g.about (length (made_with h))) (s t : HallSeat T) (taken : IsTaken (pool_meaning about inner) h s t)
     (f : Frame P H) (driven : IsDriven (length (made_with h)) g (view s) f None) (p : ℕ) (at : t.place ≡ p) (target : next_target g.about.settings g.about.plan f.phase f ≡ Part p) (x : T) (lent : HasPart t x) (settings : Settings) (plan : Plan) (same_settings : settings ≡ g.about.settings) (same_plan : plan ≡ g.about.plan) where
@@ -64,6 +65,9 @@ module _ {T P H : Type 0} (about : T → About) (inner : T → PoolPart P H) (h 
       pub driven_after : IsDriven (length (made_with h)) g (view u) next o
       driven_after = subst (λ (w : View T). IsDriven (length (made_with h)) g w next o) seen (driven_here about inner (made_with h) (limits_of h) g of pool (view s) f driven p target x told y origin next o row_here small)
 
+      pub beside_after : StepsBesideAlike g f next o
+      beside_after = beside_here about inner (made_with h) (limits_of h) g of pool (view s) f driven p target x told y origin next o row_here small
+
       pub sees_after : SeesAlike about inner g.about (view s) (view u) f next o
       sees_after = subst (λ (w : View T). SeesAlike about inner g.about (view s) w f next o) seen (sees_here about inner (made_with h) (limits_of h) g of pool (view s) f driven p target x told y origin next o row_here small)
 
@@ -85,6 +89,9 @@ module _ {T P H : Type 0} (about : T → About) (inner : T → PoolPart P H) (ma
       pub driven_after_up : IsDriven (length made) g w next o
       driven_after_up = subst (λ (z : View T). IsDriven (length made) g z next o) seen_up (driven_up about inner made limits g of pool v f driven moment name target found next o (counts_here next o found row))
 
+      pub beside_after_up : StepsBesideAlike g f next o
+      beside_after_up = beside_up about inner made limits g of pool v f driven moment name target found next o (counts_here next o found row)
+
       pub sees_after_up : SeesAlike about inner g.about v w f next o
       sees_after_up = subst (λ (z : View T). SeesAlike about inner g.about v z f next o) seen_up (sees_up about inner made limits g of pool v f driven moment name target found next o (counts_here next o found row))
 
@@ -98,6 +105,9 @@ module _ {T P H : Type 0} (about : T → About) (inner : T → PoolPart P H) (ma
 
       pub driven_after_down : IsDriven (length made) g w next o
       driven_after_down = subst (λ (z : View T). IsDriven (length made) g z next o) seen_down (driven_down about inner made limits g of pool v f driven moment name target found next o (counts_here next o found row))
+
+      pub beside_after_down : StepsBesideAlike g f next o
+      beside_after_down = beside_down about inner made limits g of pool v f driven moment name target found next o (counts_here next o found row)
 
       pub sees_after_down : SeesAlike about inner g.about v w f next o
       sees_after_down = subst (λ (z : View T). SeesAlike about inner g.about v z f next o) seen_down (sees_down about inner made limits g of pool v f driven moment name target found next o (counts_here next o found row))
@@ -121,6 +131,9 @@ module _ {T P H : Type 0} (places : ℕ) (g : Given) (v : View T) (f : Frame P H
 
     pub driven_after_alone : IsDriven places g v next o
     driven_after_alone = driven_alone places g v f driven target Passes old new next o row_alone
+
+    pub beside_after_alone : StepsBeside Passes old new g f next o
+    beside_after_alone = beside_alone places g v f driven target Passes old new next o row_alone
 
     pub sees_after_alone : (about : T → About) (inner : T → PoolPart P H) → SeesStep about inner Passes old new g.about v v f next o
     sees_after_alone about inner = sees_alone places g v f driven target Passes old new next o row_alone about inner

@@ -1,4 +1,5 @@
 pub mod Asking
+pub mod Beside
 pub mod Calling
 pub mod Carrying
 pub mod Counts

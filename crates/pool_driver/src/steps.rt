@@ -4,6 +4,7 @@ ghost use Rattle.pool_hall.specs.Seat.{made_with, view, IsSeatOf, IsFree};
 ghost use Rattle.pool_limits.specs.Exchanges.{Exchanged};
 ghost use Rattle.pool_alloc.specs.Targets.{next_target};
 ghost use Rattle.pool_alloc.specs.declared.step.targets.Target.TheVariants.{Part, Up, Down};
+ghost use Rattle.pool_driver.specs.Beside.{StepsBeside, StepsBesideAlike};
 ghost use Rattle.pool_driver.specs.Driving.{Given, IsDriven, SeesAlike, SeesStep, counter_number};
 ghost use Rattle.pool_driver.specs.Origins.{about_of, inner_of};
 ghost use Rattle.pool_driver.specs.Placed.{IsSmall};
@@ -45,6 +46,7 @@ impl<P: Pages, H: GcHeap, M: PageMaker> SharedPool<PoolHall<P, H, M>> {
         ensures free { IsFree seat.new }
         ensures driven { IsDriven (length (made_with self.now.hall)) given (view seat.new) frame.new outcome.new }
         ensures sees { SeesStep (about_of M.told) inner_of (λ passed. Exchanged L.leads passed limiter.old limiter.new) (record { limiter = L.told limiter.old; heaps = K.told heaps.old }) (record { limiter = L.told limiter.new; heaps = K.told heaps.new }) given.about (view seat.old) (view seat.new) frame.old frame.new outcome.new }
+        ensures beside { StepsBeside (λ passed. Exchanged L.leads passed limiter.old limiter.new) (record { limiter = L.told limiter.old; heaps = K.told heaps.old }) (record { limiter = L.told limiter.new; heaps = K.told heaps.new }) given frame.old frame.new outcome.new }
     {
         match next_target(&self.settings, &self.plan, frame) {
             Target::Part(place) => self.step_at(rt, seat, place, alloc, frame, outcome),
@@ -85,6 +87,7 @@ impl<P: Pages, H: GcHeap, M: PageMaker> SharedPool<PoolHall<P, H, M>> {
         ensures free { IsFree seat.new }
         ensures driven { IsDriven (length (made_with self.now.hall)) given (view seat.new) frame.new outcome.new }
         ensures sees { SeesAlike (about_of M.told) inner_of given.about (view seat.old) (view seat.new) frame.old frame.new outcome.new }
+        ensures beside { StepsBesideAlike given frame.old frame.new outcome.new }
     {
         self.hall.take(rt, seat, place);
         let held = seat.part(&self.hall);
@@ -120,6 +123,7 @@ impl<P: Pages, H: GcHeap, M: PageMaker> SharedPool<PoolHall<P, H, M>> {
         ensures free { IsFree seat.new }
         ensures driven { IsDriven (length (made_with self.now.hall)) given (view seat.new) frame.new outcome.new }
         ensures sees { SeesAlike (about_of M.told) inner_of given.about (view seat.old) (view seat.new) frame.old frame.new outcome.new }
+        ensures beside { StepsBesideAlike given frame.old frame.new outcome.new }
     {
         let found = self.hall.add(seat, counter_number(name));
         step_counted(found, &self.settings, &self.plan, alloc, frame, outcome);
@@ -145,6 +149,7 @@ impl<P: Pages, H: GcHeap, M: PageMaker> SharedPool<PoolHall<P, H, M>> {
         ensures free { IsFree seat.new }
         ensures driven { IsDriven (length (made_with self.now.hall)) given (view seat.new) frame.new outcome.new }
         ensures sees { SeesAlike (about_of M.told) inner_of given.about (view seat.old) (view seat.new) frame.old frame.new outcome.new }
+        ensures beside { StepsBesideAlike given frame.old frame.new outcome.new }
     {
         self.hall.subtract(seat, counter_number(name));
         step_counted(0, &self.settings, &self.plan, alloc, frame, outcome);

@@ -35,14 +35,14 @@ module _ {P : Type 0} where
       }
 
   -- The world stays that of the pool.
-  world_over : (w : World) (c d : PoolCore P PlainHeap) → IsSameSize c d → IsWorldOf w c → IsWorldOf w d
+  pub world_over : (w : World) (c d : PoolCore P PlainHeap) → IsSameSize c d → IsWorldOf w c → IsWorldOf w d
   world_over w c d size world = record { tells = world.tells; settings = world.settings ∙ sym size.settings; plan = subst (HasStripes w.terms.slots w.terms.settings.num_stripes) (sym size.plan) world.plan; tables = subst (HasSlots table_kind w.terms.table_slots) (sym size.plan) world.tables; heaps = subst (HasSlots heap_kind w.terms.heap_slots) (sym size.plan) world.heaps; stacks = stacks_over w.terms.stacks c d size world.stacks }
 
   -- The world is the pool's as each party sees it.
-  world_seen : (p : RunningParty P) (w : World) (c : PoolCore P PlainHeap) → IsWorldOf w c → IsWorldOf (seen_by p w) c
+  pub world_seen : (p : RunningParty P) (w : World) (c : PoolCore P PlainHeap) → IsWorldOf w c → IsWorldOf (seen_by p w) c
   world_seen p w c world = record { tells = world.tells; settings = world.settings; plan = world.plan; tables = world.tables; heaps = world.heaps; stacks = world.stacks }
 
-  calls_seen : (p : RunningParty P) (w : World) (s : Settings) (modules : List ModuleAsked) → AreCallsFor w.terms s modules → AreCallsFor (seen_by p w).terms s modules
+  pub calls_seen : (p : RunningParty P) (w : World) (s : Settings) (modules : List ModuleAsked) → AreCallsFor w.terms s modules → AreCallsFor (seen_by p w).terms s modules
   calls_seen p w s modules calls number =
       told_weaker (IsCallFor w.terms s number) (IsCallFor (seen_by p w).terms s number) (slice_get modules number)
       (λ m for. record { asked = record { of_module = for.asked.of_module; info = for.asked.info; memories = for.asked.memories }; fit = for.fit }) (calls number)

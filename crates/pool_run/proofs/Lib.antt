@@ -1,5 +1,6 @@
 pub mod Advanced
 pub mod Beginning
+pub mod BegunTurns
 pub mod BoundsFound
 pub mod BuiltInputs
 pub mod Bytes

@@ -1,6 +1,6 @@
 -- What a turn opens with: the party has as much of the pool, and where a call is to make its next step, that can be made.
 use Rattle.std.proofs.Common.{zero, suc, ◌≡◌, ◌≢◌, ℕ, ◌<◌, ◌≤◌, All, Bool, true, false, List, length, get_or, Option, Some, None, refl, sym, ap, ◌∙◌, subst, inl, inr, arith, ◌∷◌, [], IfSome, slice_get, slice_set, slice_index_or, sum_by, ◌*◌}
-use Rattle.pool_run.proofs.Imports.{TakenSlot, slice_get_within, get_or_from_slice_get, All-set, All-get_or, length-set, get_or-set_other, sum_by-set, MakerTold, IsIdle, IsGrant, begun_call, objects_in, IsTableLease, LeasedTable, table_taken, ListedStore, Lease, slot_taken, IsLeaseOf, Thing, taken_count, is_idle, grant_instances, grant_components, PoolCore, Call, Stage, asks, stage_of, admitted, Frame, Grant, instance, component, one_memory, one_table, stack, heap, ModuleAsked, Phase, Idle, IsSearched, IsStackLease, LeasedHeap, LeasedStack, stack_taken, PlainHeap, Weight, counted_object, grant_weight, memory_kind, table_kind}
+use Rattle.pool_run.proofs.Imports.{TakenSlot, slice_get_within, get_or_from_slice_get, All-set, All-get_or, length-set, get_or-set_other, sum_by-set, MakerTold, IsIdle, IsGrant, begun_call, objects_in, IsTableLease, LeasedTable, table_taken, ListedStore, Lease, slot_taken, IsLeaseOf, Thing, taken_count, is_idle, grant_instances, grant_components, PoolCore, Settings, Call, Stage, asks, stage_of, admitted, Frame, Grant, instance, component, one_memory, one_table, stack, heap, ModuleAsked, Phase, Idle, IsSearched, IsStackLease, LeasedHeap, LeasedStack, stack_taken, PlainHeap, Weight, counted_object, grant_weight, memory_kind, table_kind}
 use Rattle.pool_alloc.specs.declared.frame.Call.TheVariants as call
 use Rattle.pool_run.specs.Acts.{MemoryOp, TableOp, Act, requests, on_memory, on_table, drops, purges, releases, act_of, Wanted, an_instance, a_component, a_stack, a_heap, heap_type}
 use Rattle.pool_run.specs.Limits.{admitted_at, admitted_to, live_components}
@@ -11,7 +11,7 @@ use Rattle.pool_alloc.proofs.StripesKept.{begun_stripe}
 use Rattle.pool_run.proofs.StageSteps.{is_none, none_idle}
 use Rattle.pool_run.specs.Turns.{LeaseMoves, MovesTable, leases_named, tables_named, memory_leases, table_leases, with_lease, with_table_lease, Opening, rests, replies, makes_step, drop_opening, IsPlain, asks_grant, OpensRequest, OpensPurge, OpensAct, OpensNext, OpensAt, MovesLeasedBytes, StackLeaseMoves, stack_leases, stack_of, with_stack_lease, OpensWanted}
 use Rattle.pool_run.specs.Ties.{is_for_objects, granted_to, CanTurn, IsSoundParty, IsAlone}
-use Rattle.pool_run.specs.Worlds.{IsFit, IsCallFor, AreCallsFor}
+use Rattle.pool_run.specs.Worlds.{IsFit, AreFit, IsCallFor, AreCallsFor}
 use Rattle.pool_run.specs.declared.command.Command.{Command}
 use Rattle.pool_run.specs.declared.reply.Reply.{Reply}
 use Rattle.pool_run.specs.declared.running_party.RunningParty.{RunningParty}
@@ -30,6 +30,15 @@ module _ {P : Type 0} where
   returned_busy grant f =
       let g : Frame P PlainHeap = begun_call (call.GiveBack grant) f in
       sym (none_idle g.phase g.asked g.ending (objects_in g.objects)) ∙ ap is_none (returned_stage grant f)
+
+-- a call for a module has the images of that module's memories
+one_fits : (t : Terms) (s : Settings) (number : ℕ) (kept : Option ModuleAsked) → IfSome kept (IsCallFor t s number) → IfSome kept (IsFit s)
+one_fits t s number None for = tt
+one_fits t s number (Some kept) for = for.fit
+
+-- Calls for modules have the images of these.
+pub are_fit : (t : Terms) (s : Settings) (modules : List ModuleAsked) → AreCallsFor t s modules → AreFit s modules
+are_fit t s modules calls = λ number. one_fits t s number (slice_get modules number) (calls number)
 
 -- nothing is admitted where no instance is asked for
 unasked : (s : Stage) → is_for_objects s ≡ false → admitted_at s ≡ 0
@@ -260,41 +269,42 @@ module _ {P : Type 0} (maker : MakerTold) (c : PoolCore P PlainHeap) (p : Runnin
     purges_opened None o opens = absurd opens
     purges_opened (Some kept) o opens = subst IsOpened (sym opens) (plain_opened (call.Purge kept.id) tt (λ is. absurd cc))
 
-    pub requests_opened : (t : Terms) (number : ℕ) (kept : Option ModuleAsked) (o : Opening P) → IfSome kept (IsCallFor t c.settings number) → p.done < length p.live → OpensRequest kept p o → IsOpened o
-    requests_opened t number None o for room opens = absurd opens
-    requests_opened t number (Some kept) o for room opens =
+    pub requests_opened : (kept : Option ModuleAsked) (o : Opening P) → IfSome kept (IsFit c.settings) → p.done < length p.live → OpensRequest kept p o → IsOpened o
+    requests_opened None o fit room opens = absurd opens
+    requests_opened (Some kept) o fit room opens =
         elim opens [
           | inl is ↦ subst IsOpened (sym is) unchanged
-          | inr is ↦ subst IsOpened (sym is) (module_opened kept for.fit room)
+          | inr is ↦ subst IsOpened (sym is) (module_opened kept fit room)
         ]
 
-    wanted_opened : (t : Terms) (modules : List ModuleAsked) (wanted : Wanted) (o : Opening P) → AreCallsFor t c.settings modules → p.done < length p.live → OpensWanted modules wanted p o → IsOpened o
-    wanted_opened t modules (an_instance number) o calls room opens = requests_opened t number (slice_get modules number) o (calls number) room opens
-    wanted_opened t modules (a_component info) o calls room opens = subst IsOpened (sym opens) (plain_opened (call.Component info) tt (λ is. room))
-    wanted_opened t modules a_stack o calls room opens = subst IsOpened (sym opens) (plain_opened call.Stack tt (λ is. room))
-    wanted_opened t modules (a_heap limits) o calls room opens = subst IsOpened (sym opens) (plain_opened (call.Heap (heap_type limits)) (omega arith) (λ is. room))
+    wanted_opened : (modules : List ModuleAsked) (wanted : Wanted) (o : Opening P) → AreFit c.settings modules → p.done < length p.live → OpensWanted modules wanted p o → IsOpened o
+    wanted_opened modules (an_instance number) o fit room opens = requests_opened (slice_get modules number) o (fit number) room opens
+    wanted_opened modules (a_component info) o fit room opens = subst IsOpened (sym opens) (plain_opened (call.Component info) tt (λ is. room))
+    wanted_opened modules a_stack o fit room opens = subst IsOpened (sym opens) (plain_opened call.Stack tt (λ is. room))
+    wanted_opened modules (a_heap limits) o fit room opens = subst IsOpened (sym opens) (plain_opened (call.Heap (heap_type limits)) (omega arith) (λ is. room))
 
-    act_opened : (t : Terms) (modules : List ModuleAsked) (act : Act) (o : Opening P) → AreCallsFor t c.settings modules → p.done < length p.live → OpensAct modules act p o → IsOpened o
-    act_opened t modules (requests wanted) o calls room opens = wanted_opened t modules wanted o calls room opens
-    act_opened t modules (on_memory of k op) o calls room opens = subst IsOpened (sym opens.3) (bytes_opened (slice_index_or p.live of None) op of k opens.1 opens.0 opens.2)
-    act_opened t modules (on_table of k op) o calls room opens = subst IsOpened (sym opens.5) (tables_opened op of k opens.1 opens.2 opens.0 opens.3 opens.4)
-    act_opened t modules (drops of) o calls room opens = subst IsOpened (sym opens) (drops_opened of (slice_index_or p.live of None) refl)
-    act_opened t modules (purges number) o calls room opens = purges_opened (slice_get modules number) o opens
-    act_opened t modules releases o calls room opens = subst IsOpened (sym opens) (plain_opened call.Release tt (λ is. absurd cc))
+    act_opened : (modules : List ModuleAsked) (act : Act) (o : Opening P) → AreFit c.settings modules → p.done < length p.live → OpensAct modules act p o → IsOpened o
+    act_opened modules (requests wanted) o fit room opens = wanted_opened modules wanted o fit room opens
+    act_opened modules (on_memory of k op) o fit room opens = subst IsOpened (sym opens.3) (bytes_opened (slice_index_or p.live of None) op of k opens.1 opens.0 opens.2)
+    act_opened modules (on_table of k op) o fit room opens = subst IsOpened (sym opens.5) (tables_opened op of k opens.1 opens.2 opens.0 opens.3 opens.4)
+    act_opened modules (drops of) o fit room opens = subst IsOpened (sym opens) (drops_opened of (slice_index_or p.live of None) refl)
+    act_opened modules (purges number) o fit room opens = purges_opened (slice_get modules number) o opens
+    act_opened modules releases o fit room opens = subst IsOpened (sym opens) (plain_opened call.Release tt (λ is. absurd cc))
 
-    next_opened : (t : Terms) (modules : List ModuleAsked) (commands : List Command) (next : Option Command) (keyed : Bool) (o : Opening P) → slice_get commands p.done ≡ next → AreCallsFor t c.settings modules → length commands ≤ length p.live → OpensNext modules next keyed p o → IsOpened o
-    next_opened t modules commands None keyed o next calls room opens = subst IsOpened (sym opens) tt
-    next_opened t modules commands (Some command) false o next calls room opens = subst IsOpened (sym opens) (plain_opened call.Key tt (λ is. absurd cc))
-    next_opened t modules commands (Some command) true o next calls room opens = act_opened t modules (act_of command) o calls (omega (arith, room, slice_get_within commands p.done command next)) opens
+    -- What the next command opens with.
+    pub next_opened : (modules : List ModuleAsked) (commands : List Command) (next : Option Command) (keyed : Bool) (o : Opening P) → slice_get commands p.done ≡ next → AreFit c.settings modules → length commands ≤ length p.live → OpensNext modules next keyed p o → IsOpened o
+    next_opened modules commands None keyed o next fit room opens = subst IsOpened (sym opens) tt
+    next_opened modules commands (Some command) false o next fit room opens = subst IsOpened (sym opens) (plain_opened call.Key tt (λ is. absurd cc))
+    next_opened modules commands (Some command) true o next fit room opens = act_opened modules (act_of command) o fit (omega (arith, room, slice_get_within commands p.done command next)) opens
 
   pub step_opened : CanTurn maker c p → is_idle p.frame.phase ≡ false → IsStep p.frame p.live
   step_opened can busy = record { can = can; same = same_now; room = refl; busy = busy; searched = λ s. s; admitted = omega arith; components = omega arith; stripe = refl }
 
   -- What each turn opens with.
-  opened_at : (b : Bool) (t : Terms) (modules : List ModuleAsked) (commands : List Command) (o : Opening P) → is_idle p.frame.phase ≡ b → AreCallsFor t c.settings modules → CanTurn maker c p → length commands ≤ length p.live → OpensAt b modules commands p o → IsOpened o
-  opened_at true t modules commands o idle calls can room opens =
-      next_opened can (idle_is p.frame.phase idle) t modules commands (slice_get commands p.done) p.keyed o refl calls room opens
-  opened_at false t modules commands o busy calls can room opens = subst IsOpened (sym opens) (step_opened can busy)
+  opened_at : (b : Bool) (modules : List ModuleAsked) (commands : List Command) (o : Opening P) → is_idle p.frame.phase ≡ b → AreFit c.settings modules → CanTurn maker c p → length commands ≤ length p.live → OpensAt b modules commands p o → IsOpened o
+  opened_at true modules commands o idle fit can room opens =
+      next_opened can (idle_is p.frame.phase idle) modules commands (slice_get commands p.done) p.keyed o refl fit room opens
+  opened_at false modules commands o busy fit can room opens = subst IsOpened (sym opens) (step_opened can busy)
 
   pub opened : (t : Terms) (modules : List ModuleAsked) (commands : List Command) (o : Opening P) → AreCallsFor t c.settings modules → CanTurn maker c p → length commands ≤ length p.live → OpensAt (is_idle p.frame.phase) modules commands p o → IsOpened o
-  opened t modules commands o calls can room opens = opened_at (is_idle p.frame.phase) t modules commands o refl calls can room opens
+  opened t modules commands o calls can room opens = opened_at (is_idle p.frame.phase) modules commands o refl (are_fit t c.settings modules calls) can room opens

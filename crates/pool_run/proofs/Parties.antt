@@ -81,7 +81,7 @@ module _ {P : Type 0} where
   pub brings_module : (m : ModuleAsked) (live : List (Option (Grant P PlainHeap))) → Brings (call.Module m) live live
   brings_module m live = brings_none (call.Module m) live (λ of. refl)
 
-  fewer : (of : Grant P PlainHeap → ℕ) (live : List (Option (Grant P PlainHeap))) (i : ℕ) (grant : Grant P PlainHeap) → slice_index_or live i None ≡ Some grant → sum_by (granted_to of) (slice_set live i None) + of grant ≡ sum_by (granted_to of) live
+  pub fewer : (of : Grant P PlainHeap → ℕ) (live : List (Option (Grant P PlainHeap))) (i : ℕ) (grant : Grant P PlainHeap) → slice_index_or live i None ≡ Some grant → sum_by (granted_to of) (slice_set live i None) + of grant ≡ sum_by (granted_to of) live
   fewer of live i grant is =
       let here : granted_to of (slice_index_or live i None) ≡ of grant = ap (granted_to of) is in
       omega (arith, sum_by-set (granted_to of) live i None None (grant_inside live i grant is))

@@ -72,7 +72,7 @@ module _ {P : Type 0} (w : World) (old new : PartyTold) (c : PoolCore P PlainHea
     pub world : IsWorldOf w c
     pub frame : IsFrame w.maker c.settings c.plan f
     pub once : (name : SlotName) → frame_count (right_to name) f + sum_by (granted_to (grant_count (right_to name))) live ≤ made_slot name.slot (of_kind name.kind c.plan.totals)
-    pub counted : (n : Counts) → frame_counted n f + sum_by (granted_to (grant_counted n)) live ≤ counters_counted n c.counters
+    pub counted : w.counts ≡ true → (n : Counts) → frame_counted n f + sum_by (granted_to (grant_counted n)) live ≤ counters_counted n c.counters
     pub alone : w.alone ≡ true → IsAlone c f live
     pub rule : old.limiter.rule ≡ Some w.terms.host.rule
     pub stripe : f.stripe ≡ w.terms.stripe
@@ -301,7 +301,7 @@ module _ {P : Type 0} (w : World) (old new : PartyTold) (c : PoolCore P PlainHea
   goes_so_far untested uncounted so follows = broken_is None follows
   goes_so_far uncounted (admitted m) so follows =
       let most : w.terms.settings.max_core_instances ≡ c.settings.max_core_instances = ap (λ (s : Settings). s.max_core_instances) is.world.settings in
-      record { supported = so; counted = omega (arith, most, follows.1, is.counted (only counted_instance), instances_told live told seen); allowed = λ k below. absurd (omega (arith, follows.0, below)) }
+      record { supported = so; counted = λ counts. omega (arith, most, follows.1, is.counted counts (only counted_instance), instances_told live told seen); allowed = λ k below. absurd (omega (arith, follows.0, below)) }
   goes_so_far (admitted n) (admitted m) so follows =
       elim follows [
         | inl same ↦ subst (IsAdmitted w request told) (sym same) so

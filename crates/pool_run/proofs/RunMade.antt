@@ -8,7 +8,7 @@ use Rattle.pool_run.specs.RunsMade.{Background, IsKept, places_in, commands_in, 
 use Rattle.pool_run.specs.declared.input.Party.{Party}
 use Rattle.pool_run.specs.Ties.{CanTurn, held_by_party}
 use Rattle.pool_run.specs.Turns.{heaps_told, Turned, Turns}
-use Rattle.pool_run.specs.Worlds.{IsFit, AreFit, AreCallsFor, IsCallFor, NameModules}
+use Rattle.pool_run.specs.Worlds.{AreFit, NameModules}
 use Rattle.pool_run.specs.Rooms.{World}
 use Rattle.pool_run.specs.declared.command.Command.{Command}
 use Rattle.pool_run.specs.declared.running_party.RunningParty.{RunningParty}
@@ -20,17 +20,10 @@ use Rattle.pool_run.proofs.Folding.{run_turned, folds_more}
 use Rattle.pool_run.proofs.Following.{commands_there}
 use Rattle.pool_run.proofs.Started.{IsMadeParty, AreMade, started_running}
 use Rattle.pool_run.proofs.LimitsOfRuns.{made_within}
+use Rattle.pool_run.proofs.Opened.{are_fit}
 use Rattle.pool_run.proofs.Running.{can_turn}
 use Rattle.pool_run.proofs.Turned.{HasTurned, has_turned}
 use Rattle.pool_run.proofs.SameHeaps.{listed_same}
-
-one_fits : (w : World) (s : Settings) (number : ℕ) (o : Option ModuleAsked) → IfSome o (IsCallFor w.terms s number) → IfSome o (IsFit s)
-one_fits w s number None call = tt
-one_fits w s number (Some m) call = call.fit
-
--- a call for a module is fit
-pub are_fit : (w : World) (s : Settings) (modules : List ModuleAsked) → AreCallsFor w.terms s modules → AreFit s modules
-are_fit w s modules calls number = one_fits w s number (slice_get modules number) (calls number)
 
 -- what is made of one element more
 pub map_more : {X Y : Type 0} (f : X → Y) (xs : List X) (i : ℕ) (x : X) → i < length xs → x ≡ get_or xs i x → map f (take i xs) ++ f x ∷ [] ≡ map f (take (i + 1) xs)
@@ -102,7 +95,7 @@ module _ {P : Type 0} where
       record {
         can = subst Can here (can_turn w.maker s.core s.parties i p way.holds.running below);
         counts = can_count w.maker s.core s.parties way.holds.running kept.few;
-        calls = subst (AreFit s.core.settings) (sym way.given) (are_fit w s.core.settings of.modules way.calls);
+        calls = subst (AreFit s.core.settings) (sym way.given) (are_fit w.terms s.core.settings of.modules way.calls);
         named = subst (λ modules. N modules commands) (sym way.given) named;
         places = omega (arith, to.room, long, live);
         small = omega (arith, kept.few, few, few_told of.world (commands_of of.inputs i) (replies_to i s.replies) (slice_index_or s.parties i p) to, to.private.count, live, done);

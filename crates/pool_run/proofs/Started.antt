@@ -54,7 +54,7 @@ module _ {P : Type 0} where
       ∙ ap (λ (done : ℕ). Q (frame_made made.home s) made.limits store heaps false done p.live) made.done
       ∙ ap (λ (live : List (Option (Grant P PlainHeap))). Q (frame_made made.home s) made.limits store heaps false 0 live) made.live
 
-  none_live : (of : Grant P PlainHeap → ℕ) (n : ℕ) → sum_by (granted_to of) (replicate n None) ≡ 0
+  pub none_live : (of : Grant P PlainHeap → ℕ) (n : ℕ) → sum_by (granted_to of) (replicate n None) ≡ 0
   none_live of zero = refl
   none_live of (suc n) = omega (arith, sum_by-cons (granted_to of) None (replicate n None), none_live of n)
 
@@ -67,12 +67,12 @@ party_has_nothing : (P : Type 0) (home : ℕ) (limits : Option PartyLimits) (fai
 party_has_nothing P home limits failing unmade s n = λ w. omega (arith, made_weight P PlainHeap w home s, none_live {P = P} (grant_weight w) n)
 
 -- and was told nothing.
-party_is_private : (P : Type 0) (w : World) (commands : List Command) (home : ℕ) (limits : Option PartyLimits) (failing unmade : List ℕ) (s : Settings) → IsPrivate w (no_grants commands) commands [] (party_made {P = P} home limits failing unmade s (length commands))
+pub party_is_private : (P : Type 0) (w : World) (commands : List Command) (home : ℕ) (limits : Option PartyLimits) (failing unmade : List ℕ) (s : Settings) → IsPrivate w (no_grants commands) commands [] (party_made {P = P} home limits failing unmade s (length commands))
 party_is_private P w commands home limits failing unmade s = record { told = with_grants (no_grants commands); run = refl; count = refl; tied = ap (λ (g : Grants). with_grants g) (none_told P (length commands)) }
 
 module _ {P : Type 0} where
   -- It is sound.
-  party_is_sound : (maker : MakerTold) (home n : ℕ) (limits : Option PartyLimits) (failing unmade : List ℕ) (c : PoolCore P PlainHeap) → IsCore maker c → IsParty maker c (party_made home limits failing unmade c.settings n)
+  pub party_is_sound : (maker : MakerTold) (home n : ℕ) (limits : Option PartyLimits) (failing unmade : List ℕ) (c : PoolCore P PlainHeap) → IsCore maker c → IsParty maker c (party_made home limits failing unmade c.settings n)
   party_is_sound maker home n limits failing unmade c core = record {
     sound = record { frame = made_frame maker home c core; grants = All-replicate (λ g. IfSome g (IsGrant maker c.settings c.plan)) n None tt };
     to_come = λ k behind. none_at n k;

@@ -183,7 +183,7 @@ module _ {P : Type 0} (w : World) (old new : PartyTold) (c : PoolCore P PlainHea
         act = requests (a_component for.info);
         next = for.act;
         moves = (grants_of (slice_set live done (Some component)), (for.supported, grants), these fits component);
-        pool = omega (arith, most, room, is.counted (only counted_component), components_told live told seen);
+        pool = λ counts. omega (arith, most, room, is.counted counts (only counted_component), components_told live told seen);
       }
 
   -- It is refused for the rule that it breaks,

@@ -1,11 +1,11 @@
 -- What a turn leaves of a party and of the pool: what one loses comes to the other, and what is to come is still to come.
 use Rattle.std.proofs.Common.{◌≡◌, ℕ, ◌+◌, ◌<◌, ◌≤◌, List, length, Option, Some, None, refl, sym, ap, ◌∙◌, subst, arith, true, slice_set, slice_index_or, sum_by}
-use Rattle.pool_run.proofs.Imports.{MakerTold, objects_in, IsIdle, After, PoolCore, Frame, ModuleAsked, Grant, Outcome, Phase, ListedStore, length-set, get_or-set_other, sum_by-set, kept_count, count_granted, Conserves, IsSameSize, IsSearchedAt, IsSearched, stage_at, stage_of, PlainHeap, Weight, away_weight, grant_weight}
+use Rattle.pool_run.proofs.Imports.{MakerTold, objects_in, IsIdle, After, PoolCore, Frame, ModuleAsked, Grant, Outcome, Phase, ListedStore, length-set, get_or-set_other, sum_by-set, kept_count, count_granted, CanStep, Conserves, IsSameSize, IsSearchedAt, IsSearched, stage_at, stage_of, PlainHeap, Weight, away_weight, grant_weight}
 use Rattle.pool_alloc.specs.declared.frame.Outcome.TheVariants as answer
 use Rattle.pool_run.specs.Rooms.{World}
 use Rattle.pool_run.specs.PartyRules.{host_of}
 use Rattle.pool_run.specs.Turns.{Turned, host_of_party, one_step, ended_with, ended_at_once, answered, Steps, Turns, Opening, rests, replies, makes_step, Leaves}
-use Rattle.pool_run.specs.Ties.{IsSoundParty, CanTurn, is_asking, granted_to, held_by_party}
+use Rattle.pool_run.specs.Ties.{IsParty, IsSoundParty, CanTurn, is_asking, granted_to, held_by_party}
 use Rattle.pool_run.proofs.Sounds.{reply_sound, step_sound, IsSoundTurn}
 use Rattle.pool_run.specs.Worlds.{AreCallsFor}
 use Rattle.pool_run.specs.declared.command.Command.{Command}
@@ -115,31 +115,38 @@ module _ {P : Type 0} where
     searched = λ s. turned.searched (searching s);
   }
 
-  -- A step of the call under way. The maker of heaps keeps its list.
-  pub step_turned : (maker : MakerTold) (c : PoolCore P PlainHeap) (p : RunningParty P) (t : Turned P) → CanTurn maker c p → Steps c p t → HasTurned c p t
-  step_turned maker c p t can steps =
+  -- A step of the call under way, wherever it can be made. The maker of heaps keeps its list.
+  pub step_turned : (maker : MakerTold) (c : PoolCore P PlainHeap) (p : RunningParty P) (t : Turned P) → CanStep maker c p.frame → IsParty maker c p → Steps c p t → HasTurned c p t
+  step_turned maker c p t can party steps =
       let a : After P PlainHeap = steps.0 in
       let q : RunningParty P = record p { heaps = t.party.heaps } in
-      let on : IsStepped maker steps.1.0 steps.1.1 c p.frame a = stepped maker steps.1.0 steps.1.1 c p.frame a (can_step maker c p can) steps.1.3 in
+      let on : IsStepped maker steps.1.0 steps.1.1 c p.frame a = stepped maker steps.1.0 steps.1.1 c p.frame a can steps.1.3 in
       let same : HaveSame p q = (λ w. refl) in
       turned_from c p q t same refl (ap (host_of p.limits p.store.failing) (list_kept steps.1)) (λ s. s)
-      (subst (HasTurned c q) (sym steps.2) (answered_turned c q a.core a.frame a.outcome can.party.to_come on.conserves on.size on.staged can.party.place on.searched))
-
-module _ {P : Type 0} (maker : MakerTold) (c : PoolCore P PlainHeap) (p : RunningParty P) (can : CanTurn maker c p) where
-  follows_turned : (o : Opening P) (t : Turned P) → IsOpened maker c p o → Leaves o c p t → HasTurned c p t
-  follows_turned rests t is follows = subst (HasTurned c p) (sym follows) (stayed c p can.party.to_come can.party.place)
-  follows_turned (replies reply live store) t is follows = subst (HasTurned c p) (sym follows) (ended c p live store reply is.same is.room is.to_come is.idle is.listed)
-  follows_turned (makes_step frame live) t is follows = turned_from c p (record p { frame = frame; live = live }) t is.same is.room refl is.searched (step_turned maker c (record p { frame = frame; live = live }) t is.can follows)
+      (subst (HasTurned c q) (sym steps.2) (answered_turned c q a.core a.frame a.outcome party.to_come on.conserves on.size on.staged party.place on.searched))
 
   -- What it leaves is sound.
-  follows_sound : (o : Opening P) (t : Turned P) → IsOpened maker c p o → Leaves o c p t → IsSoundTurn maker t
+  pub step_left : (maker : MakerTold) (c : PoolCore P PlainHeap) (p : RunningParty P) (t : Turned P) → CanStep maker c p.frame → IsSoundParty maker c p → Steps c p t → IsSoundTurn maker t
+  step_left maker c p t can has steps =
+      let on : IsStepped maker steps.1.0 steps.1.1 c p.frame steps.0 = stepped maker steps.1.0 steps.1.1 c p.frame steps.0 can steps.1.3 in
+      let sound : IsSoundParty maker c (record p { heaps = t.party.heaps }) = record { frame = has.frame; grants = has.grants } in
+      subst (IsSoundTurn maker) (sym steps.2) (step_sound maker c (record p { heaps = t.party.heaps }) steps.0 sound on)
+
+module _ {P : Type 0} (maker : MakerTold) (c : PoolCore P PlainHeap) (p : RunningParty P) (can : CanTurn maker c p) where
+  pub follows_turned : (o : Opening P) (t : Turned P) → IsOpened maker c p o → Leaves o c p t → HasTurned c p t
+  follows_turned rests t is follows = subst (HasTurned c p) (sym follows) (stayed c p can.party.to_come can.party.place)
+  follows_turned (replies reply live store) t is follows = subst (HasTurned c p) (sym follows) (ended c p live store reply is.same is.room is.to_come is.idle is.listed)
+  follows_turned (makes_step frame live) t is follows =
+      let q : RunningParty P = record p { frame = frame; live = live } in
+      turned_from c p q t is.same is.room refl is.searched (step_turned maker c q t (can_step maker c q is.can) is.can.party follows)
+
+  -- What it leaves is sound.
+  pub follows_sound : (o : Opening P) (t : Turned P) → IsOpened maker c p o → Leaves o c p t → IsSoundTurn maker t
   follows_sound rests t is leaves = subst (IsSoundTurn maker) (sym leaves) (record { core = can.core; party = can.party.sound })
   follows_sound (replies reply live store) t is leaves = subst (IsSoundTurn maker) (sym leaves) (reply_sound maker c (record p { live = live; store = store }) reply can.core is.idle (record { frame = is.sound.frame; grants = is.sound.grants }))
   follows_sound (makes_step frame live) t is leaves =
       let q : RunningParty P = record p { frame = frame; live = live } in
-      let on : IsStepped maker leaves.1.0 leaves.1.1 c frame leaves.0 = stepped maker leaves.1.0 leaves.1.1 c frame leaves.0 (can_step maker c q is.can) leaves.1.3 in
-      let sound : IsSoundParty maker c (record q { heaps = t.party.heaps }) = record { frame = is.can.party.sound.frame; grants = is.can.party.sound.grants } in
-      subst (IsSoundTurn maker) (sym leaves.2) (step_sound maker c (record q { heaps = t.party.heaps }) leaves.0 sound on)
+      step_left maker c q t (can_step maker c q is.can) is.can.party.sound leaves
 
 module _ {P : Type 0} where
   -- What each turn of a party leaves.

@@ -1,6 +1,6 @@
 -- A turn of a party, as the party sees it: what it was told stays a private run, with the reply if there is one.
 use Rattle.std.proofs.Common.{◌≡◌, ℕ, ◌+◌, List, [], ◌∷◌, ◌++◌, length, Option, Some, None, refl, sym, ap, ◌∙◌, subst, arith, true, ◌≤◌, option_map, slice_get, slice_set, is_some, sum_by}
-use Rattle.pool_run.proofs.Imports.{Plan, length_push, PartyTold, objects_in, After, PoolCore, Frame, Outcome, Stage, no_call, stage_of, IfGranted, Thing, right_to, away_count, kept_count, frame_count, is_idle, Conserves, grant_count, count_granted, Grant, of_kind, SlotName, ListedHeaps, PlainHeap, conserves_units}
+use Rattle.pool_run.proofs.Imports.{Plan, length_push, PartyTold, objects_in, After, PoolCore, Frame, Outcome, Stage, no_call, stage_of, IfGranted, Thing, Counts, right_to, away_count, kept_count, frame_count, frame_counted, counters_counted, grant_counted, CanStep, is_idle, Conserves, grant_count, count_granted, Grant, of_kind, SlotName, ListedHeaps, PlainHeap, conserves_units}
 use Rattle.pool_alloc.specs.declared.frame.Outcome.TheVariants as answer
 use Rattle.pool_run.specs.PartyRules.{rule_of}
 use Rattle.pool_run.specs.Acts.{Act, act_of, act_at}
@@ -80,19 +80,30 @@ module _ {P : Type 0} where
   apart c f live a (Some (answer.Released n)) is once b most = tt
   apart c f live a (Some (answer.Refused e)) is once b most = tt
 
+  -- What a step of a party needs: it can be made; what the party has is given out, and isn't kept; and it is counted, where counters
+  -- count it.
+  pub record HasItsOwn (w : World) (c : PoolCore P PlainHeap) (p : RunningParty P) : Type 0 where
+    pub can : CanStep w.maker c p.frame
+    pub units : (t : Thing) → kept_count t c + (frame_count t p.frame + sum_by (granted_to (grant_count t)) p.live) ≤ away_count t c
+    pub counted : w.counts ≡ true → (n : Counts) → frame_counted n p.frame + sum_by (granted_to (grant_counted n)) p.live ≤ counters_counted n c.counters
+
+  -- A party whose turn it is has that.
+  pub has_its_own : (w : World) (c : PoolCore P PlainHeap) (p : RunningParty P) → CanTurn w.maker c p → HasItsOwn w c p
+  has_its_own w c p can = record { can = can_step w.maker c p can; units = fits_units c p can.fits; counted = λ counts. fits_counts c p can.fits }
+
   -- A step of the call under way.
-  pub step_private : (w : World) (start : Grants) (commands : List Command) (before : List Reply) (c : PoolCore P PlainHeap) (p : RunningParty P) (t : Turned P) → IsPrivate w start commands before p → IsWorldOf w c → CanTurn w.maker c p → (w.alone ≡ true → IsAlone c p.frame p.live) → host_of_party p ≡ w.terms.host → p.frame.stripe ≡ w.terms.stripe → Steps c p t → SeesTurn w start commands before t
-  step_private w start commands before c p t private world can alone ruled striped steps =
+  pub step_private : (w : World) (start : Grants) (commands : List Command) (before : List Reply) (c : PoolCore P PlainHeap) (p : RunningParty P) (t : Turned P) → IsPrivate w start commands before p → IsWorldOf w c → HasItsOwn w c p → (w.alone ≡ true → IsAlone c p.frame p.live) → host_of_party p ≡ w.terms.host → p.frame.stripe ≡ w.terms.stripe → Steps c p t → SeesTurn w start commands before t
+  step_private w start commands before c p t private world own alone ruled striped steps =
       let a : After P PlainHeap = steps.0 in
       let f : Frame P PlainHeap = p.frame in
       let old : PartyTold = steps.1.0 in
-      let on : IsStepped w.maker old steps.1.1 c f a = stepped w.maker old steps.1.1 c f a (can_step w.maker c p can) steps.1.3 in
+      let on : IsStepped w.maker old steps.1.1 c f a = stepped w.maker old steps.1.1 c f a own.can steps.1.3 in
       let is : IsBefore w old steps.1.1 c f p.live private.told.grants =
       record {
         world = world;
-        frame = can.party.sound.frame;
-        once = λ k. omega (arith, fits_units c p can.fits (right_to k), away_made w.maker k c can.core);
-        counted = λ n. fits_counts c p can.fits n;
+        frame = own.can.frame;
+        once = λ k. omega (arith, own.units (right_to k), away_made w.maker k c own.can.core);
+        counted = own.counted;
         alone = alone;
         rule = steps.1.2 ∙ ap (λ (h : Host). Some h.rule) ruled;
         stripe = striped;
@@ -101,6 +112,6 @@ module _ {P : Type 0} where
       subst (SeesTurn w start commands before) (sym steps.2)
       (answered_private w start commands before a.core p a.frame a.outcome t.party.heaps private on.staged.settled
       (tied_by w old steps.1.1 c f commands p.done p.live p.store.made p.heaps t.party.heaps private.told is steps.1.4 steps.1.5 (ap (λ (h : Host). h.unmade) ruled) (stage_of f) (stage_of a.frame) a.frame.asked a.outcome
-      (calls_now w.maker (rule_of p.limits) p.heaps t.party.heaps c f a can.party.sound.frame steps.1)
-      (uncounted_none f.phase f.asked f.ending (objects_in f.objects)) (uncounted_component f.phase f.asked f.ending (objects_in f.objects)) (stack_is_asked w.maker c f can.party.sound.frame) (λ none. on.goes.asked (sym idle ∙ none)) on.granted
-      (apart c f p.live a a.outcome refl (fits_units c p can.fits) on.conserves (λ k. omega (arith, away_made w.maker k a.core on.core, ap (λ (plan : Plan). made_slot k.slot (of_kind k.kind plan.totals)) on.size.plan))) on.goes.way private.tied))
+      (calls_now w.maker (rule_of p.limits) p.heaps t.party.heaps c f a own.can.frame steps.1)
+      (uncounted_none f.phase f.asked f.ending (objects_in f.objects)) (uncounted_component f.phase f.asked f.ending (objects_in f.objects)) (stack_is_asked w.maker c f own.can.frame) (λ none. on.goes.asked (sym idle ∙ none)) on.granted
+      (apart c f p.live a a.outcome refl own.units on.conserves (λ k. omega (arith, away_made w.maker k a.core on.core, ap (λ (plan : Plan). made_slot k.slot (of_kind k.kind plan.totals)) on.size.plan))) on.goes.way private.tied))

@@ -72,11 +72,12 @@ abbrev pub heap_count : Grants → ℕ
 heap_count grants = sum_by heaps_in grants
 
 -- what is the same for a whole run: the maker of the pool's regions, what the host answers each party, whether there is
--- one party alone, and the terms of the party that is spoken of
+-- one party alone, whether the pool's counters are known to count what the party has, and the terms of the party that is spoken of
 pub record World : Type 0 where
   pub maker : MakerTold
   pub hosts : List Host
   pub alone : Bool
+  pub counts : Bool
   pub terms : Terms
 
 -- a host that allows everything
@@ -123,11 +124,12 @@ pub record AreFreeSlots (total live : ℕ) (IsFree : ℕ → Type 0) (slots : Li
   pub differ : AllDiffer slots
   pub few : live + length slots ≤ total
 
--- An instance that is granted has free slots, and the party's own grants leave room for it.
+-- An instance that is granted has free slots, and the party's own grants leave room for it, in their number too where counters
+-- count them.
 pub record HasRoom (w : World) (grants : Grants) (memory_slots table_slots : List ℕ) : Type 0 where
   pub memories : AreFreeSlots w.terms.slots (live_count grants) (λ slot. HasNoMemoryIn slot grants) memory_slots
   pub tables : AreFreeSlots w.terms.table_slots (table_count grants) (λ slot. HasNoTableIn slot grants) table_slots
-  pub instances : instance_count grants < w.terms.settings.max_core_instances
+  pub instances : w.counts ≡ true → instance_count grants < w.terms.settings.max_core_instances
 
 -- A party that is alone is refused for room only where all that there is of this kind is its own: instances, or the slots
 -- of its stripe, with those of the memories of the request before the one for which none is free, or those for tables.
@@ -157,10 +159,10 @@ TellsRoom w request grants (Instance memories tables) = HasRoom w grants memorie
 TellsRoom w request grants (Refused (Alloc e)) = IsForRoom w request grants e
 TellsRoom w request grants _ = Unit {0}
 
--- what the reply to a request for a component tells of room: the party's own leave room for it, or, where it is alone, are
--- all that there may be
+-- what the reply to a request for a component tells of room: the party's own leave room for it, where counters count them, or,
+-- where it is alone, are all that there may be
 abbrev pub TellsComponentRoom : World → Grants → Reply → Type 0
-TellsComponentRoom w grants Component = component_count grants < w.terms.settings.max_component_instances
+TellsComponentRoom w grants Component = w.counts ≡ true → component_count grants < w.terms.settings.max_component_instances
 TellsComponentRoom w grants (Refused (Alloc (alloc.Limit e))) = w.alone ≡ true → w.terms.settings.max_component_instances ≤ component_count grants
 TellsComponentRoom w grants _ = Unit {0}
 

@@ -44,6 +44,7 @@ world_of input maker = record {
   maker = maker;
   hosts = map host_for input.parties;
   alone = length input.parties == 1;
+  counts = true;
   terms = terms_of input maker open_host;
 }
 

@@ -16,11 +16,11 @@ use Rattle.pool_run.specs.declared.slot_lists.SlotLists.{SlotLists}
 abbrev pub HasNoRefusal : Terms → List Want → ℕ → Type 0
 HasNoRefusal t wants k = IfSome (slice_get wants k) (λ want. own_refusal t want ≡ None)
 
--- What is known of a request that is so far: it broke no rule; then there was room for an instance, and none of the
--- memories and tables that are made has a refusal of its own.
+-- What is known of a request that is so far: it broke no rule; then there was room for an instance, where counters count the party's
+-- own, and none of the memories and tables that are made has a refusal of its own.
 pub record IsAdmitted (w : World) (request : Request) (told : Grants) (n : ℕ) : Type 0 where
   pub supported : request.broken ≡ None
-  pub counted : instance_count told < w.terms.settings.max_core_instances
+  pub counted : w.counts ≡ true → instance_count told < w.terms.settings.max_core_instances
   pub allowed : (k : ℕ) → k < n → HasNoRefusal w.terms (wants_of request) k
 
 -- What is known of a request for an instance, by how far it is: no rule is broken once it is tested.

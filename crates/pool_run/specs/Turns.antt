@@ -12,6 +12,8 @@ use Rattle.pool_run.specs.TableValues.{element_for}
 use Rattle.pool_run.specs.Private.{PrivateMemory, PrivateGrant, instance_grant, component_grant, memory_grant, table_grant, stack_grant, heap_grant, Grants, IsRead, GrowthEnd, as_it_was, could_not, has_grown, growth, size_wanted, memory_grown}
 use Rattle.pool_run.specs.Objects.{Objects, MovesObject, object_at}
 use Rattle.pool_run.specs.Acts.{MemoryOp, reads, writes, fills, grows, asks_size, TableOp, sets, Act, requests, on_memory, on_table, drops, purges, releases, act_of, Wanted, an_instance, a_component, a_stack, a_heap, heap_type}
+use Rattle.pool_run.specs.declared.begin.Begun.{Begun}
+use Rattle.pool_run.specs.declared.begin.Begun.TheVariants as begun
 use Rattle.pool_run.specs.declared.command.Command.{Command}
 use Rattle.pool_run.specs.declared.reply.Reply.{Reply}
 use Rattle.pool_run.specs.declared.reply.Reply.TheVariants.{Instance, Done, Size, Returned, Purged, Released, Refused, Trap as trapped, Component, Stack, Heap, Grown}
@@ -369,3 +371,13 @@ module _ {P : Type 0} where
   -- A turn of a party: the next step of its call, or the first step of its next command.
   abbrev pub Turns : List ModuleAsked → List Command → PoolCore P PlainHeap → RunningParty P → Turned P → Type 0
   Turns modules commands c p t = TurnsFrom (OpensAt (is_idle p.frame.phase) modules commands p) c p t
+
+  -- What the beginning of a command leaves of a party, and what it leaves to do, by what it opens with.
+  abbrev pub Begins : Opening P → RunningParty P → RunningParty P → Begun → Type 0
+  Begins rests p q left = (q ≡ p) × (left ≡ begun.Rests)
+  Begins (replies reply live store) p q left = (q ≡ record p { frame = one_step p.frame; live = live; store = store; done = p.done + 1 }) × (left ≡ begun.Replies reply)
+  Begins (makes_step frame live) p q left = (q ≡ record p { frame = frame; live = live }) × (left ≡ begun.Calls)
+
+  -- A command begins with one of the openings that may come.
+  abbrev pub BeginsFrom : (Opening P → Type 0) → RunningParty P → RunningParty P → Begun → Type 0
+  BeginsFrom Opens p q left = (o : Opening P) × Opens o × Begins o p q left

@@ -26,29 +26,33 @@ in_one_stripe stripes stripe (Some g) = sum_by (λ m. one_if (m.slot % stripes =
 abbrev pub stripe_count : ℕ → ℕ → Grants → ℕ
 stripe_count stripes stripe grants = sum_by (in_one_stripe stripes stripe) grants
 
--- How many slots for memories a request needs, and for tables, stacks and heaps.
+-- How many slots for memories a request needs: one for each memory of the module, or one for its heap.
 abbrev pub memories_needed : List ModuleInfo → Wanted → ℕ
 memories_needed modules (an_instance number) = length (slice_index_or modules number no_module).memories
 memories_needed modules (a_heap limits) = 1
 memories_needed modules _ = 0
 
+-- How many slots for tables a request needs: one for each table of the module.
 abbrev pub tables_needed : List ModuleInfo → Wanted → ℕ
 tables_needed modules (an_instance number) = length (slice_index_or modules number no_module).tables
 tables_needed modules _ = 0
 
+-- How many stacks a request needs.
 abbrev pub stacks_needed : Wanted → ℕ
 stacks_needed a_stack = 1
 stacks_needed _ = 0
 
+-- How many slots for heaps a request needs.
 abbrev pub heaps_needed : Wanted → ℕ
 heaps_needed (a_heap limits) = 1
 heaps_needed _ = 0
 
--- How many instances it needs, and how many components.
+-- How many instances a request needs.
 abbrev pub instances_needed : Wanted → ℕ
 instances_needed (an_instance number) = 1
 instances_needed _ = 0
 
+-- How many components a request needs.
 abbrev pub components_needed : Wanted → ℕ
 components_needed (a_component info) = 1
 components_needed _ = 0

@@ -40,8 +40,10 @@ mod watcher;
 
 // A party's turn
 mod act;
+mod begin;
 mod leases;
 mod limiter;
+mod replying;
 mod running_party;
 mod slot_lists;
 mod turn;
@@ -59,6 +61,7 @@ mod laws;
 
 pub use act::{Act, MemoryOp, TableOp, Wanted, act_of, heap_type};
 pub use at_once::act_on_stack;
+pub use begin::{Begun, begin_next};
 pub use bounds::StepBounds;
 pub use built::is_built;
 pub use calls::make_calls;
@@ -73,12 +76,14 @@ pub use leases::Leases;
 pub use limiter::limiter_of;
 pub use output::{RunFault, RunOutput};
 pub use pool_alloc::Element;
+pub use pools::make_pool;
 pub use replies::{element_reply, fill_reply, growth_reply, write_reply};
 pub use reply::{Refusal, Reply, ReplyList, SlotList};
+pub use replying::answer;
 pub use reserved_vec::ReservedVec;
 pub use run::Run;
 pub use run_input::{run_schedule, run_watched};
-pub use running_party::{RunningParty, heaps_for, store_for};
+pub use running_party::{RunningParty, heaps_for, make_party, store_for};
 pub use slot_lists::SlotLists;
 pub use table_values::element_for;
 pub use turn::turn_of;

@@ -14,7 +14,7 @@ use pool_slots::{PlainHeap, PoolNewError};
 use std::alloc::Global;
 
 /// Makes a pool of the input's settings. Their rules are tested first.
-pub(crate) fn make_pool<P: Pages, M: PageMaker<Region = P>>(
+pub fn make_pool<P: Pages, M: PageMaker<Region = P>>(
     alloc: Global,
     input: &Input,
     pages: &mut M,

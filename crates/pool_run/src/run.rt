@@ -11,25 +11,23 @@ ghost use Rattle.pool_run.specs.Folds.{TurnsOf, commands_of, told_state, replies
 ghost use Rattle.pool_run.specs.Numbers.{with_party, calls_of_run};
 ghost use Rattle.pool_run.specs.Progress.{is_busy, commands_done, Advances, IsRunOf};
 ghost use Rattle.pool_run.specs.Runs.{IsMadeRun, FaultsInMaking, NamesRule};
-ghost use Rattle.pool_run.specs.RunsMade.{SoFar, IsKept, party_made_for, parties_made, places_in};
+ghost use Rattle.pool_run.specs.RunsMade.{SoFar, IsKept, parties_made, places_in};
 ghost use Rattle.pool_run.specs.Turns.{no_lists};
 ghost use Rattle.pool_run.specs.Validity.{is_valid};
 
 use crate::bounds::StepBounds;
 use crate::calls::make_calls;
 use crate::input::{Input, Party};
-use crate::leases::Leases;
 use crate::output::RunFault;
 use crate::pools::make_pool;
 use crate::reply::Reply;
-use crate::running_party::{RunningParty, heaps_for, store_for};
+use crate::running_party::{RunningParty, make_party};
 use crate::slot_lists::SlotLists;
 use crate::turn::{is_idle, turn_of};
 use crate::validity::is_valid;
 use pool_alloc::{Metrics, ModuleCall, Outcome, PoolCore};
 use pool_pages::{PageCalls, PageMaker, Pages};
-use pool_slots::{ListedHeaps, PlainHeap};
-use pool_table::ListedStore;
+use pool_slots::PlainHeap;
 use std::alloc::{AllocError, Global};
 use std::marker::Model;
 
@@ -254,42 +252,10 @@ fn make_parties<P: Pages>(
     let count = parties.len();
     let mut made = Vec::with_capacity(alloc, count)?;
     for at in 0..count {
-        let party = make_party(alloc, core, &parties[at])?;
+        let party = make_party(alloc, &core.settings, &parties[at])?;
         made.push(party)?;
     }
     Ok(made)
-}
-
-fn make_party<P: Pages>(
-    alloc: Global,
-    core: &PoolCore<P, PlainHeap>,
-    party: &Party,
-) -> Result<RunningParty<P>, AllocError>
-    requires batch { core.now.settings.batch ≤ 4096 }
-    requires home { party.now.home < 2 ^ 32 }
-    ensures { IfOk result (λ p. p ≡ party_made_for core.now.settings party.now) }
-{
-    let frame = core.frame(alloc, party.home as u32)?;
-    let live = Leases::new(alloc, party.commands.len())?;
-    let makers = makers_for(alloc, party)?;
-    Ok(RunningParty {
-        frame,
-        limits: party.limits,
-        store: makers.0,
-        heaps: makers.1,
-        keyed: false,
-        done: 0,
-        live,
-    })
-}
-
-// A party's store and its maker of heaps.
-fn makers_for(alloc: Global, party: &Party) -> Result<(ListedStore, ListedHeaps), AllocError>
-    ensures store { IfOk result (λ m. m.0 ≡ record { failing = party.now.gc_faults; made = 0; faults = 0 }) }
-    ensures heaps { IfOk result (λ m. m.1 ≡ record { failing = party.now.heap_faults; made = 0; faults = 0 }) }
-{
-    let store = store_for(alloc, party.gc_faults.as_slice())?;
-    Ok((store, heaps_for(alloc, party.heap_faults.as_slice())?))
 }
 
 fn no_slots(alloc: Global, count: usize) -> Result<Vec<SlotLists>, AllocError>

@@ -1,8 +1,9 @@
-ghost use Rattle.std.specs.Prelude.{◌≡◌, IfOk};
+ghost use Rattle.std.specs.Prelude.{◌≡◌, ◌^◌, ◌<◌, ◌≤◌, IfOk};
+ghost use Rattle.pool_run.specs.RunsMade.{party_made_for};
 
-use crate::input::PartyLimits;
+use crate::input::{Party, PartyLimits};
 use crate::leases::Leases;
-use pool_alloc::Frame;
+use pool_alloc::{Frame, Settings};
 use pool_pages::Pages;
 use pool_slots::{ListedHeaps, PlainHeap};
 use pool_table::ListedStore;
@@ -23,6 +24,39 @@ pub struct RunningParty<P: Pages> {
     pub keyed: bool,
     pub done: usize,
     pub live: Leases<P>,
+}
+
+/// A party as it is made, with a place for each of its commands.
+pub fn make_party<P: Pages>(
+    alloc: Global,
+    settings: &Settings,
+    party: &Party,
+) -> Result<RunningParty<P>, AllocError>
+    requires batch { settings.now.batch ≤ 4096 }
+    requires home { party.now.home < 2 ^ 32 }
+    ensures { IfOk result (λ p. p ≡ party_made_for settings.now party.now) }
+{
+    let frame = Frame::new(alloc, settings, party.home as u32)?;
+    let live = Leases::new(alloc, party.commands.len())?;
+    let makers = makers_for(alloc, party)?;
+    Ok(RunningParty {
+        frame,
+        limits: party.limits,
+        store: makers.0,
+        heaps: makers.1,
+        keyed: false,
+        done: 0,
+        live,
+    })
+}
+
+// A party's store and its maker of heaps.
+fn makers_for(alloc: Global, party: &Party) -> Result<(ListedStore, ListedHeaps), AllocError>
+    ensures store { IfOk result (λ m. m.0 ≡ record { failing = party.now.gc_faults; made = 0; faults = 0 }) }
+    ensures heaps { IfOk result (λ m. m.1 ≡ record { failing = party.now.heap_faults; made = 0; faults = 0 }) }
+{
+    let store = store_for(alloc, party.gc_faults.as_slice())?;
+    Ok((store, heaps_for(alloc, party.heap_faults.as_slice())?))
 }
 
 /// A party's store, of which these calls fail.

@@ -8,9 +8,9 @@ pub returns-then-is_idle-clause-turn : goal.returns-then-is_idle-clause-turn
 returns-then-is_idle-clause-turn g c =
     let P : Type 0 = g.row.P.Denot in
     let p : RunningParty P = c.args.party.now in
-    let t : Turned P = record { core = c.begin_next.new.core; party = c.begin_next.new.party; reply = c.begin_next.result } in
+    let t : Turned P = record { core = c.begin_turn.new.core; party = c.begin_turn.new.party; reply = c.begin_turn.result } in
     let T : Bool → Type 0 = λ b. TurnsFrom (OpensAt b c.args.modules.now c.args.commands.now p) c.args.core.now p t in
-    subst T {x = true} {y = is_idle p.frame.phase} (sym (sym c.is_idle.ensures ∙ c.if-is_idle.true)) c.begin_next.ensures.turn
+    subst T {x = true} {y = is_idle p.frame.phase} (sym (sym c.is_idle.ensures ∙ c.if-is_idle.true)) c.begin_turn.ensures.turn
 
 pub returns-else-is_idle-clause-turn : goal.returns-else-is_idle-clause-turn
 returns-else-is_idle-clause-turn g c =

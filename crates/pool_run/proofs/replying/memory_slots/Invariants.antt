@@ -1,6 +1,6 @@
 use Rattle.std.proofs.Common.{◌≡◌, ◌≤◌, length, map, take}
 use Rattle.pool_alloc.specs.Leases.{Lease}
-use Rattle.pool_run.proofs.turn.memory_slots.Given as goal
+use Rattle.pool_run.proofs.replying.memory_slots.Given as goal
 
 -- the slots of the memories so far, with room for the rest
 abbrev pub invariant-loop-at : goal.invariant-loop-at
