@@ -1,4 +1,5 @@
 pub mod AffinePicks
+pub mod Allocated
 pub mod BeforeTheTurn
 pub mod BegunFrames
 pub mod ClosingSteps

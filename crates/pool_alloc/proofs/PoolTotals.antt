@@ -1,5 +1,5 @@
 -- Sums over the parts of the pool, one part after the other, each up to the end of its type.
-use Rattle.std.proofs.Common.{◌≡◌, ℕ, ◌+◌, ◌-◌, ◌^◌, ◌<◌, List, [], ◌∷◌, ◌++◌, length, take, get_or, sym, ap, ◌∙◌, arith, min, map}
+use Rattle.std.proofs.Common.{◌≡◌, ℕ, ◌+◌, ◌-◌, ◌^◌, ◌<◌, List, [], ◌∷◌, ◌++◌, length, take, get_or, sym, ap, ◌∙◌, arith, min, map, sum_by}
 use Rattle.pool_alloc.proofs.Imports.{take_more, map-append, sum_by_push, PageCalls, both, added, all_calls, sum_at_most, same_calls, slot_of, PoolPart}
 use Rattle.pool_alloc.specs.TableLeases.{LeasedTable}
 use Rattle.pool_alloc.specs.PoolTotals.{calls_of_leases, part_calls, calls_of_parts, calls_of_tables, table_calls}
@@ -7,6 +7,10 @@ use Rattle.pool_alloc.specs.Leases.{Lease}
 
 one_more : (s x t m : ℕ) → t ≡ s + x → min (min s m + x) m ≡ min t m
 one_more s x t m e = omega arith
+
+-- a sum up to some end, with one thing more
+pub sum_more : {X : Type 0} (of : X → ℕ) (m : ℕ) (xs : List X) (i : ℕ) (d : X) → i < length xs → min (min (sum_by of (take i xs)) m + of (get_or xs i d)) m ≡ min (sum_by of (take (i + 1) xs)) m
+sum_more of m xs i d inside = one_more _ _ _ m (ap (sum_by of) (take_more xs i d inside) ∙ sum_by_push of (take i xs) (get_or xs i d))
 
 -- the calls of one region more, or of several
 one_pushed : (of : PageCalls → ℕ) (calls : List PageCalls) (more : PageCalls) → both (sum_at_most of calls) (of more) ≡ sum_at_most of (calls ++ more ∷ [])

@@ -1,4 +1,5 @@
 use Rattle.std.proofs.Common.{◌≡◌, ◌<◌, List, length, refl, slice_index_or}
+use Rattle.std.proofs.Math.ListN.{length-set}
 use Rattle.std.proofs.lemmas.List.{get_or_read}
 use Rattle.pool_alloc.specs.Leases.{Lease}
 use Rattle.pool_alloc.proofs.leases.memory.ReservedList+MemoryLease+P.write.Goals as goal
@@ -10,3 +11,6 @@ returns g c =
     let inside : c.args.place < length xs = rw (← c.self.view_is) at c.requires in
     let read : (d : Lease) → l ≡ slice_index_or xs c.args.place d = λ d. get_or_read xs c.args.place l inside c.index_mut-lease.ensures.value d in
     rw (← c.self.view_is) (record { lease = c.write.new.self; change = λ d. rw (read d) at c.write.ensures; is = refl })
+
+pub invariant_of-self : goal.invariant_of-self
+invariant_of-self g c = (simp length-set c.self.invariant.0, c.self.invariant.1)
