@@ -111,6 +111,10 @@ module_of modules _ = None
 abbrev pub module_asked : Input → ℕ → ℕ → Option ModuleInfo
 module_asked input party command = slice_get input.parties party >>= (λ p. slice_get p.commands command >>= module_of input.modules)
 
+-- The text of a pool's reply to this command of this party.
+abbrev pub pool_reply_text : Input → ℕ → ℕ → Reply → List ℕ
+pool_reply_text input party command reply = reply_text Pooling (module_asked input party command) reply
+
 -- the line of the reply to a command of a party
 abbrev pub reply_line : Allocator → Input → ℕ → ℕ → Reply → List ℕ
 reply_line allocator input party command reply = decimal party ++ codes "." ++ decimal command ++ codes ": " ++ reply_text allocator (module_asked input party command) reply ++ line_feed

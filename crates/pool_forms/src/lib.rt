@@ -46,7 +46,7 @@ mod transfers;
 
 pub use json_input::{InputFault, read_input, read_shared};
 pub use memory_streams::{MemorySink, MemorySource};
-pub use print::{output_text, replies_text};
+pub use print::{output_text, push_pool_reply, replies_text};
 pub use print_load::load_text;
 pub use print_shared::shared_text;
 pub use standard_streams::{ReaderSource, WriterSink};

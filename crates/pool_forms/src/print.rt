@@ -1,6 +1,6 @@
 ghost use Rattle.std.specs.Prelude.{◌≡◌, ◌++◌, Some, codes, IfOk, OnOk, option_map, string_bytes};
 ghost use Rattle.pool_types.specs.UnsupportedTexts.{whole_text};
-ghost use Rattle.pool_forms.specs.Output.{numbers_text, bytes_text, one_line, refusal_text, no_stacks_text, alloc_error_text, denied_text, trap_text, grown_text, cont_text, element_text, reply_text, module_of, module_asked, reply_line, reply_lines, party_lines, named, named_or_none, live_text, warm_text, metrics_line, pages_line, output_text, replies_text};
+ghost use Rattle.pool_forms.specs.Output.{numbers_text, bytes_text, one_line, refusal_text, no_stacks_text, alloc_error_text, denied_text, trap_text, grown_text, cont_text, element_text, pool_reply_text, reply_text, module_of, module_asked, reply_line, reply_lines, party_lines, named, named_or_none, live_text, warm_text, metrics_line, pages_line, output_text, replies_text};
 
 use pool_alloc::{Element, Metrics};
 use pool_limits::Trap;
@@ -268,6 +268,21 @@ fn module_asked(input: &Input, party: usize, command: usize) -> Option<&ModuleIn
     let party = input.parties.as_slice().get(party)?;
     let command = party.commands.as_slice().get(command)?;
     module_of(input.modules.as_slice(), command)
+}
+
+/// Adds the text of a pool's reply to this command of this party.
+pub fn push_pool_reply(
+    alloc: Global,
+    out: &mut String,
+    input: &Input,
+    party: usize,
+    command: usize,
+    reply: &Reply,
+) -> Result<(), AllocError>
+    ensures { OnOk result (string_bytes out.new ≡ string_bytes out.old ++ reply_text Allocator.Pooling (module_asked input.now party command) reply.now) }
+{
+    let info = module_asked(input, party, command);
+    push_reply(alloc, out, Allocator::Pooling, info, reply)
 }
 
 fn push_reply_line(

@@ -1,8 +1,9 @@
 -- What is found in the bytes of an input.
-use Rattle.std.specs.Prelude.{◌≡◌, ℕ, List, Option, Some, None, Result, Ok, Err}
+use Rattle.std.specs.Prelude.{◌≡◌, ℕ, List, true, Option, Some, None, Result, Ok, Err}
 use Rattle.pool_types.specs.declared.bad_config.BadConfig.{BadConfig}
 use Rattle.pool_forms.specs.Reading.{Reading, not_built, invalid, accepted, reading, shared_reading}
-use Rattle.pool_run.specs.Built.{broken_rule}
+use Rattle.pool_run.specs.Built.{broken_rule, is_built}
+use Rattle.pool_run.specs.declared.input.Input.{Input}
 use Rattle.pool_run_shared.specs.Runs.{broken_page}
 use Rattle.pool_view.specs.declared.reading.Refusal.{Refusal}
 use Rattle.pool_view.specs.declared.reading.Refusal.TheVariants as refusal
@@ -52,3 +53,8 @@ abbrev pub status_of : Finding → Status
 status_of can_run = Success
 status_of no_input = BadInput
 status_of breaks_rule = BadSettings
+
+-- What is known of an input that was read from these bytes: it is the one that they are, and it asks for what is built.
+pub record IsInputOf (bytes : List ℕ) (input : Input) : Type 0 where
+  pub read : reading bytes ≡ accepted input
+  pub built : is_built input ≡ true

@@ -3,13 +3,16 @@ use Rattle.std.specs.Prelude.{ℕ, List, [], ◌∷◌, codes, if◌then◌else�
 use Rattle.std.specs.declared.alloc.Global.{Global}
 use Rattle.std.specs.Str.{bytes_eq}
 use Rattle.pool_view.specs.declared.words.Question.{Question}
-use Rattle.pool_view.specs.declared.words.Question.TheVariants.{Check, CheckShared, Explain}
+use Rattle.pool_view.specs.declared.words.Question.TheVariants.{Check, CheckShared, Explain, Trace, Summary, Chart}
 
--- What one word asks: `check` or `explain`.
+-- What one word asks.
 abbrev pub one_word : List ℕ → Option Question
 one_word word =
     if bytes_eq word (codes "check") then Some Check
     else if bytes_eq word (codes "explain") then Some Explain
+    else if bytes_eq word (codes "trace") then Some Trace
+    else if bytes_eq word (codes "summary") then Some Summary
+    else if bytes_eq word (codes "chart") then Some Chart
     else None
 
 -- What a word behind `check` asks: an input of a run on demand has the form and the rules of one of a run.

@@ -3,6 +3,7 @@
 
 // What the program does, and how it ends
 mod answer;
+mod runs;
 mod status;
 mod view_main;
 mod words;
@@ -21,6 +22,7 @@ mod shared_limits;
 mod tests;
 
 use pool_forms::{ReaderSource, WriterSink};
+use pool_view_steps::Printer;
 use status::Status;
 use std::alloc::{AllocError, Global};
 use std::env;
@@ -51,7 +53,7 @@ fn main(rt: HostRuntime) -> ExitCode {
         return ExitCode::from(Status::NoMemory as u8);
     };
     let mut source = ReaderSource::new(rt.stdin());
-    let mut sink = WriterSink::new(rt.stdout());
-    let status = view_main::view_main(alloc, words.as_slice(), &mut source, &mut sink);
+    let mut printer = Printer::new(alloc, WriterSink::new(rt.stdout()));
+    let status = view_main::view_main(alloc, words.as_slice(), &mut source, &mut printer);
     ExitCode::from(status as u8)
 }

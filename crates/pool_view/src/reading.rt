@@ -1,8 +1,8 @@
 ghost use Rattle.std.specs.Prelude.{◌≡◌, true, false, IfErr, IfOk};
-ghost use Rattle.pool_forms.specs.Reading.{reading_of_fit, shared_reading_of_fit};
+ghost use Rattle.pool_forms.specs.Reading.{accepted, reading_of_fit, shared_reading_of_fit};
 ghost use Rattle.pool_run.specs.Built.{broken_rule, is_built};
 ghost use Rattle.pool_run_shared.specs.Runs.{broken_page};
-ghost use Rattle.pool_view.specs.Findings.{Finds, Refuses, breaks_rule, finding, finding_of, no_input, shared_finding};
+ghost use Rattle.pool_view.specs.Findings.{Finds, IsInputOf, Refuses, breaks_rule, finding, finding_of, no_input, shared_finding};
 
 use crate::limits::walk_input;
 use crate::rules::problem_of_rule;
@@ -63,7 +63,8 @@ fn refusal_of_rule(alloc: Global, rule: BadConfig) -> Refusal
 
 /// The input, where it is valid and its settings break no rule.
 fn tested(alloc: Global, input: Input) -> Result<Input, Refusal>
-    ensures { Finds (finding_of broken_rule (reading_of_fit input)) result }
+    ensures finds { Finds (finding_of broken_rule (reading_of_fit input)) result }
+    ensures read { IfOk result (λ same. (same ≡ input) × (reading_of_fit input ≡ accepted input)) }
 {
     if !is_valid(&input) {
         return Err(refusal_of(alloc, walk_input(alloc, &input)));
@@ -79,7 +80,8 @@ fn tested(alloc: Global, input: Input) -> Result<Input, Refusal>
 
 /// The input of a run that the bytes are, where it can be run.
 pub fn input_of(alloc: Global, bytes: &[u8]) -> Result<Input, Refusal>
-    ensures { Finds (finding bytes.now) result }
+    ensures finds { Finds (finding bytes.now) result }
+    ensures of { IfOk result (IsInputOf bytes.now) }
 {
     match read_input(alloc, bytes) {
         Ok(input) => tested(alloc, input),

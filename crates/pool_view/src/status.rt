@@ -8,6 +8,8 @@ pub enum Status {
     BadInput = 3,
     /// The settings of the input break a rule.
     BadConfig = 4,
+    /// The input lists a failure without which it can't be run: the making of a region or of an image.
+    PageFault = 5,
     ReadFault = 6,
     WriteFault = 7,
     NoMemory = 8,

@@ -2,6 +2,7 @@ use crate::status::Status;
 use crate::view_main::view_main;
 use pool_forms::{MemorySink, MemorySource};
 use pool_types::{ByteList, PlainList};
+use pool_view_steps::Printer;
 use std::alloc::Global;
 use std::process::Abort;
 use std::test::Fail;
@@ -24,15 +25,16 @@ fn assert_ended(
     }
     let bytes = ByteList::from_vec(Vec::from_slice(alloc, input)?);
     let mut source = MemorySource::new(bytes, 7, PlainList::from_vec(vec![in alloc; read]?));
-    let mut sink = MemorySink::new(alloc, 10, PlainList::from_vec(vec![in alloc; write]?));
-    let ends = view_main(alloc, all.as_slice(), &mut source, &mut sink);
+    let sink = MemorySink::new(alloc, 10, PlainList::from_vec(vec![in alloc; write]?));
+    let mut printer = Printer::new(alloc, sink);
+    let ends = view_main(alloc, all.as_slice(), &mut source, &mut printer);
     assert_eq!(*rt; ends, status, "at {words}");
-    assert_eq!(*rt; sink.taken(), written.as_bytes(), "at {words}");
+    assert_eq!(*rt; printer.sink.taken(), written.as_bytes(), "at {words}");
     Ok(())
 }
 
 const USAGE: &str =
-    "usage: check | check on-demand | check shared | explain, with the input as standard input\n";
+    "usage: check | check on-demand | check shared | explain | trace | summary | chart, with the input as standard input\n";
 
 const LATER: &str =
     r#"{"parties":[{"commands":[{"do":"stack"},{"do":"size","of":2},{"do":"stack"}]}]}"#;

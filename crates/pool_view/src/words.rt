@@ -10,6 +10,12 @@ pub enum Question {
     CheckShared,
     /// What the settings of an input of a run come to.
     Explain,
+    /// What a run of it does, step by step.
+    Trace,
+    /// What it comes to.
+    Summary,
+    /// A picture of it.
+    Chart,
 }
 
 fn one_word(word: &str) -> Option<Question>
@@ -19,6 +25,12 @@ fn one_word(word: &str) -> Option<Question>
         Some(Question::Check)
     } else if word == "explain" {
         Some(Question::Explain)
+    } else if word == "trace" {
+        Some(Question::Trace)
+    } else if word == "summary" {
+        Some(Question::Summary)
+    } else if word == "chart" {
+        Some(Question::Chart)
     } else {
         None
     }

@@ -1,0 +1,4 @@
+pub mod Counts
+pub mod CountsText
+pub mod Lines
+pub mod Shown
