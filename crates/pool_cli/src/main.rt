@@ -28,6 +28,8 @@ mod closing_tests;
 #[cfg(test)]
 mod kind_tests;
 #[cfg(test)]
+mod on_demand_tests;
+#[cfg(test)]
 mod run_tests;
 #[cfg(test)]
 mod tests;

@@ -2,12 +2,13 @@
 -- commands.
 use Rattle.std.proofs.Common.{◌≡◌, ◌≢◌, ℕ, zero, suc, ◌+◌, ◌*◌, ◌<◌, ◌≤◌, Bool, true, false, List, [], ◌∷◌, ◌++◌, length, map, min, replicate, Option, Some, None, inl, inr, refl, sym, ap, ◌∙◌, subst, arith, ◌-◌, ◌==◌, if◌then◌else◌, IfSome, slice_get, slice_index_or, slice_set, sum}
 use Rattle.pool_run_on_demand.proofs.Imports.{min-eq_left, min-eq_right, cases_eq, cases_lt, nat_tests, get_or-set_at, get_or-set_other, get_or-map, get_or_append_left, get_or-append-add, length-append, length-set, length-map, length-replicate, sum_by-replicate, get_or-le-sum_by, sum_by-append, sum_by-set, MakerTold, Tunables, IsSameMaker, ModuleAsked, commands_of, replies_to, Terms, PrivateState, with_grants, no_grants, host_for, host_of, Host, World, under, open_host, world_of, commands_in, Command, Input, Party, Reply}
-use Rattle.pool_run_on_demand.specs.Faults.{StepsMeeting}
+use Rattle.pool_run_on_demand.specs.Faults.{StepsMeeting, ends_before_last, listed_from}
 use Rattle.pool_run_on_demand.specs.Left.{Spends, live_left}
 use Rattle.pool_run_on_demand.specs.Seen.{IsCallOnDemand, AreCallsOnDemand, state_seen}
 use Rattle.pool_run_on_demand.specs.Runs.{party_terms, parties_left, IsPartyReady, IsPartyOnDemand, IsPartyTurned, ArePartiesOnDemand, HaveStepped, HaveNone, HaveAll, replies_told, replies_due, steps_in, steps_of, steps_given, AreToldOnDemand}
 use Rattle.pool_run_on_demand.specs.declared.party.PartyOnDemand.{PartyOnDemand}
 use Rattle.pool_run_on_demand.proofs.Refused.{still_same}
+use Rattle.pool_run_on_demand.proofs.Reached.{counted_paid}
 use Rattle.pool_run_on_demand.proofs.Requests.{same_twice}
 use Rattle.pool_run_on_demand.proofs.Spending.{spends_none, spends_then, spends_beside, told_from}
 
@@ -312,7 +313,7 @@ module _ {M P : Type 0} (input : Input) where
     begun_told count parties are all i d below = (are.each i d (omega (arith, below, all))).1
 
   -- What the parties were told at the end.
-  module _ (maker now : MakerTold) (parties : Parties M P) (are : ArePartiesOnDemand (world_of input maker) input now parties) where
+  module _ (maker now : MakerTold) (own : ends_before_last maker.listed ≡ true) (parties : Parties M P) (are : ArePartiesOnDemand (world_of input maker) input now parties) where
     abbrev replies_of : List (List Reply)
     replies_of = map (λ p. p.told.items) parties
 
@@ -338,7 +339,7 @@ module _ {M P : Type 0} (input : Input) where
           let end : PrivateState = state_seen t.tells p.live.items p.store p.heaps in
           let Run : List Reply → Type 0 = λ replies. StepsMeeting t 0 (commands_at input i) replies (with_grants (no_grants (commands_at input i))) (slice_index_or are.met i 0) end in
           (end, subst Run (sym (told_at i d below)) (are.each i d below).run);
-      few = told_from maker.plan _ _ (λ plan paid ends. omega (arith, paid ends)) are.spent;
+      few = told_from maker.plan _ _ (λ plan paid counted. counted_paid maker plan (sum are.met) (parties_left parties) (listed_from now.next plan) own paid counted) are.spent;
       due = λ i below. let d = some_party i below in ap (λ (replies : List Reply). length replies) (told_at i d below) ∙ i_due i d below;
     }
 
@@ -356,5 +357,5 @@ pub record IsAtEnd {M P : Type 0} (w : World) (input : Input) (begun parties : L
   pub all : input.finish ≡ true → HaveAll input (length input.parties) parties
   pub stepped : input.finish ≡ false → HaveStepped input (steps_given input) begun parties
 
-pub told_at_end : {M P : Type 0} (input : Input) (maker : MakerTold) (begun parties : List (PartyOnDemand M P)) → HaveNone input begun → IsAtEnd (world_of input maker) input begun parties → AreToldOnDemand input maker (map (λ p. p.told.items) parties)
-told_at_end input maker begun parties none end = are_told input maker end.now parties end.are (due_by input maker end.now parties end.are input.finish begun none end.all end.stepped)
+pub told_at_end : {M P : Type 0} (input : Input) (maker : MakerTold) → ends_before_last maker.listed ≡ true → (begun parties : List (PartyOnDemand M P)) → HaveNone input begun → IsAtEnd (world_of input maker) input begun parties → AreToldOnDemand input maker (map (λ p. p.told.items) parties)
+told_at_end input maker own begun parties none end = are_told input maker end.now own parties end.are (due_by input maker end.now own parties end.are input.finish begun none end.all end.stepped)

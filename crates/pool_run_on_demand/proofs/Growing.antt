@@ -1,13 +1,15 @@
 -- What a growth on demand leaves of the calls that the maker's plan lists: a fault uses one up, and a memory that moves takes
 -- those on its new region with it.
 use Rattle.std.proofs.Common.{◌≡◌, ℕ, ◌+◌, ◌-◌, ◌^◌, ◌<◌, ◌≤◌, Bool, true, false, List, [], ◌∷◌, length, min, Option, Some, None, Result, Ok, Err, inl, inr, refl, sym, ap, ◌∙◌, subst, arith, nat_lt, nat_le, if◌then◌else◌, ◌==◌, ◌||◌, ◌&&◌, not, IfSome, OnOk, OnErr, count_by}
-use Rattle.pool_run_on_demand.proofs.Imports.{list_all, list_any, and_parts, or_from, cases_lt, lt-ltb, nat_tests, one_at_most, MakerTold, Planned, calls_of, part_of, plan_for, fails_making, rounded_up, Told, PageCall, passes, risen, allow_growth_to, minimum_byte_size, MemoryType, RegionName, rounded_up_above, Slot, raised, raising, limited, one_if, GrowthRule, GrowthGiven, is_want_of_memory, report_result, result_by, pages_result, answer_result, AnswerMakes, MakesBy, GrowError, GrowFault, LimiterError, Trap, asked_same, OnlyWritten, IsBetween, InPlace, IsCallPlanned, GrowsTo, IsFailureOf, FailsInPlace, IsUngrown, moved_room, grown_size, exceeds, past_room, PagesLeave, AnswerLeaves, LeavesBy, Layout, layout_len, layout_of, first_room, first_layout, moved_layout, Storage, in_slot, stored, is_listed, storage_written, Linear, maximum_asked, MemoryState, memory_written, next_name, region_for, slot_of_region, slot_for, first_call, IsAsked, IsMadeFor, MakingFails, FirstCallFails, PlaceLeaves, CallLeaves, MakerLeft, grows, growth_reply, PrivateMemory, GrowthEnd, growth, Reply, ended_by, ended_by_rule}
+use Rattle.pool_run_on_demand.proofs.Imports.{list_all, list_any, and_parts, or_from, cases_lt, lt-ltb, nat_tests, one_at_most, MakerTold, Planned, calls_of, part_of, plan_for, fails_making, rounded_up, Told, PageCall, passes, risen, allow_growth_to, minimum_byte_size, MemoryType, RegionName, rounded_up_above, Slot, raised, raising, limited, one_if, GrowthRule, GrowthGiven, is_want_of_memory, report_result, result_by, pages_result, answer_result, AnswerMakes, MakesBy, GrowError, GrowFault, LimiterError, Trap, asked_same, OnlyWritten, IsBetween, InPlace, IsCallPlanned, GrowsTo, IsFailureOf, FailsInPlace, IsUngrown, moved_room, grown_size, past_room, PagesLeave, AnswerLeaves, LeavesBy, Layout, layout_len, layout_of, first_room, first_layout, moved_layout, Storage, in_slot, stored, is_listed, storage_written, Linear, MemoryState, memory_written, next_name, region_for, slot_of_region, slot_for, first_call, IsAsked, IsMadeFor, MakingFails, FirstCallFails, PlaceLeaves, CallLeaves, MakerLeft, grows, growth_reply, PrivateMemory, GrowthEnd, growth, Reply, ended_by, ended_by_rule}
 use Rattle.pool_limits.specs.declared.errors.GrowError.TheVariants as failed
 use Rattle.pool_run_on_demand.specs.Faults.{listed_from, ends_before_last, moved_len, has_region, is_free, is_none}
 use Rattle.pool_run_on_demand.specs.Left.{calls_left, place_left, memory_left, Laying, EndBeforeLast, LaidIn, IsLaid, Spends, MemorySpends}
-use Rattle.pool_run_on_demand.specs.Seen.{seen_made, IsHeld, GrowsByRule}
-use Rattle.pool_run_on_demand.proofs.Moves.{past_seen}
-use Rattle.pool_run_on_demand.proofs.Spending.{counted_first, numbers_once, once_some, once_any, once_all, numbered, told_from, spends_none, same_spends, listed_on, part_ends, part_left}
+use Rattle.pool_run_on_demand.specs.OnDemand.{most_between}
+use Rattle.pool_run_on_demand.specs.Seen.{layout_in, seen_made, IsHeld, GrowsByRule}
+use Rattle.pool_run_on_demand.proofs.Moves.{SeesRoom, past_seen, sees_room}
+use Rattle.pool_run_on_demand.proofs.Places.{has_less, limited_layout, slot_for_layout}
+use Rattle.pool_run_on_demand.proofs.Spending.{counted_first, numbers_once, once_some, once_any, once_all, numbered, told_from, spends_none, fewer_spends, same_spends, listed_on, part_ends, part_left}
 
 -- A call on a region uses up its own entry, if it is listed, and no other.
 either_counts : (a b : Bool) → one_if (a || b) ≤ one_if a + one_if b
@@ -64,19 +66,9 @@ slot_left : (more : Bool) (n : ℕ) (s : Slot) → AreNumbered s.region.plan →
 slot_left true n s all = call_left s.region.plan s.region.made ((raising n s).len == 0) all
 slot_left false n s all = omega arith
 
-slot_layout : (more : Bool) (n : ℕ) (s : Slot) → layout_of (if more then raised n s else s) ≡ layout_of s
-slot_layout true n s = refl
-slot_layout false n s = refl
-
 slot_plan : (more : Bool) (n : ℕ) (s : Slot) → (if more then raised n s else s).region.plan ≡ s.region.plan
 slot_plan true n s = refl
 slot_plan false n s = refl
-
-abbrev has_less : ℕ → Slot → Bool
-has_less size s = nat_lt s.accessible.bytes (rounded_up s.region.page size)
-
-limited_layout : (size : ℕ) (s : Slot) → layout_of (limited size s) ≡ layout_of s
-limited_layout size s = slot_layout (has_less size s) (rounded_up s.region.page size) s
 
 limited_plan : (size : ℕ) (s : Slot) → (limited size s).region.plan ≡ s.region.plan
 limited_plan size s = slot_plan (has_less size s) (rounded_up s.region.page size) s
@@ -153,13 +145,6 @@ region_spends before after met left few asked lists =
     let next = asked_next before after asked in
     told_from before.plan (λ plan. 0 < length (calls_of (next_name before) plan)) (λ plan. ends_before_last plan ≡ true → met + (left + listed_from after.next plan) ≤ left + listed_from before.next plan)
     (λ plan some ends. omega (arith, few, once_some (calls_of (next_name before) plan) some, listed_on plan before.next after.next before.next ends next.0 next.1)) lists
-
--- how the region is laid out that a slot is made in
-made_layout : (m : MakerTold) (l : Layout) → layout_of (slot_of_region (region_for m l) l) ≡ l
-made_layout m l = let guard : l.before + l.capacity + l.guard - l.capacity - l.before ≡ l.guard = omega arith in ap (λ (n : ℕ). record l { guard = n }) guard
-
-slot_for_layout : (m : MakerTold) (l : Layout) (size : ℕ) → layout_of (slot_for m l size) ≡ l
-slot_for_layout m l size = limited_layout size (slot_of_region (region_for m l) l) ∙ made_layout m l
 
 -- What has no room for a size has less than whole pages for it.
 more_room : (page n size extra : ℕ) → rounded_up page n < size → rounded_up page n ≤ rounded_up page size + rounded_up page extra
@@ -366,6 +351,20 @@ module _ (y : Laying) (size : ℕ) (m : MemoryState) (new : Linear) (before afte
   by_growth false true past g is left = unasked (growth_reply (result_by m.linear.size false true past g)) is left
   by_growth false false past g is left = by_answer past g.answer g.failure g.report is left
 
+  -- Fewer growths are free where more sizes are past the room.
+  fewer_free : (nothing past_type past sees : Bool) (answer : Result Bool LimiterError) (report : Result (Unit {0}) LimiterError) (reply : Reply) → (past ≡ true → sees ≡ true) → Spent (free nothing past_type past answer report) reply → Spent (free nothing past_type sees answer report) reply
+  fewer_free true past_type past sees answer report reply is spent = spent
+  fewer_free false true past sees answer report reply is spent = spent
+  fewer_free false false past sees (Err e) report reply is spent = spent
+  fewer_free false false past sees (Ok false) report reply is spent = spent
+  fewer_free false false past true (Ok true) report reply is spent = (spent.0, fewer_spends before after (one_if (is_none reply && (free false false past (Ok true) report && fits))) (one_if (is_none reply && (false && fits))) (place_left m.linear.storage) (place_left new.storage) (omega (arith, none_counts (is_none reply))) spent.1)
+  fewer_free false false true false (Ok true) report reply is spent = absurd (cc (is refl))
+  fewer_free false false false false (Ok true) report reply is spent = spent
+
+sees_past : (past sees : Bool) (most size : ℕ) → SeesRoom past sees most size → past ≡ true → sees ≡ true
+sees_past past sees most size (inl same) is = sym same ∙ is
+sees_past past sees most size (inr over) is = over.1.0
+
 -- So the plan pays for a growth.
 pub grows_spends : (tells : Bool) (rule : GrowthRule) (pages : ℕ) (m new : MemoryState) (before after : MakerTold) (answer : Result (Option ℕ) GrowFault) → IsHeld tells m → GrowsByRule rule pages m new before after answer → MemorySpends tells (grows pages) rule before after m new (growth_reply answer)
 grows_spends tells rule pages m new before after answer held is y same laid =
@@ -375,13 +374,12 @@ grows_spends tells rule pages m new before after answer held is y same laid =
     let was : PrivateMemory = seen_made tells m in
     let nothing : Bool = pages == 0 in
     let past_type : Bool = not (allow_growth_to m.ty size) in
-    let past : Bool = exceeds (maximum_asked m.ty) size || nat_lt was.capacity size in
-    let here : past_room size m ≡ past = past_seen tells pages m held in
-    let By : Bool → Type 0 = λ b. LeavesBy nothing past_type b g size m.linear new.linear in
-    let Left : Bool → Type 0 = λ b. MakesBy (Some after ≡ Some before) (MakerLeft None size m.linear new.linear (Some before) (Some after)) (λ e. MakerLeft (Some e) size m.linear new.linear (Some before) (Some after)) nothing past_type b g in
-    let spent = by_growth y size m new.linear before after same laid nothing past_type past g (subst By here growth_is.linear) (subst Left here is.5) in
-    let ends : is_free (ended_by m.linear.size nothing past_type past g.answer g.report false).0 ≡ is_free (growth rule false pages was).0 = ap (λ (p : GrowthEnd × Reply). is_free p.0) (ended_by_rule rule is.1.rule pages was g.answer g.report false is.3 growth_is.ruled.answer growth_is.ruled.report) in
-    let replies : growth_reply answer ≡ growth_reply (result_by m.linear.size nothing past_type past g) = ap growth_reply (growth_is.ruled.replies ∙ ap (λ (b : Bool). result_by m.linear.size nothing past_type b g) here) in
+    let past : Bool = past_room size m in
+    let sees : Bool = past_seen tells pages m in
+    let spent_free = by_growth y size m new.linear before after same laid nothing past_type past g growth_is.linear is.5 in
+    let spent = fewer_free y size m new.linear before after same laid nothing past_type past sees g.answer g.report (growth_reply (result_by m.linear.size nothing past_type past g)) (sees_past past sees (most_between (layout_in m.linear.storage)) size (sees_room tells pages m)) spent_free in
+    let ends : is_free (ended_by m.linear.size nothing past_type sees g.answer g.report false).0 ≡ is_free (growth rule false pages was).0 = ap (λ (p : GrowthEnd × Reply). is_free p.0) (ended_by_rule rule is.1.rule pages was g.answer g.report false is.3 growth_is.ruled.answer growth_is.ruled.report) in
+    let replies : growth_reply answer ≡ growth_reply (result_by m.linear.size nothing past_type past g) = ap growth_reply growth_is.ruled.replies in
     let Spent : MemoryType → Bool → Reply → Type 0 =
     λ ty free reply. LaidIn y ty new.linear.extra new.linear.capacity new.linear.storage × Spends before after (one_if (is_none reply && (free && has_region y.page y.tunables m.ty size))) (memory_left m) (memory_left new) in
     let ty : new.ty ≡ m.ty = ap (λ (x : MemoryState). x.ty) growth_is.memory in

@@ -16,7 +16,7 @@ module _ (t : Terms) {R : Type 0} (told : R → LimiterTold) (leads : R → Exch
   decl = (heap_memory ty).decl
 
   begins : IsStage (heap_terms t) told leads M L from
-  begins = record { ruled = ruled; for = record { tells = for.tells; page = for.page } }
+  begins = record { ruled = ruled; for = record { tells = for.tells; page = for.page; paged = for.paged } }
 
   pub heap_memory_answered : (result : Result (OnDemandMemory M L) AllocError) → IsTurn (heap_terms t) told leads M L None ty result from to → AnswersHeapMemory t ty result
   heap_memory_answered (Ok lease) turn =

@@ -1,6 +1,6 @@
 -- What the files of proofs/ import from the crates below and from std, but for std's plainest words.
 pub use Rattle.std.proofs.Math.Nat.{div-eq_of_lt, min-eq_left, min-eq_right}
-pub use Rattle.std.proofs.lemmas.Bool.{and_from, and_parts, cases_eq, cases_lt, leb-true, lt-ltb, ltb-false, or_from}
+pub use Rattle.std.proofs.lemmas.Bool.{and_from, and_parts, cases_eq, cases_lt, leb-true, lt-ltb, ltb-false, ltb-true, or_from}
 pub use Rattle.std.proofs.lemmas.Bool.Decides.{nat_tests}
 pub use Rattle.std.proofs.lemmas.Grind.{get_or-set_at}
 pub use Rattle.std.proofs.lemmas.List.{get_or-append-add, get_or-map, get_or-set_other, get_or-set_same, get_or_append_left, length-append, length-map, length-replicate, length-set, map-set, places, replicate_more, same_lists, set-get_or, set-set}

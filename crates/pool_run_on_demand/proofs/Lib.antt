@@ -13,6 +13,8 @@ pub mod Moves
 pub mod OtherReplies
 pub mod Paid
 pub mod Parties
+pub mod Places
+pub mod Reached
 pub mod Refused
 pub mod Requests
 pub mod Spending

@@ -1,8 +1,9 @@
 -- A memory as it is made on demand is to the party as private ones begin.
-use Rattle.std.proofs.Common.{◌≡◌, ℕ, ◌+◌, ◌-◌, ◌^◌, ◌<◌, ◌≤◌, ◌%◌, Bool, true, false, List, length, replicate, Option, Some, None, refl, sym, ap, ◌∙◌, arith, is_some, ◌==◌, ◌&&◌, if◌then◌else◌, IfSome}
-use Rattle.pool_run_on_demand.proofs.Imports.{length-replicate, second_true, told_weaker, mapped_some, MakerTold, page_size, minimum_byte_size, memory_may_move, MemoryDecl, MemoryTunables, MemoryType, Image, start, SlotIdentity, room_for_page, Design, LiesIn, HasPage, in_regions, default_design, mapped_design, malloc_design, IsDynamic, Layout, Storage, in_slot, stored, slot_in, Linear, linear_bytes, first_bytes, maximum_asked, MemoryState, takes_image, has_whole_pages, BeginsWith, PrivateMemory, Terms}
-use Rattle.pool_run_on_demand.specs.OnDemand.{image_taken, room_on_demand, made_memory}
-use Rattle.pool_run_on_demand.specs.Seen.{seen_made, IsHeld, IsMakerFor}
+use Rattle.std.proofs.Common.{◌≡◌, ℕ, ◌+◌, ◌-◌, ◌^◌, ◌<◌, ◌≤◌, ◌%◌, Bool, true, false, List, length, replicate, Option, Some, None, refl, sym, ap, ◌∙◌, subst, arith, is_some, ◌==◌, ◌&&◌, if◌then◌else◌, IfSome}
+use Rattle.pool_run_on_demand.proofs.Imports.{length-replicate, second_true, told_weaker, mapped_some, MakerTold, page_size, minimum_byte_size, memory_may_move, MemoryDecl, MemoryTunables, MemoryType, Image, start, SlotIdentity, room_for_page, Design, LiesIn, HasPage, in_regions, default_design, default_refusal, mapped_design, malloc_design, IsDynamic, Layout, Storage, in_slot, stored, slot_in, Linear, linear_bytes, first_bytes, maximum_asked, MemoryState, takes_image, has_whole_pages, BeginsWith, PrivateMemory, Terms}
+use Rattle.pool_run_on_demand.specs.OnDemand.{most_between, image_taken, room_on_demand, made_memory}
+use Rattle.pool_run_on_demand.specs.Seen.{layout_in, seen_made, HasAddresses, IsHeld, IsMakerFor}
+use Rattle.pool_run_on_demand.proofs.Places.{begun_layout, design_addresses, lies_layout}
 use Rattle.pool_run_on_demand.proofs.Moves.{put_long}
 
 some_told : {X : Type 0} (o : Option X) (x : X) → is_some o ≡ true → IfSome o (λ y. y ≡ x) → o ≡ Some x
@@ -104,19 +105,30 @@ module _ (t : Terms) where
     size_is : m.linear.size ≡ least
     size_is = (begun_sizes (takes_image is.made) image is.made m.linear is.begins).0 ∙ is.as_made.size
 
+    capacity_is : m.linear.capacity ≡ (design_of decl.ty).capacity
+    capacity_is = (begun_sizes (takes_image is.made) image is.made m.linear is.begins).1 ∙ is.designed.capacity
+
+    lies : layout_in m.linear.storage ≡ (design_of decl.ty).layout
+    lies = begun_layout (takes_image is.made) image is.made m.linear refl is.begins ∙ lies_layout (design_of decl.ty).layout is.made.storage is.designed.place
+
     pub made_seen : seen_made t.tells m ≡ made_memory t (record { decl = decl; image = image })
     made_seen =
-        let capacity : m.linear.capacity ≡ (design_of decl.ty).capacity = (begun_sizes (takes_image is.made) image is.made m.linear is.begins).1 ∙ is.designed.capacity in
         let Parts : MemoryType → ℕ → ℕ → Option (List ℕ) → PrivateMemory = λ ty size n b. record { slot = 2 ^ 32 - 1; ty = ty; size = size; capacity = n; bytes = b } in
         let told : Option (List ℕ) = if t.tells then linear_bytes m.linear else None in
-        ap (λ (ty : MemoryType). Parts ty m.linear.size (if m.may_move then 2 ^ 64 else m.linear.capacity) told) is.of_type
-        ∙ ap (λ (n : ℕ). Parts decl.ty n (if m.may_move then 2 ^ 64 else m.linear.capacity) told) size_is
-        ∙ ap (λ (b : Bool). Parts decl.ty least (if b then 2 ^ 64 else m.linear.capacity) told) may
-        ∙ ap (λ (n : ℕ). Parts decl.ty least (if memory_may_move decl.ty t.settings.tunables then 2 ^ 64 else n) told) capacity
+        let most : Option Layout → ℕ = most_between in
+        ap (λ (ty : MemoryType). Parts ty m.linear.size (if m.may_move then most (layout_in m.linear.storage) else m.linear.capacity) told) is.of_type
+        ∙ ap (λ (n : ℕ). Parts decl.ty n (if m.may_move then most (layout_in m.linear.storage) else m.linear.capacity) told) size_is
+        ∙ ap (λ (b : Bool). Parts decl.ty least (if b then most (layout_in m.linear.storage) else m.linear.capacity) told) may
+        ∙ ap (λ (o : Option Layout). Parts decl.ty least (if memory_may_move decl.ty t.settings.tunables then most o else m.linear.capacity) told) lies
+        ∙ ap (λ (n : ℕ). Parts decl.ty least (if memory_may_move decl.ty t.settings.tunables then most (design_of decl.ty).layout else n) told) capacity_is
         ∙ ap (Parts decl.ty least (room_on_demand t decl.ty)) (tells_if t.tells (linear_bytes m.linear) (start (image_taken t.settings.page least image) least) bytes)
 
-    pub made_held : IsHeld t.tells m
-    made_held = record {
+    pub made_held : default_refusal t.settings.page t.settings.tunables least ≡ None → IsHeld t.tells m
+    made_held made = record {
       room = let fits = room_for_page decl.ty.limits.min decl.ty.page_size_log2 log small in omega (arith, fits, size_is, ap page_size is.of_type);
+      addresses =
+          let Has : ℕ → Option Layout → Type 0 = HasAddresses in
+          let designed = design_addresses (in_regions t.settings.tunables) t.settings.page t.settings.tunables least (maximum_asked decl.ty) (subst (λ (n : ℕ). 0 < n) (sym for.page) for.paged) made in
+          subst (Has m.linear.capacity) (sym lies) (subst (λ (n : ℕ). Has n (design_of decl.ty).layout) (sym capacity_is) designed);
       told = λ say. (start (image_taken t.settings.page least image) least, (bytes say, start_whole least (image_taken t.settings.page least image) (taken_fits (least % t.settings.page == 0) image (λ i. i.offset + length i.bytes ≤ least) (told_weaker (IsGood decl.ty) (λ i. i.offset + length i.bytes ≤ least) image (λ i g. g.0) good)) ∙ sym size_is));
     }

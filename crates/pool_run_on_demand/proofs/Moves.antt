@@ -1,11 +1,12 @@
 -- What a write and a growth make of a memory on demand, as the party sees it. A growth ends as the rule of its limiter says,
 -- but that it may find no memory; and it leaves the maker the same.
 use Rattle.std.proofs.Common.{◌≡◌, ℕ, ◌+◌, ◌-◌, ◌^◌, ◌<◌, ◌≤◌, Bool, true, false, List, ◌++◌, length, take, replicate, Option, Some, None, Result, Ok, Err, ◌⊎◌, inl, inr, refl, sym, ap, ◌∙◌, subst, arith, nat_lt, nat_le, is_some, ◌==◌, ◌||◌, ◌&&◌, not, if◌then◌else◌, IfSome, option_map, slice_range, OnOk, OnErr}
-use Rattle.pool_run_on_demand.proofs.Imports.{cases_lt, lt-ltb, ltb-false, leb-true, nat_tests, same_lists, places, length-append, length-replicate, pow_pos, mapped_some, Contents, put, written, MakerTold, page_size, allow_growth_to, MemoryType, Slot, raised, GrowthRule, GrowthGiven, Obstacles, is_want_of_memory, report_result, result_by, pages_result, answer_result, AnswerMakes, MakesBy, GrowError, GrowFault, LimiterError, Trap, MemoryOutOfBounds, asked_same, IsSameMaker, InPlace, GrowsTo, IsUngrown, StaysTold, grown_size, exceeds, obstacles, past_room, PagesLeave, AnswerLeaves, LeavesBy, Layout, layout_of, moved_layout, Storage, in_slot, stored, slot_in, Linear, linear_bytes, first_bytes, storage_written, maximum_asked, MemoryState, memory_written, access_answer, CallLeaves, MakerLeft, MoveLeaves, PlaceLeaves, grows, growth_reply, write_reply, PrivateMemory, IsRead, Writes, private_written, GrowthEnd, as_it_was, has_grown, growth, left_of, Reply, Bytes, Grown, Refused, trapped, Alloc, seen_as, take_put, tried_by, ended_by, ended_by_rule, reported_seen, right_of}
+use Rattle.pool_run_on_demand.proofs.Imports.{cases_lt, lt-ltb, ltb-false, ltb-true, leb-true, nat_tests, same_lists, places, length-append, length-replicate, pow_pos, mapped_some, Contents, put, written, MakerTold, page_size, allow_growth_to, MemoryType, Slot, raised, GrowthRule, GrowthGiven, Obstacles, is_want_of_memory, report_result, result_by, pages_result, answer_result, AnswerMakes, MakesBy, GrowError, GrowFault, LimiterError, Trap, MemoryOutOfBounds, asked_same, IsSameMaker, InPlace, GrowsTo, IsUngrown, StaysTold, grown_size, exceeds, obstacles, past_room, PagesLeave, AnswerLeaves, LeavesBy, Layout, layout_of, moved_layout, Storage, in_slot, stored, slot_in, Linear, linear_bytes, first_bytes, storage_written, maximum_asked, MemoryState, memory_written, access_answer, CallLeaves, MakerLeft, MoveLeaves, PlaceLeaves, grows, growth_reply, write_reply, PrivateMemory, IsRead, Writes, private_written, GrowthEnd, as_it_was, has_grown, growth, left_of, Reply, Bytes, Grown, Refused, trapped, Alloc, seen_as, take_put, tried_by, ended_by, ended_by_rule, reported_seen, right_of}
 use Rattle.pool_limits.specs.declared.errors.GrowError.TheVariants as failed
 use Rattle.pool_slots.specs.declared.errors.AllocError.TheVariants as alloc
-use Rattle.pool_run_on_demand.specs.OnDemand.{MovesOnDemand}
-use Rattle.pool_run_on_demand.specs.Seen.{seen_made, IsHeld, GrowsByRule}
+use Rattle.pool_run_on_demand.specs.OnDemand.{most_between, MovesOnDemand}
+use Rattle.pool_run_on_demand.specs.Seen.{layout_in, seen_made, HasAddresses, IsHeld, GrowsByRule}
+use Rattle.pool_run_on_demand.proofs.Places.{grown_within, overflows, past_capacity, ungrown_within, written_layout}
 
 -- The maker is the same after a growth, and may have been asked for a region.
 still : (before after : MakerTold) → after ≡ before → IsSameMaker before after
@@ -87,9 +88,9 @@ place_capacity : (size : ℕ) (old new : Linear) (st : Storage) → InPlace size
 place_capacity size old new (in_slot s) is = ap (λ (l : Linear). l.capacity) is
 place_capacity size old new (stored len bytes) is = is
 
-room_same : (b : Bool) (n k : ℕ) → (b ≡ false → n ≡ k) → (if b then 2 ^ 64 else n) ≡ (if b then 2 ^ 64 else k)
-room_same true n k same = refl
-room_same false n k same = same refl
+room_same : (b : Bool) (most m n k : ℕ) → most ≡ m → (b ≡ false → n ≡ k) → (if b then most else n) ≡ (if b then m else k)
+room_same true most m n k room same = room
+room_same false most m n k room same = same refl
 
 bytes_if : (tells : Bool) (f : List ℕ → List ℕ) (o p : Option (List ℕ)) → (tells ≡ true → p ≡ option_map f o) → (if tells then p else None) ≡ option_map f (if tells then o else None)
 bytes_if true f o p is = is refl
@@ -97,6 +98,11 @@ bytes_if false f o p is = refl
 
 abbrev pub seen_as_parts : MemoryState → ℕ → ℕ → Option (List ℕ) → PrivateMemory
 seen_as_parts m size capacity bytes = record { slot = 2 ^ 32 - 1; ty = m.ty; size = size; capacity = capacity; bytes = bytes }
+
+-- What is past a memory's room and what is past it as the party sees it are the same, or a size is past all that a region can
+-- have.
+abbrev pub SeesRoom : Bool → Bool → ℕ → ℕ → Type 0
+SeesRoom past sees most size = (past ≡ sees) ⊎ ((past ≡ false) × ((sees ≡ true) × (most < size)))
 
 module _ (tells : Bool) (size : ℕ) (m : MemoryState) (new : Linear) (held : IsHeld tells m) where
   abbrev left_as : MemoryState
@@ -125,15 +131,19 @@ module _ (tells : Bool) (size : ℕ) (m : MemoryState) (new : Linear) (held : Is
       let Left : GrowthEnd × Reply → PrivateMemory × Reply = λ p. (left_of p.0 size was, p.1) in
       (inl (false, ap (λ (p : PrivateMemory). (p, reply)) seen ∙ sym (ap Left is)), subst Held (sym same) held)
 
+  abbrev most_now : Linear → ℕ
+  most_now l = most_between (layout_in l.storage)
+
   ungrown_seen : (e : GrowError) → IsUngrown e size m.linear new → seen_made tells left_as ≡ was
   ungrown_seen e is =
-      ap (λ (n : ℕ). seen_as_parts m n (if m.may_move then 2 ^ 64 else new.capacity) (if tells then linear_bytes new else None)) is.same_size
-      ∙ ap (λ (n : ℕ). seen_as_parts m m.linear.size (if m.may_move then 2 ^ 64 else n) (if tells then linear_bytes new else None)) is.capacity
-      ∙ ap (λ (b : Option (List ℕ)). seen_as_parts m m.linear.size (if m.may_move then 2 ^ 64 else m.linear.capacity) (if tells then b else None)) is.bytes
+      ap (λ (n : ℕ). seen_as_parts m n (if m.may_move then most_now new else new.capacity) (if tells then linear_bytes new else None)) is.same_size
+      ∙ ap (λ (n : ℕ). seen_as_parts m m.linear.size n (if tells then linear_bytes new else None)) (room_same m.may_move (most_now new) (most_now m.linear) new.capacity m.linear.capacity (ungrown_within size m.linear new held.addresses e is).0 (λ stays. is.capacity))
+      ∙ ap (λ (b : Option (List ℕ)). seen_as_parts m m.linear.size (if m.may_move then most_now m.linear else m.linear.capacity) (if tells then b else None)) is.bytes
 
   ungrown_held : (e : GrowError) → IsUngrown e size m.linear new → IsHeld tells left_as
   ungrown_held e is = record {
     room = omega (arith, is.same_size, held.room);
+    addresses = (ungrown_within size m.linear new held.addresses e is).1;
     told = λ say. let t = held.told say in (t.0, (is.bytes ∙ t.1.0, t.1.1 ∙ sym is.same_size));
   }
 
@@ -159,13 +169,14 @@ module _ (tells : Bool) (size : ℕ) (m : MemoryState) (new : Linear) (held : Is
     grown_seen : GrowsTo size m.linear new → MakerLeft None size m.linear new (Some before) (Some after) → seen_made tells left_as ≡ left_of has_grown size was
     grown_seen is left =
         let capacity : m.may_move ≡ false → new.capacity ≡ m.linear.capacity = λ stays. place_capacity size m.linear new m.linear.storage (is.in_place (within stays)) in
-        ap (λ (n : ℕ). seen_as_parts m n (if m.may_move then 2 ^ 64 else new.capacity) (if tells then linear_bytes new else None)) is.same_size
-        ∙ ap (λ (n : ℕ). seen_as_parts m size n (if tells then linear_bytes new else None)) (room_same m.may_move new.capacity m.linear.capacity capacity)
-        ∙ ap (seen_as_parts m size (if m.may_move then 2 ^ 64 else m.linear.capacity)) (bytes_if tells zeros (linear_bytes m.linear) (linear_bytes new) (grown_bytes is left))
+        ap (λ (n : ℕ). seen_as_parts m n (if m.may_move then most_now new else new.capacity) (if tells then linear_bytes new else None)) is.same_size
+        ∙ ap (λ (n : ℕ). seen_as_parts m size n (if tells then linear_bytes new else None)) (room_same m.may_move (most_now new) (most_now m.linear) new.capacity m.linear.capacity (grown_within size m.linear new held.addresses before after is left).0 capacity)
+        ∙ ap (seen_as_parts m size (if m.may_move then most_now m.linear else m.linear.capacity)) (bytes_if tells zeros (linear_bytes m.linear) (linear_bytes new) (grown_bytes is left))
 
     grown_held : GrowsTo size m.linear new → MakerLeft None size m.linear new (Some before) (Some after) → IsHeld tells left_as
     grown_held is left = record {
       room = omega (arith, is.same_size, room);
+      addresses = (grown_within size m.linear new held.addresses before after is left).1;
       told = λ say.
           let t = held.told say in
           let long : length (zeros t.0) ≡ length t.0 + length (replicate {A = ℕ} (size - m.linear.size) 0) = length-append t.0 (replicate {A = ℕ} (size - m.linear.size) 0) in
@@ -191,21 +202,64 @@ module _ (tells : Bool) (size : ℕ) (m : MemoryState) (new : Linear) (held : Is
   growth_end false true past g before after same within more room is left = unchanged _ (ends false true past g.answer g.report) (ap (λ (r : Reply). (as_it_was, r)) (sym (reported_seen g.report))) is
   growth_end false false past g before after same within more room is left = answer_end before after same past within more room g.answer g.failure g.report is left
 
+  -- Past all that a region can have it ends as one past the memory's room: its pages fail, by the size of the region.
+  module _ (before after : MakerTold) (past : most_now m.linear < size) (small : size < 2 ^ 64) where
+    over_end : (failure : Option GrowError) (report : Result (Unit {0}) LimiterError) → PagesLeave failure size m.linear new → MakerLeft failure size m.linear new (Some before) (Some after) → EndsMade (growth_reply (pages_result m.linear.size failure report)) (ends false false true (Ok true) report)
+    over_end failure report is left =
+        let Ends : Option GrowError → Type 0 = λ f. PagesLeave f size m.linear new → EndsMade (growth_reply (pages_result m.linear.size f report)) (ends false false true (Ok true) report) in
+        let over : failure ≡ Some failed.Overflow = (overflows size m.linear new held.addresses before after failure past small left).0 in
+        let here : m.linear.capacity < size = past_capacity size m.linear.capacity (layout_in m.linear.storage) held.addresses past small in
+        subst Ends (sym over) (λ fails. unchanged _ (ends false false true (Ok true) report) (ap (λ (r : Reply). (as_it_was, r)) (sym (reported_seen report))) (fails.stays here)) is
+
+    over_answer : (answer : Result Bool LimiterError) (failure : Option GrowError) (report : Result (Unit {0}) LimiterError) → AnswerLeaves false answer failure size m.linear new
+        → AnswerMakes (Some after ≡ Some before) (MakerLeft None size m.linear new (Some before) (Some after)) (λ e. MakerLeft (Some e) size m.linear new (Some before) (Some after)) false answer failure
+        → EndsMade (growth_reply (answer_result m.linear.size false answer failure report)) (ends false false true answer report)
+    over_answer (Err e) failure report is left = unchanged _ (ends false false true (Err e) report) refl is
+    over_answer (Ok false) failure report is left = unchanged _ (ends false false true (Ok false) report) refl is
+    over_answer (Ok true) None report is left = over_end None report is left
+    over_answer (Ok true) (Some e) report is left = over_end (Some e) report is left
+
+    over_growth : (nothing past_type : Bool) (g : GrowthGiven) → LeavesBy nothing past_type false g size m.linear new → Makes size m.linear new before after nothing past_type false g → EndsMade (growth_reply (result_by m.linear.size nothing past_type false g)) (ends nothing past_type true g.answer g.report)
+    over_growth true past_type g is left = unchanged _ (ends true past_type true g.answer g.report) refl is
+    over_growth false true g is left = unchanged _ (ends false true true g.answer g.report) (ap (λ (r : Reply). (as_it_was, r)) (sym (reported_seen g.report))) is
+    over_growth false false g is left = over_answer g.answer g.failure g.report is left
+
+  -- It ends by what the party sees of its room.
+  seen_end : (nothing past_type past sees : Bool) (g : GrowthGiven) (before after : MakerTold) → tells ≡ before.tells → (past ≡ false → m.may_move ≡ false → size ≤ m.linear.capacity) → m.linear.size ≤ size → size + page_size m.ty ≤ 2 ^ 64 → size < 2 ^ 64 → SeesRoom past sees (most_now m.linear) size
+      → LeavesBy nothing past_type past g size m.linear new → Makes size m.linear new before after nothing past_type past g → EndsMade (growth_reply (result_by m.linear.size nothing past_type past g)) (ends nothing past_type sees g.answer g.report)
+  seen_end nothing past_type past sees g before after same within more room small (inl seen) is left =
+      let Ends : Bool → Type 0 = λ b. EndsMade (growth_reply (result_by m.linear.size nothing past_type past g)) (ends nothing past_type b g.answer g.report) in
+      subst Ends seen (growth_end nothing past_type past g before after same within more room is left)
+  seen_end nothing past_type past sees g before after same within more room small (inr over) is left =
+      let Leaves : Bool → Type 0 = λ b. LeavesBy nothing past_type b g size m.linear new in
+      let Left : Bool → Type 0 = λ b. Makes size m.linear new before after nothing past_type b g in
+      let Ends : Bool → Bool → Type 0 = λ b c. EndsMade (growth_reply (result_by m.linear.size nothing past_type b g)) (ends nothing past_type c g.answer g.report) in
+      subst (Ends past) (sym over.1.0) (subst (λ (b : Bool). Ends b true) (sym over.0) (over_growth before after over.1.1 small nothing past_type g (subst Leaves over.0 is) (subst Left over.0 left)))
+
 page_some : (ty : MemoryType) → 0 < page_size ty
 page_some ty = pow_pos ty.page_size_log2
 
--- no size is past the room of a memory that moves
-past_same : (b e : Bool) (n size : ℕ) → size < 2 ^ 64 → (e || (not b && nat_lt n size)) ≡ (e || nat_lt (if b then 2 ^ 64 else n) size)
-past_same true e n size small = let no : nat_lt (2 ^ 64) size ≡ false = grind (arith, nat_tests, small) in ap (λ (c : Bool). e || c) (sym no)
-past_same false e n size small = refl
+pub grown_small : (tells : Bool) (pages : ℕ) (m : MemoryState) → IsHeld tells m → grown_size pages m < 2 ^ 64
+grown_small tells pages m held = omega (arith, held.room, page_some m.ty)
 
--- A size that is past the room of a memory is past that of what the party sees of it.
-pub past_seen : (tells : Bool) (pages : ℕ) (m : MemoryState) → IsHeld tells m → past_room (grown_size pages m) m ≡ (exceeds (maximum_asked m.ty) (grown_size pages m) || nat_lt (seen_made tells m).capacity (grown_size pages m))
-past_seen tells pages m held =
-    let small : grown_size pages m < 2 ^ 64 = omega (arith, held.room, page_some m.ty) in
-    past_same m.may_move (exceeds (maximum_asked m.ty) (grown_size pages m)) m.linear.capacity (grown_size pages m) small
+-- A size is past the room of a memory and of what the party sees of it, or past neither; or it is past all that a region can
+-- have for a memory that moves.
+sees_moving : (past : Bool) (exceeding : Bool) (most size : ℕ) → nat_lt most size ≡ past → SeesRoom (exceeding || false) (exceeding || nat_lt most size) most size
+sees_moving past true most size is = inl refl
+sees_moving true false most size is = inr (refl, (is, ltb-true most size is))
+sees_moving false false most size is = inl (sym is)
 
-within_room : (b e : Bool) (n size : ℕ) → (e || nat_lt (if b then 2 ^ 64 else n) size) ≡ false → b ≡ false → size ≤ n
+sees_by : (may_move exceeding : Bool) (most n size : ℕ) → SeesRoom (exceeding || (not may_move && nat_lt n size)) (exceeding || nat_lt (if may_move then most else n) size) most size
+sees_by true exceeding most n size = sees_moving (nat_lt most size) exceeding most size refl
+sees_by false exceeding most n size = inl refl
+
+abbrev pub past_seen : Bool → ℕ → MemoryState → Bool
+past_seen tells pages m = exceeds (maximum_asked m.ty) (grown_size pages m) || nat_lt (seen_made tells m).capacity (grown_size pages m)
+
+pub sees_room : (tells : Bool) (pages : ℕ) (m : MemoryState) → SeesRoom (past_room (grown_size pages m) m) (past_seen tells pages m) (most_between (layout_in m.linear.storage)) (grown_size pages m)
+sees_room tells pages m = sees_by m.may_move (exceeds (maximum_asked m.ty) (grown_size pages m)) (most_between (layout_in m.linear.storage)) m.linear.capacity (grown_size pages m)
+
+within_room : (b e : Bool) (n size : ℕ) → (e || (not b && nat_lt n size)) ≡ false → b ≡ false → size ≤ n
 within_room true e n size under is = absurd cc
 within_room false e n size under is = ltb-false n size (right_of e (nat_lt n size) under)
 
@@ -220,15 +274,13 @@ grows_made tells rule pages m new before after answer same held is =
     let was : PrivateMemory = seen_made tells m in
     let nothing : Bool = pages == 0 in
     let past_type : Bool = not (allow_growth_to m.ty size) in
-    let past : Bool = exceeds most size || nat_lt was.capacity size in
+    let sees : Bool = past_seen tells pages m in
+    let past : Bool = past_room size m in
     let fits : size + page_size m.ty ≤ 2 ^ 64 = omega (arith, held.room) in
     let more : m.linear.size ≤ size = omega (arith, held.room) in
-    let here : past_room size m ≡ past = past_seen tells pages m held in
-    let By : Bool → Type 0 = λ b. LeavesBy nothing past_type b g size m.linear new.linear in
-    let Left : Bool → Type 0 = λ b. Makes size m.linear new.linear before after nothing past_type b g in
-    let end = growth_end tells size m new.linear held nothing past_type past g before after same (within_room m.may_move (exceeds most size) m.linear.capacity size) more fits (subst By here growth_is.linear) (subst Left here is.5) in
-    let replies : growth_reply answer ≡ growth_reply (result_by m.linear.size nothing past_type past g) = ap growth_reply (growth_is.ruled.replies ∙ ap (λ (b : Bool). result_by m.linear.size nothing past_type b g) here) in
-    let ruled : (fault : Bool) → ends tells size m new.linear held nothing past_type past g.answer g.report fault ≡ growth rule fault pages was = λ fault. ended_by_rule rule is.1.rule pages was g.answer g.report fault is.3 growth_is.ruled.answer growth_is.ruled.report in
+    let end = seen_end tells size m new.linear held nothing past_type past sees g before after same (within_room m.may_move (exceeds most size) m.linear.capacity size) more fits (grown_small tells pages m held) (sees_room tells pages m) growth_is.linear is.5 in
+    let replies : growth_reply answer ≡ growth_reply (result_by m.linear.size nothing past_type past g) = ap growth_reply growth_is.ruled.replies in
+    let ruled : (fault : Bool) → ends tells size m new.linear held nothing past_type sees g.answer g.report fault ≡ growth rule fault pages was = λ fault. ended_by_rule rule is.1.rule pages was g.answer g.report fault is.3 growth_is.ruled.answer growth_is.ruled.report in
     let Seen : GrowthEnd × Reply → PrivateMemory × Reply = λ p. (left_of p.0 size was, p.1) in
     let now : seen_made tells new ≡ seen_made tells (record m { linear = new.linear }) = ap (seen_made tells) growth_is.memory in (
       elim end.0 [
@@ -264,16 +316,21 @@ module _ (tells : Bool) (i : ℕ) (new : List ℕ) (m left : MemoryState) (held 
   written_seen : (yes : Bool) → tells ≡ yes → i + length new ≤ m.linear.size → seen_made tells (memory_written i new m) ≡ private_written i new (seen_made tells m)
   written_seen false untold within =
       let Seen : Bool → Type 0 = λ b. seen_made b (memory_written i new m) ≡ private_written i new (seen_made b m) in
-      subst Seen (sym untold) refl
+      subst Seen (sym untold) (ap (λ (o : Option Layout). seen_as_parts m m.linear.size (if m.may_move then most_between o else m.linear.capacity) None) (written_layout i new m.linear.storage))
   written_seen true say within =
       let Seen : Bool → Type 0 = λ b. seen_made b (memory_written i new m) ≡ private_written i new (seen_made b m) in
       let t = held.told say in
       let bytes : linear_bytes (memory_written i new m).linear ≡ option_map (put i new) (linear_bytes m.linear) = written_told i m.linear.size new t.0 m.linear.storage t.1.0 t.1.1 within ∙ ap (option_map (put i new)) (sym t.1.0) in
-      subst Seen (sym say) (ap (seen_as_parts m m.linear.size (if m.may_move then 2 ^ 64 else m.linear.capacity)) bytes)
+      subst Seen (sym say)
+      (
+      ap (λ (o : Option Layout). seen_as_parts m m.linear.size (if m.may_move then most_between o else m.linear.capacity) (linear_bytes (memory_written i new m).linear)) (written_layout i new m.linear.storage)
+      ∙ ap (seen_as_parts m m.linear.size (if m.may_move then most_between (layout_in m.linear.storage) else m.linear.capacity)) bytes
+      )
 
   written_held : i + length new ≤ m.linear.size → IsHeld tells (memory_written i new m)
   written_held within = record {
     room = held.room;
+    addresses = subst (HasAddresses m.linear.capacity) (sym (written_layout i new m.linear.storage)) held.addresses;
     told = λ say. let t = held.told say in (put i new t.0, (written_told i m.linear.size new t.0 m.linear.storage t.1.0 t.1.1 within, put_long i m.linear.size new t.0 t.1.1 within));
   }
 

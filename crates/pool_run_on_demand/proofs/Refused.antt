@@ -19,6 +19,18 @@ small_of (Ok true) refuses ty is =
     let fits : nat_lt (minimum_byte_size ty) (2 ^ 64) ≡ true = small_by ty.shared (nat_lt (minimum_byte_size ty) (2 ^ 64)) (allow_growth_to ty (minimum_byte_size ty)) (refuses (minimum_byte_size ty) (maximum_asked ty)) (MemoryMinimum ty.limits.min) (none_mapped alloc.Unsupported (memory_unsupported refuses ty) is) in
     grind (arith, nat_tests, fits)
 
+-- and what makes memories doesn't refuse it
+made_by : (shared fits allowed : Bool) (o : Option Unsupported) (u : Unsupported) → (if shared then Some SharedOnDemand else (if fits then (if allowed then o else Some AddressSpace) else Some u)) ≡ None → o ≡ None
+made_by true fits allowed o u is = absurd cc
+made_by false true true o u is = is
+made_by false true false o u is = absurd cc
+made_by false false allowed o u is = absurd cc
+
+pub made_of : (answer : Result Bool LimiterError) (refuses : CreatorRule) (ty : MemoryType) → memory_refused answer refuses ty ≡ None → refuses (minimum_byte_size ty) (maximum_asked ty) ≡ None
+made_of (Err e) refuses ty is = absurd cc
+made_of (Ok false) refuses ty is = absurd cc
+made_of (Ok true) refuses ty is = made_by ty.shared (nat_lt (minimum_byte_size ty) (2 ^ 64)) (allow_growth_to ty (minimum_byte_size ty)) (refuses (minimum_byte_size ty) (maximum_asked ty)) (MemoryMinimum ty.limits.min) (none_mapped alloc.Unsupported (memory_unsupported refuses ty) is)
+
 -- what an allocation was that was granted, and one that was refused
 pub granted : {X : Type 0} (o : Option AllocError) (Is : X → Type 0) (x : X) (old new : MakerTold) → Allocates o Is (Ok x) old new → (o ≡ None) × Is x
 granted None Is x old new is = (refl, is.0)

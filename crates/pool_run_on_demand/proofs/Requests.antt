@@ -6,7 +6,7 @@ use Rattle.pool_slots.specs.declared.errors.AllocError.TheVariants as alloc
 use Rattle.pool_run_on_demand.specs.OnDemand.{made_memory, made_table, request_on_demand, unsupported_on_demand, first_unmade, IsUnmade, no_slots}
 use Rattle.pool_run_on_demand.specs.Seen.{seen_lease, seen_table, seen_table_lease, AnswersOnDemand, IsCallOnDemand, IsHeld, IsMakerFor}
 use Rattle.pool_run_on_demand.proofs.Made.{IsGood, made_held, made_seen}
-use Rattle.pool_run_on_demand.proofs.Refused.{cause_here, cause_later, granted, listed_granted, none_or, own_memory, own_table, refused, small_of, some_or, still_same, table_here, type_of_kind, unmade_append}
+use Rattle.pool_run_on_demand.proofs.Refused.{cause_here, cause_later, granted, listed_granted, made_of, none_or, own_memory, own_table, refused, small_of, some_or, still_same, table_here, type_of_kind, unmade_append}
 
 -- The maker stays the same over several steps.
 pub same_twice : (a b c : MakerTold) → IsSameMaker a b → IsSameMaker b c → IsSameMaker a c
@@ -19,6 +19,7 @@ pub same_maker_for : (t : Terms) (a b : MakerTold) → IsMakerFor t a → IsSame
 same_maker_for t a b is same = record {
   tells = is.tells ∙ sym (ap (λ (m : MakerTold). m.tells) same.same);
   page = is.page ∙ sym (ap (λ (m : MakerTold). m.page) same.same);
+  paged = subst (λ (n : ℕ). 0 < n) (sym (ap (λ (m : MakerTold). m.page) same.same)) is.paged;
 }
 
 module _ (t : Terms) {R : Type 0} (told : R → LimiterTold) (leads : R → Exchange → R → Type 0) (M L : Type 0) where
@@ -68,12 +69,13 @@ module _ (t : Terms) {R : Type 0} (told : R → LimiterTold) (leads : R → Exch
   one_begun decl image lease from to log good stage turn =
       let both = granted (own_memory t decl image) (Made decl image from to) lease from.maker to.maker (answered decl image (Ok lease) from to stage turn) in
       let small = small_of (memory_answer (Some t.host.rule) (Ok true) (minimum_asked decl.ty) (maximum_asked decl.ty)) (refuses_by t.settings.page decl.ty t.settings.tunables) decl.ty both.0 in
+      let made = made_of (memory_answer (Some t.host.rule) (Ok true) (minimum_asked decl.ty) (maximum_asked decl.ty)) (refuses_by t.settings.page decl.ty t.settings.tunables) decl.ty both.0 in
       let At : ℕ → Type 0 = λ page. IsDynamic decl.ty t.settings.tunables (designs_by page decl.ty t.settings.tunables (minimum_byte_size decl.ty) (maximum_asked decl.ty)) image to.maker.next from.maker (state_of lease.memory) in
       let is = subst At (sym stage.for.page) both.1.memory in
       record {
         allowed = both.0;
         seen = made_seen t decl image to.maker.next from.maker (state_of lease.memory) stage.for small log good is;
-        held = made_held t decl image to.maker.next from.maker (state_of lease.memory) stage.for small log good is;
+        held = made_held t decl image to.maker.next from.maker (state_of lease.memory) stage.for small log good is made;
       }
 
   abbrev Each : ℕ → MemoryDecl → Result (OnDemandMemory M L) AllocError → Stage R → Stage R → Option (List (Option Image)) → Type 0
@@ -327,7 +329,7 @@ module _ (t : Terms) (tunables : Tunables) (call : ModuleAsked) (of : IsCallOnDe
 
     module _ {R : Type 0} (told : R → LimiterTold) (leads : R → Exchange → R → Type 0) (M L P : Type 0) (from to : Stage R) (ruled : (told from.limiter).rule ≡ Some t.host.rule) (tells : t.tells ≡ maker.tells) (at_maker : from.maker ≡ maker) (offsets : first_refused (λ d. offset_refused t.settings.page d.image) decls ≡ None) where
       abbrev begins : IsStage t told leads M L from
-      begins = record { ruled = ruled; for = subst (IsMakerFor t) (sym at_maker) (record { tells = tells; page = page }) }
+      begins = record { ruled = ruled; for = subst (IsMakerFor t) (sym at_maker) (record { tells = tells; page = page; paged = some }) }
 
       abbrev Answers : Result (OnDemandInstance M L P) AllocError → Type 0
       Answers result = AnswersOnDemand t request result × IsSameMaker from.maker to.maker

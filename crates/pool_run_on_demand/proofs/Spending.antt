@@ -37,6 +37,9 @@ spends_beside a b met x y n is = told_from a.plan (Pays met x y a b) (Pays met (
 pub spends_less : (a b : MakerTold) (met x y z : ℕ) → z ≤ y → Spends a b met x y → Spends a b met x z
 spends_less a b met x y z less is = told_from a.plan (Pays met x y a b) (Pays met x z a b) (λ plan one ends. let p = one ends in omega (arith, p, less)) is
 
+pub fewer_spends : (a b : MakerTold) (met few x y : ℕ) → few ≤ met → Spends a b met x y → Spends a b few x y
+fewer_spends a b met few x y less is = told_from a.plan (Pays met x y a b) (Pays few x y a b) (λ plan one ends. let p = one ends in omega (arith, p, less)) is
+
 -- how many entries are listed with one more at the front
 pub counted_first : {X : Type 0} (p : X → Bool) (x : X) (xs : List X) → count_by p (x ∷ xs) ≡ one_if (p x) + count_by p xs
 counted_first p x xs = sum_by-cons (λ y. one_if (p y)) x xs

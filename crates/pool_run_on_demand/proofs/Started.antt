@@ -1,7 +1,7 @@
 -- What a run on demand begins with: the calls are for the input's modules, and the commands name them; and what it ends with.
-use Rattle.std.proofs.Common.{◌≡◌, ℕ, ◌+◌, ◌<◌, List, [], ◌∷◌, length, refl, sym, ap, ◌∙◌, subst, arith, Option, Some, None, true, ◌⊎◌, IfSome, option_map, slice_get, slice_index_or}
-use Rattle.pool_run_on_demand.proofs.Imports.{get_or-map, get_or_from_slice_get, slice_get-get_or, rounded_up, MakerTold, Rose, ModuleInfo, ModuleAsked, IsModule, OnDemandInstanceAllocator, no_module, is_built, is_built_memory, is_built_module, call_made, calls_made, Terms, ModulesFault, images_listed, with_faults, world_of, is_valid, is_valid_module, NameModules, Command, Input, Party, built_modules, built_memories, small_pages, parties_name, of_all, valid_modules, few_memories, calls_at}
-use Rattle.pool_run_on_demand.specs.Runs.{HasFaultedImages, IsBackground}
+use Rattle.std.proofs.Common.{◌≡◌, ℕ, ◌+◌, ◌<◌, List, [], ◌∷◌, length, refl, sym, ap, ◌∙◌, subst, arith, Option, Some, None, true, IfSome, option_map, slice_get, slice_index_or}
+use Rattle.pool_run_on_demand.proofs.Imports.{get_or-map, get_or_from_slice_get, slice_get-get_or, rounded_up, MakerTold, ModuleInfo, ModuleAsked, IsModule, OnDemandInstanceAllocator, no_module, is_built, is_built_memory, is_built_module, call_made, calls_made, Terms, world_of, is_valid, is_valid_module, NameModules, Command, Input, Party, built_modules, built_memories, small_pages, parties_name, of_all, valid_modules, few_memories, calls_at}
+use Rattle.pool_run_on_demand.specs.Runs.{IsBackground}
 use Rattle.pool_run_on_demand.specs.Seen.{IsAllocatorFor, IsCallOnDemand, AreCallsOnDemand}
 
 -- a module that can be run can be used
@@ -60,19 +60,9 @@ module _ (input : Input) (maker : MakerTold) (built : is_built input ≡ true) (
       party_there (p ∷ ps) i below = p
 
 -- The allocator of a run is as the input's settings say.
-pub allocator_made : {M C : Type 0} (input : Input) (maker : MakerTold) (a : OnDemandInstanceAllocator M C) → a.stack_size ≡ input.config.stack_size → a.stack_zeroing ≡ input.config.async_stack_zeroing → IsAllocatorFor (world_of input maker).terms a maker
-allocator_made input maker a size zeroing = record {
-  pages = record { tells = refl; page = refl };
+pub allocator_made : {M C : Type 0} (input : Input) (maker : MakerTold) (a : OnDemandInstanceAllocator M C) → 0 < maker.page → a.stack_size ≡ input.config.stack_size → a.stack_zeroing ≡ input.config.async_stack_zeroing → IsAllocatorFor (world_of input maker).terms a maker
+allocator_made input maker a paged size zeroing = record {
+  pages = record { tells = refl; page = refl; paged = paged };
   size = ap (rounded_up maker.page) (sym size);
   zeroing = sym zeroing;
 }
-
--- A fault over the maker with the input's faults is one that the input lists, or one of the maker behind them.
-pub fault_of_images : (input : Input) (maker left before after : MakerTold) → before ≡ with_faults input maker → ModulesFault input.tunables input.page input.modules before after → after.behind ≡ left.faults → HasFaultedImages input maker left
-fault_of_images input maker left before after is fault same =
-    let Listed : MakerTold → Type 0 = λ m. IfSome m.plan (λ plan. images_listed input.tunables input.page 0 plan input.modules ≡ true) in
-    let Caused : MakerTold → ℕ → Type 0 = λ m n. (images_listed input.tunables input.page 0 m.listed input.modules ≡ true) ⊎ Rose m.behind n in
-    record {
-      cause = subst (Caused (with_faults input maker)) same (subst (λ (m : MakerTold). Caused m after.behind) is fault.cause);
-      planned = subst Listed is fault.planned;
-    }

@@ -14,9 +14,9 @@ pub use Rattle.pool_limits.specs.Growing.{GrowthGiven}
 pub use Rattle.pool_limits.specs.Growth.{GrowthRule, memory_answer, table_answer}
 pub use Rattle.pool_limits.specs.LimiterTold.{LimiterTold}
 pub use Rattle.pool_limits.specs.declared.errors.GrowFault.{GrowFault}
-pub use Rattle.pool_memory.specs.Creators.{IsSameMaker, default_design, default_refusal}
+pub use Rattle.pool_memory.specs.Creators.{Design, IsSameMaker, default_design, default_refusal}
 pub use Rattle.pool_memory.specs.Growing.{GrowthLeavesMaker, IsGrowth, grown_size, obstacles}
-pub use Rattle.pool_memory.specs.Layouts.{first_layout, layout_len, layout_of, moved_layout}
+pub use Rattle.pool_memory.specs.Layouts.{Layout, first_layout, layout_len, layout_of, moved_layout}
 pub use Rattle.pool_memory.specs.Linear.{Storage, in_slot, stored}
 pub use Rattle.pool_memory.specs.Making.{maximum_asked, minimum_asked}
 pub use Rattle.pool_memory.specs.Mapped.{extra_on_growth}
@@ -31,6 +31,8 @@ pub use Rattle.pool_on_demand.specs.declared.lease.OnDemandTable.{OnDemandTable}
 pub use Rattle.pool_on_demand.specs.declared.on_demand.OnDemandInstanceAllocator.{OnDemandInstanceAllocator}
 pub use Rattle.pool_pages.specs.FaultPlans.{planned_faults}
 pub use Rattle.pool_pages.specs.MakerTold.{MakerTold, Planned, no_calls, on_images, on_region, same_name}
+pub use Rattle.pool_pages.specs.declared.fault_plan.Fault.{Fault}
+pub use Rattle.pool_pages.specs.declared.fault_plan.FaultKind.{FaultKind}
 pub use Rattle.pool_pages.specs.declared.pages.RegionName.TheVariants.{OnDemand}
 pub use Rattle.pool_run.specs.Acts.{Act, MemoryOp, TableOp, Wanted, a_component, a_heap, a_stack, act_of, an_instance, drops, grows, heap_type, lengthens, on_memory, on_table, purges, releases, requests}
 pub use Rattle.pool_run.specs.Folds.{commands_of, replies_to}

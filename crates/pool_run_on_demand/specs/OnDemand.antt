@@ -1,8 +1,8 @@
 -- What a party may see of an allocator that makes each memory, table, stack and heap for the request that asks for it: its
 -- grants are private lists of bytes and of elements as those of a pool are, but that no slot is named and that there is no
 -- room to be short of.
-use Rattle.std.specs.Prelude.{◌≡◌, ℕ, ◌^◌, ◌%◌, ◌<◌, ◌==◌, List, [], ◌∷◌, map, max, replicate, slice_set, ◌⊎◌, Bool, true, false, not, if◌then◌else◌, Option, Some, None, is_some, option_map, Ok}
-use Rattle.pool_run_on_demand.specs.Imports.{option_or, minimum_byte_size, memory_may_move, risen, GcHeap, MemoryType, ModuleInfo, TableType, Unsupported, GrowthRule, memory_answer, table_answer, Image, start, default_design, default_refusal, minimum_asked, maximum_asked, AllocError, empty, kind_of, type_maximum, no_slot, memory_refused, table_refused, module_refused, type_refused, first_refused, offset_refused, MemoryWant, Want, new_memory, new_table, new_stack, new_heap, MemoryOp, grows, TableOp, lengthens, Wanted, an_instance, a_component, a_stack, a_heap, heap_type, Act, requests, on_memory, on_table, drops, purges, releases, act_of, MovesNamed, MovesObject, PrivateMemory, PrivateInstance, PrivateGrant, instance_grant, component_grant, stack_grant, heap_grant, heap_memory, CountsRefused, private_memories, private_stacks, PrivateState, OnGrants, table_at, with_table, Grants, grant_at, Drops, MemoryMoves, growth, Terms, Request, request_of, module_of, wants_of, GrowthEnd, has_grown, PrivateStack, BeginsStack, StackMoves, Host, PrivateTable, StoredTable, TableMoves, table_growth, goes_through, Command, Reply, Instance, Component, Stack, Heap, Purged, Released, Refused, Alloc}
+use Rattle.std.specs.Prelude.{◌≡◌, ℕ, ◌+◌, ◌-◌, ◌^◌, ◌%◌, ◌<◌, ◌==◌, List, [], ◌∷◌, map, max, replicate, slice_set, ◌⊎◌, Bool, true, false, not, if◌then◌else◌, Option, Some, None, is_some, option_map, Ok}
+use Rattle.pool_run_on_demand.specs.Imports.{option_or, minimum_byte_size, memory_may_move, risen, GcHeap, MemoryType, ModuleInfo, TableType, Unsupported, GrowthRule, memory_answer, table_answer, Image, start, Layout, Design, default_design, default_refusal, minimum_asked, maximum_asked, AllocError, empty, kind_of, type_maximum, no_slot, memory_refused, table_refused, module_refused, type_refused, first_refused, offset_refused, MemoryWant, Want, new_memory, new_table, new_stack, new_heap, MemoryOp, grows, TableOp, lengthens, Wanted, an_instance, a_component, a_stack, a_heap, heap_type, Act, requests, on_memory, on_table, drops, purges, releases, act_of, MovesNamed, MovesObject, PrivateMemory, PrivateInstance, PrivateGrant, instance_grant, component_grant, stack_grant, heap_grant, heap_memory, CountsRefused, private_memories, private_stacks, PrivateState, OnGrants, table_at, with_table, Grants, grant_at, Drops, MemoryMoves, growth, Terms, Request, request_of, module_of, wants_of, GrowthEnd, has_grown, PrivateStack, BeginsStack, StackMoves, Host, PrivateTable, StoredTable, TableMoves, table_growth, goes_through, Command, Reply, Instance, Component, Stack, Heap, Purged, Released, Refused, Alloc}
 use Rattle.pool_slots.specs.declared.errors.AllocError.TheVariants as alloc
 
 -- The first rule that a module breaks: an image that doesn't begin with a page, and then the allocator's own rules.
@@ -17,10 +17,20 @@ request_on_demand t number = record (request_of t number) { broken = unsupported
 abbrev pub image_taken : ℕ → ℕ → Option Image → Option Image
 image_taken page least image = if least % page == 0 then image else None
 
--- How large a memory of this type can become where it is: what is set aside for it. For one that moves to have more there is
--- no bound, which is said by a size that none has.
+-- How many bytes a region can have between those that lie before them and behind them, wherever it is: all of it lies within
+-- the address space. In a list there is no such bound, which is said by a size that no memory has.
+abbrev pub most_between : Option Layout → ℕ
+most_between (Some l) = 2 ^ 64 - 1 - (l.before + l.guard)
+most_between None = 2 ^ 64
+
+-- How large a memory can become that is designed so: what is set aside for it, or, where it may move to have more, all that a
+-- region can have for it.
+abbrev pub room_designed : Bool → Design → ℕ
+room_designed may_move d = if may_move then most_between d.layout else d.capacity
+
+-- How large a memory of this type can become on demand.
 abbrev pub room_on_demand : Terms → MemoryType → ℕ
-room_on_demand t ty = if memory_may_move ty t.settings.tunables then 2 ^ 64 else (default_design t.settings.page t.settings.tunables (minimum_byte_size ty) (maximum_asked ty)).capacity
+room_on_demand t ty = room_designed (memory_may_move ty t.settings.tunables) (default_design t.settings.page t.settings.tunables (minimum_byte_size ty) (maximum_asked ty))
 
 -- A memory as it is made: its minimum of bytes, which are its image at its offset, where it takes that, and zeros elsewhere.
 abbrev pub made_memory : Terms → MemoryWant → PrivateMemory
@@ -157,7 +167,8 @@ abbrev pub FindsNoMemory : {X : Type 0} → GrowthEnd → X → X → Reply → 
 FindsNoMemory end old new reply = (end ≡ has_grown) × ((reply ≡ Refused (Alloc alloc.Memory)) × (new ≡ old))
 
 -- What an operation makes of a live memory, and the reply: as with a pool, but that a growth may find no memory. That one
--- which makes a new region fails by that region is given with the calls on its own pages.
+-- which makes a new region fails by that region is given with the calls on its own pages. One to a size for which there can
+-- be no region is past the memory's capacity, so that it is reported and changes nothing.
 abbrev pub MovesOnDemand : MemoryOp → GrowthRule → PrivateMemory → PrivateMemory → Reply → Type 0
 MovesOnDemand (grows pages) rule m new reply = MemoryMoves (grows pages) rule m new reply ⊎ FindsNoMemory (growth rule false pages m).0 m new reply
 MovesOnDemand op rule m new reply = MemoryMoves op rule m new reply

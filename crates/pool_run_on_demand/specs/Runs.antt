@@ -1,7 +1,7 @@
 -- What a run of an input is over an allocator that makes each memory, table, stack and heap for the request that asks for it.
 use Rattle.std.specs.Prelude.{◌≡◌, ℕ, ◌+◌, ◌<◌, ◌≤◌, ◌==◌, ◌⊎◌, List, length, count_by, sum_by, sum, min, slice_index_or, if◌then◌else◌, Bool, true, false, None, IfSome}
 use Rattle.pool_run_on_demand.specs.Imports.{planned_faults, MakerTold, no_calls, Rose, ModuleAsked, Metrics, commands_of, replies_to, IsSameMaker, host_of, Terms, with_grants, no_grants, Command, World, under, open_host, world_of, with_faults, images_listed, commands_in, turns_of, NameModules, Input, RunOutput, Reply}
-use Rattle.pool_run_on_demand.specs.Faults.{listed_from, ends_before_last, StepsMeeting, IsRunOnDemand}
+use Rattle.pool_run_on_demand.specs.Faults.{AreListed, IsCounted, StepsMeeting, IsRunOnDemand}
 use Rattle.pool_run_on_demand.specs.Left.{live_left, AreLaidLive, laying_of, Spends}
 use Rattle.pool_run_on_demand.specs.Seen.{AreCallsOnDemand, AreLive, state_seen}
 use Rattle.pool_run_on_demand.specs.declared.party.PartyOnDemand.{PartyOnDemand}
@@ -103,14 +103,14 @@ no_metrics = record {
 }
 
 -- What each party was told is a private run of its commands, with as many replies as are due. All of them met at most as many
--- faults as the maker's plan lists different makings of regions on demand, and calls on them, where that has no entry for a
--- last number.
+-- faults as the maker's plan lists different makings of regions on demand, and calls on them; entries for last numbers aren't
+-- counted, where the plan is the maker's own list.
 pub record AreToldOnDemand (input : Input) (maker : MakerTold) (replies : List (List Reply)) : Type 0 where
   pub count : length replies ≡ length input.parties
   pub met : List ℕ
   pub numbered : length met ≡ length input.parties
   pub told : (i : ℕ) → i < length input.parties → IsRunOnDemand (party_terms (world_of input maker) i) (commands_of (commands_in input.parties) i) (replies_to i replies) (slice_index_or met i 0)
-  pub few : IfSome maker.plan (λ plan. ends_before_last plan ≡ true → sum met ≤ listed_from maker.next plan)
+  pub few : IfSome maker.plan (λ plan. IsCounted maker plan → AreListed maker.next plan (sum met))
   pub due : (i : ℕ) → i < length input.parties → length (replies_to i replies) ≡ replies_due input.finish (steps_given input i) (length (commands_of (commands_in input.parties) i))
 
 -- The output is that of a run of the input: of its replies, and without numbers. No image of a module is one whose making

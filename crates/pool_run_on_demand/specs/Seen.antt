@@ -1,11 +1,16 @@
 -- The memories, tables, instances, stacks, heaps and live grants of an allocator on demand, as a party sees them, and what
 -- holds of them meanwhile.
 use Rattle.std.specs.Prelude.{◌≡◌, ℕ, ◌+◌, ◌^◌, ◌<◌, ◌≤◌, ◌⊎◌, List, [], ◌∷◌, length, map, slice_get, slice_set, All, Bool, true, if◌then◌else◌, Option, Some, None, IfSome, option_map, Result, Ok, Err}
-use Rattle.pool_run_on_demand.specs.Imports.{rounded_up, MakerTold, risen, LinearMemory, MemoryType, Tunables, page_size, GrowthGiven, GrowthRule, table_answer, LimiterTold, GrowFault, IsGrowth, GrowthLeavesMaker, obstacles, grown_size, MemoryState, bytes_of, state_of, AllocError, ListedHeaps, PlainHeap, IsTableGrowth, table_view, TableView, ListedStore, ModuleAsked, no_slot, IsModule, HasType, OnDemandInstanceAllocator, OnDemandHeap, OnDemandInstance, OnDemandMemory, OnDemandTable, MemoryOp, TableOp, Objects, MovesNamed, PrivateTable, StoredTable, PrivateMemory, PrivateInstance, PrivateGrant, instance_grant, component_grant, stack_grant, heap_grant, heap_memory, CountsRefused, memories_named_in, put_memory, put_stack, PrivateState, Grants, Terms, Request, images_of, module_of, wants_of, StackMoves, seen_stack, Reply}
+use Rattle.pool_run_on_demand.specs.Imports.{rounded_up, MakerTold, risen, LinearMemory, MemoryType, Tunables, page_size, GrowthGiven, GrowthRule, table_answer, LimiterTold, GrowFault, IsGrowth, GrowthLeavesMaker, obstacles, grown_size, Layout, layout_of, Storage, in_slot, stored, MemoryState, bytes_of, state_of, AllocError, ListedHeaps, PlainHeap, IsTableGrowth, table_view, TableView, ListedStore, ModuleAsked, no_slot, IsModule, HasType, OnDemandInstanceAllocator, OnDemandHeap, OnDemandInstance, OnDemandMemory, OnDemandTable, MemoryOp, TableOp, Objects, MovesNamed, PrivateTable, StoredTable, PrivateMemory, PrivateInstance, PrivateGrant, instance_grant, component_grant, stack_grant, heap_grant, heap_memory, CountsRefused, memories_named_in, put_memory, put_stack, PrivateState, Grants, Terms, Request, images_of, module_of, wants_of, StackMoves, seen_stack, Reply}
 use Rattle.pool_limits.specs.declared.errors.GrowFault.TheVariants as fault
-use Rattle.pool_run_on_demand.specs.OnDemand.{MovesOnDemand, TableMovesOnDemand, first_unmade, IsUnmade, made_instance, made_memory, IsMade, heap_terms, heap_wants, heap_barred_on_demand, IsHeapMade, IsHeapUnmade}
+use Rattle.pool_run_on_demand.specs.OnDemand.{most_between, MovesOnDemand, TableMovesOnDemand, first_unmade, IsUnmade, made_instance, made_memory, IsMade, heap_terms, heap_wants, heap_barred_on_demand, IsHeapMade, IsHeapUnmade}
 use Rattle.pool_run_on_demand.specs.declared.grant.OnDemandGrant.{OnDemandGrant}
 use Rattle.pool_run_on_demand.specs.declared.grant.OnDemandGrant.TheVariants.{Instance as instance, Component as component, Stack as stack, Heap as heap}
+
+-- How the region is laid out in which a memory lies; a list of bytes has none.
+abbrev pub layout_in : Storage → Option Layout
+layout_in (in_slot s) = Some (layout_of s)
+layout_in (stored len bytes) = None
 
 -- The memory as the party sees it. Its bytes are told where the maker's regions tell what they hold.
 abbrev pub seen_made : Bool → MemoryState → PrivateMemory
@@ -13,13 +18,20 @@ seen_made tells m = record {
   slot = no_slot;
   ty = m.ty;
   size = m.linear.size;
-  capacity = if m.may_move then 2 ^ 64 else m.linear.capacity;
+  capacity = if m.may_move then most_between (layout_in m.linear.storage) else m.linear.capacity;
   bytes = if tells then bytes_of m else None;
 }
 
--- What holds of it: its size leaves room for one page of its own, and as many bytes are told as it has.
+-- A region so laid out has a page, and with so many bytes in it lies within the address space.
+abbrev pub HasAddresses : ℕ → Option Layout → Type 0
+HasAddresses bytes (Some l) = (0 < l.page) × (l.before + bytes + l.guard < 2 ^ 64)
+HasAddresses bytes None = Unit {0}
+
+-- What holds of it: its size leaves room for one page of its own, what it may have where it is lies within the address space,
+-- and as many bytes are told as it has.
 pub record IsHeld (tells : Bool) (m : MemoryState) : Type 0 where
   pub room : m.linear.size + page_size m.ty ≤ 2 ^ 64
+  pub addresses : HasAddresses m.linear.capacity (layout_in m.linear.storage)
   pub told : tells ≡ true → (b : List ℕ) × ((bytes_of m ≡ Some b) × (length b ≡ m.linear.size))
 
 -- A table on demand as its party sees it.
@@ -55,10 +67,11 @@ GrowsByRule rule pages old new before after answer =
     (given : GrowthGiven) × (asked : LimiterTold) × (left : LimiterTold) × (asked.rule ≡ Some rule)
     × IsGrowth given pages old.linear.size old new asked left answer × GrowthLeavesMaker (obstacles pages old) given (grown_size pages old) old.linear new.linear (Some before) (Some after)
 
--- the maker has pages as the party's terms say
+-- the maker has pages as the party's terms say, which aren't empty
 pub record IsMakerFor (t : Terms) (maker : MakerTold) : Type 0 where
   pub tells : t.tells ≡ maker.tells
   pub page : t.settings.page ≡ maker.page
+  pub paged : 0 < maker.page
 
 -- The allocator, over this maker, has stacks as the terms say.
 pub record IsAllocatorFor {M C : Type 0} (t : Terms) (allocator : OnDemandInstanceAllocator M C) (maker : MakerTold) : Type 0 where

@@ -1,8 +1,9 @@
-ghost use Rattle.std.specs.Prelude.{◌≡◌, ◌↔◌, ℕ, ◌+◌, ◌==◌, ◌<◌, ◌≤◌, [], length, count_by, map, min, replicate, slice_index_or, true, false, vec_capacity, if◌then◌else◌, Err, Some, None, IfOk, IfErr, IfSome, OnOk};
+ghost use Rattle.std.specs.Prelude.{◌≡◌, ◌≢◌, ◌↔◌, ℕ, ◌+◌, ◌==◌, ◌<◌, ◌≤◌, [], ◌∷◌, ◌++◌, cond, filter, length, count_by, map, min, replicate, slice_index_or, true, false, vec_capacity, if◌then◌else◌, Err, Some, None, IfOk, IfErr, IfSome, OnOk};
 ghost use Rattle.pool_pages.specs.MakerTold.{MakerTold, no_calls};
 ghost use Rattle.pool_types.specs.declared.bad_config.BadConfig.{BadConfig};
 ghost use Rattle.pool_run.specs.Built.{broken_rule, is_built};
 ghost use Rattle.pool_run.specs.Made.{calls_made};
+ghost use Rattle.pool_run_on_demand.specs.Faults.{can_come, ends_before_last};
 ghost use Rattle.pool_run_on_demand.specs.Runs.{AreToldOnDemand, ArePartiesOnDemand, HasFaultedImages, HaveStepped, HaveAll, HaveNone, IsBackground, IsOnDemand, no_metrics, steps_in, steps_of};
 ghost use Rattle.pool_run_on_demand.specs.Seen.{IsAllocatorFor};
 ghost use Rattle.pool_run.specs.Folds.{commands_of};
@@ -17,7 +18,7 @@ use crate::party::{PartyOnDemand, make_party_on_demand, turn_on_demand};
 use pool_alloc::{Metrics, ModuleCall};
 use pool_memory::DefaultMemoryCreator;
 use pool_on_demand::{OnDemandInstanceAllocator, OnDemandSeat};
-use pool_pages::{FailingMaker, PageCalls, PageMaker};
+use pool_pages::{FailingMaker, Fault, FaultKind, PageCalls, PageMaker};
 use pool_run::{Input, Party, ReplyList, RunFault, RunOutput, ScheduleEntry, is_valid, make_calls};
 use pool_types::{PageSize, PlainList};
 use std::alloc::{AllocError, Global};
@@ -206,6 +207,7 @@ fn run_over<M: PageMaker>(
 ) -> Result<RunOutput, AllocError>
     ghost maker: { MakerTold }
     requires told { M.told seat.old.maker ≡ maker }
+    requires listed { ends_before_last maker.listed ≡ true }
     requires calls { calls.now ≡ calls_made input.now.tunables maker.page 0 input.now.modules }
     requires built { is_built input.now ≡ true }
     requires valid { is_valid input.now ≡ true }
@@ -214,6 +216,7 @@ fn run_over<M: PageMaker>(
     ensures calls { IfOk result (λ output. output.calls ≡ no_calls) }
     ensures borrows { M.borrows seat.new.maker ≡ M.borrows seat.old.maker }
 {
+    let _page = seat.maker.page().get();
     let parties = input.parties.as_slice();
     let lists = Vec::with_capacity(alloc, parties.len())?;
     let mut made = make_parties(alloc, input)?;
@@ -250,6 +253,7 @@ fn run_in_seat<M: PageMaker>(
 ) -> Result<RunOutput, RunFault>
     ghost maker: { MakerTold }
     requires told { M.told seat.old.maker ≡ maker }
+    requires listed { ends_before_last maker.listed ≡ true }
     requires page { maker.page ≡ input.now.page }
     requires built { is_built input.now ≡ true }
     requires valid { is_valid input.now ≡ true }
@@ -281,6 +285,7 @@ fn run_seated<M: PageMaker>(
     input: &Input,
     seat: &mut OnDemandSeat<M>,
 ) -> Result<RunOutput, RunFault>
+    requires listed { ends_before_last (M.told seat.old.maker).listed ≡ true }
     requires page { (M.told seat.old.maker).page ≡ input.now.page }
     requires built { is_built input.now ≡ true }
     requires valid { is_valid input.now ≡ true }
@@ -293,13 +298,106 @@ fn run_seated<M: PageMaker>(
     run_in_seat(alloc, input, seat)
 }
 
+// Whether an entry can come true: one for regions on demand may, if its numbers are below the last that a region and a call can
+// have. No run gets to these.
+fn can_come(fault: &Fault) -> bool
+    ensures { result ≡ can_come fault.now }
+{
+    match fault.kind {
+        FaultKind::OnDemand => fault.slot < u32::MAX as u64 && fault.call < u64::MAX,
+        FaultKind::Memory | FaultKind::Table | FaultKind::Stack | FaultKind::Image => true,
+    }
+}
+
+// Adds an entry that can come true.
+fn keep(kept: &mut Vec<Fault>, fault: Fault) -> Result<(), AllocError>
+    ensures kept { IfOk result (λ _. kept.new.items ≡ kept.old.items ++ cond (can_come fault) (fault ∷ []) []) }
+{
+    if !can_come(&fault) {
+        return Ok(());
+    }
+    kept.push(fault)?;
+    Ok(())
+}
+
+// The entries that can come true.
+fn faults_that_come(alloc: Global, faults: &[Fault]) -> Result<Vec<Fault>, AllocError>
+    ensures kept { IfOk result (λ v. v.items ≡ filter can_come faults.now) }
+{
+    let mut kept = Vec::with_capacity(alloc, faults.len())?;
+    for at in 0..faults.len() {
+        keep(&mut kept, faults[at])?;
+    }
+    Ok(kept)
+}
+
+// What a run is refused with that finds no memory before its settings are tested.
+fn without_memory(input: &Input) -> RunFault
+    requires built { is_built input.now ≡ true }
+    ensures refused { NamesRule (broken_rule input.now) result }
+    ensures other { result ≢ RunFault.PageFault }
+{
+    let config = &input.config;
+    match config.check_rules(&input.tunables, input.page, input.shards, &input.offered) {
+        Err(rule) => RunFault::BadConfig(rule),
+        Ok(_) => RunFault::Memory,
+    }
+}
+
+// Runs the input over a maker before which these faults stand.
+fn run_over_faults<M: PageMaker>(
+    alloc: Global,
+    input: &Input,
+    pages: &mut M,
+    page: PageSize,
+    faults: &[Fault],
+) -> Result<RunOutput, RunFault>
+    requires page { page ≡ input.now.page }
+    requires faults { faults.now ≡ filter can_come input.now.faults }
+    requires built { is_built input.now ≡ true }
+    requires valid { is_valid input.now ≡ true }
+    ensures ok { IfOk result (IsOnDemand input.now (with_faults input.now (M.told pages.old))) }
+    ensures fault { result ≡ Err RunFault.PageFault → HasFaultedImages input.now (M.told pages.old) (M.told pages.new) }
+    ensures rules { OnOk result (broken_rule input.now ≡ None) }
+    ensures refused { IfErr result (NamesRule (broken_rule input.now)) }
+{
+    let maker = FailingMaker::new(pages, page, faults);
+    let mut seat = OnDemandSeat { maker };
+    let answer = run_seated(alloc, input, &mut seat);
+    // given back here, so that the prover knows whose count it is
+    let _pages = seat.maker.into_maker();
+    answer
+}
+
+// Runs the input with this page, with those of its faults that can come true.
+fn run_paged<M: PageMaker>(
+    alloc: Global,
+    input: &Input,
+    pages: &mut M,
+    page: PageSize,
+) -> Result<RunOutput, RunFault>
+    requires page { page ≡ input.now.page }
+    requires built { is_built input.now ≡ true }
+    requires valid { is_valid input.now ≡ true }
+    ensures ok { IfOk result (IsOnDemand input.now (with_faults input.now (M.told pages.old))) }
+    ensures fault { result ≡ Err RunFault.PageFault → HasFaultedImages input.now (M.told pages.old) (M.told pages.new) }
+    ensures rules { OnOk result (broken_rule input.now ≡ None) }
+    ensures refused { IfErr result (NamesRule (broken_rule input.now)) }
+{
+    match faults_that_come(alloc, input.faults.as_slice()) {
+        Ok(faults) => run_over_faults(alloc, input, pages, page, faults.as_slice()),
+        Err(_) => Err(without_memory(input)),
+    }
+}
+
 /// Makes the images of the input's modules, and has the parties make their commands, each of which is one step: those of the
 /// schedule first, and then, where the input says so, those that are left, party by party. Memories, tables, stacks and heaps
 /// are made for the request that asks for them, and dropped when they are given back; there is no pool, whose settings are
 /// tested but not used. The making of an image fails exactly where the input lists it. Makings and page calls on demand fail no
-/// more often than it lists them, which its clause says of the whole run, and no clause says that a listed one fails. Nothing is
-/// run where the input isn't valid, which is tested first, or a rule of its settings is broken, where an image can't be made,
-/// or where there is no memory for the run and the lists of its replies.
+/// more often than it lists them, which its clause says of the whole run, and no clause says that a listed one fails. An entry
+/// for the last number that a region on demand or a call on it can have is left out: no run gets there. Nothing is run where
+/// the input isn't valid, which is tested first, or a rule of its settings is broken, where an image can't be made, or where
+/// there is no memory for the run and the lists of its replies.
 pub fn run_on_demand<M: PageMaker>(
     alloc: Global,
     input: &Input,
@@ -315,14 +413,7 @@ pub fn run_on_demand<M: PageMaker>(
         return Err(RunFault::BadInput);
     }
     match PageSize::new(input.page) {
-        Ok(page) => {
-            let maker = FailingMaker::new(pages, page, input.faults.as_slice());
-            let mut seat = OnDemandSeat { maker };
-            let answer = run_seated(alloc, input, &mut seat);
-            // given back before the list is dropped, so that the prover knows whose count it is
-            let _pages = seat.maker.into_maker();
-            answer
-        }
+        Ok(page) => run_paged(alloc, input, pages, page),
         Err(rule) => Err(RunFault::BadConfig(rule)),
     }
 }

@@ -20,7 +20,7 @@ turn_on_demand-requires g c κs within =
       (
         search rules,
         (
-          record { pages = record { tells = maker.pages.tells; page = maker.pages.page }; size = maker.size; zeroing = maker.zeroing },
+          record { pages = record { tells = maker.pages.tells; page = maker.pages.page; paged = maker.pages.paged }; size = maker.size; zeroing = maker.zeroing },
           (
             calls_under (host_of p.limits p.store.failing p.heaps.failing) g.common c.args.input.now.tunables c.args.calls.now c.requires.1.1.0.asked,
             (
