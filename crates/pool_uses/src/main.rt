@@ -38,6 +38,8 @@ mod one_caller_tests;
 #[cfg(test)]
 mod page_call_tests;
 #[cfg(test)]
+mod single_tests;
+#[cfg(test)]
 mod thread_tests;
 
 use measure::measure;
