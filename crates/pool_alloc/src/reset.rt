@@ -55,7 +55,8 @@ fn reset_table<P: Pages, H: GcHeap>(
     ensures { (c : PoolCore P H) → ◌≡◌ {A = After P H} (record { core = under settings.now c.plan c; frame = frame.new; outcome = outcome.new }) (stepped (table_reset_row lease (under settings.now c.plan c) frame.old)) }
 {
     let keep = settings.table_keep_resident;
-    table_pool::reset_table(settings.page, keep, lease, &mut frame.local);
+    let marks = settings.dirty_pages;
+    table_pool::reset_table(settings.page, marks, keep, lease, &mut frame.local);
     was_reset(alloc, settings.batch, frame, outcome)
 }
 
@@ -93,7 +94,7 @@ fn reset_memory<P: Pages, H: GcHeap>(
     let mut slot = lease.memory.unwrap_static_image();
     let mut ranges = Ranges::new();
     let keep = settings.keep_resident;
-    let Ok(kept) = slot.clear_and_remain_ready(false, keep, &mut ranges) else {
+    let Ok(kept) = slot.clear_and_remain_ready(settings.dirty_pages, keep, &mut ranges) else {
         slot.forget();
         return frame.go(Phase::PutBack(at, ImageSlot::Unknown(slot)));
     };

@@ -108,6 +108,7 @@ fn table_made<P: Pages, H: GcHeap>(frame: &mut Frame<P, H>, at: TakenSlot, makin
 // Resets a table into a queue.
 pub(crate) fn reset_table<P: Pages>(
     page: PageSize,
+    dirty_pages: bool,
     keep_resident: HostAlignedByteCount,
     lease: TableLease<P>,
     local: &mut DecommitQueue<P>,
@@ -123,7 +124,7 @@ pub(crate) fn reset_table<P: Pages>(
     let used = HostAlignedByteCount::rounded_up_unchecked(page, bytes);
     let mut plain = PlainSlot::new(lease.table.into_region(), page.zero());
     let mut ranges = Ranges::new();
-    let kept = plain.reset_used(used, keep_resident, &mut ranges);
+    let kept = plain.reset_pages(dirty_pages, used, keep_resident, &mut ranges);
     let _size = plain.len();
     let (region, base) = plain.into_parts();
     let item = QueuedSlot {

@@ -23,7 +23,7 @@ lone_cover page k (j ∷ ks) (inl is) =
     inl (omega (arith, same), omega (arith, same))
 lone_cover page k (j ∷ ks) (inr has) = inr (lone_cover page k ks has)
 
-lone_below : (base page lo end n : ℕ) (ks : List ℕ) → base + end * page ≤ n → RiseIn lo end ks → Below base (lone_pages page ks) n
+pub lone_below : (base page lo end n : ℕ) (ks : List ℕ) → base + end * page ≤ n → RiseIn lo end ks → Below base (lone_pages page ks) n
 lone_below base page lo end n [] fits rise = tt
 lone_below base page lo end n (k ∷ ks) fits rise =
     let next : (k + 1) * page ≡ k * page + page = omega (arith, add-mul k 1 page) in
@@ -189,7 +189,7 @@ module _ (s : Slot) (keep : ℕ) (fits : IsSlot s) (marked : TellsMarks s.region
         joined : (t u v : Told) → u ≡ record t { contents = u.contents; marks = u.marks; made = u.made; calls = u.calls } → v ≡ record u { contents = v.contents; marks = v.marks; made = v.made; calls = v.calls } → v ≡ record t { contents = v.contents; marks = v.marks; made = v.made; calls = v.calls }
         joined t u v first second = second ∙ ap (λ (w : Told). record w { contents = v.contents; marks = v.marks; made = v.made; calls = v.calls }) first
 
-  started : (o u : Option Contents) → IfSome o (IsSound s.region.page s.region.len s.base.bytes (size_of s)) → IfSome o (λ c. c.dirty ≡ s.region.marks) → IfSome o (IsReady s) → Backed s.base.bytes (lone_pages s.region.page by_hand ++ left) o u → IfSome u (IsStarted s)
+  pub started : (o u : Option Contents) → IfSome o (IsSound s.region.page s.region.len s.base.bytes (size_of s)) → IfSome o (λ c. c.dirty ≡ s.region.marks) → IfSome o (IsReady s) → Backed s.base.bytes (lone_pages s.region.page by_hand ++ left) o u → IfSome u (IsStarted s)
   started None None sound same ready backed = sound
   started None (Some d) sound same ready backed = absurd backed
   started (Some c) None sound same ready backed = absurd backed
@@ -220,7 +220,7 @@ module _ (s : Slot) (keep : ℕ) (fits : IsSlot s) (marked : TellsMarks s.region
   pub marks_clean_now : s.accessible.bytes ≤ keep → s.region.behaviour ≡ RestoreOriginalMapping → IfSome s.region.contents (IsReady s) → IsClean done
   marks_clean_now from restores ready = subst (λ rs. IsClean (decommitted_all rs done)) (none_left from) (marks_clean restores ready)
 
-backed_sound : (page len base size at : ℕ) (rs : List ByteRange) (o u : Option Contents) → IfSome o (IsSound page len base size) → IfSome u (IsShaped page len) → Backed at rs o u → IfSome u (IsSound page len base size)
+pub backed_sound : (page len base size at : ℕ) (rs : List ByteRange) (o u : Option Contents) → IfSome o (IsSound page len base size) → IfSome u (IsShaped page len) → Backed at rs o u → IfSome u (IsSound page len base size)
 backed_sound page len base size at rs None None sound shaped backed = shaped
 backed_sound page len base size at rs None (Some d) sound shaped backed = absurd backed
 backed_sound page len base size at rs (Some c) None sound shaped backed = absurd backed

@@ -98,7 +98,7 @@ half_of from to s (Some c) sound ready below above = record { sound = sound; rea
 origin_none : (b : DecommitBehavior) → None ≡ restored_image None b
 origin_none b = refl
 
-no_image : (s : Slot) → s.image ≡ None → s.image ≡ restored_image s.image s.region.behaviour
+pub no_image : (s : Slot) → s.image ≡ None → s.image ≡ restored_image s.image s.region.behaviour
 no_image s none = let I : Option ImageName → Type 0 = λ o. o ≡ restored_image o s.region.behaviour in subst I (sym none) (origin_none s.region.behaviour)
 
 shape_next : (r : ByteRange) (s : Slot) (c : Contents) → IsSlot (next r s) → s.region.contents ≡ Some c → IsShaped s.region.page s.region.len (decommitted (s.base.bytes + r.start) r.len c)

@@ -1,5 +1,7 @@
 -- The region of a table or a stack as a slot without image: what is written to it, and how it is reset.
-use Rattle.std.specs.Prelude.{◌≡◌, ℕ, ◌+◌, ◌-◌, List, [], ◌∷◌, min, replicate, Bool, true, false, None, IfSome}
+use Rattle.std.specs.Prelude.{◌≡◌, ℕ, ◌+◌, ◌-◌, List, [], ◌∷◌, min, replicate, Bool, true, false, Option, None, Some, IfSome}
+use Rattle.pool_types.specs.Count.{count}
+use Rattle.pool_images.specs.Resets.{pages_by_hand, pages_restored}
 use Rattle.pool_slots.specs.Imports.{overwritten, ByteRange, Slot, IsSlot, IsReady, IsClean, Holds, Reads, size_of, reset_ranges}
 use Rattle.pool_slots.specs.SlotQueues.{CanBeZeroed, zeroed_slot}
 
@@ -35,6 +37,19 @@ below_top keep s = record { start = 0; len = s.static_size - top_kept keep s } �
 -- What a table leaves to be decommitted: what it used above the bytes that stay resident.
 abbrev pub above_bottom : ℕ → ℕ → List ByteRange
 above_bottom keep used = reset_ranges keep used
+
+-- what a table used of its region, as what can be reached of its slot
+abbrev pub used_part : ℕ → Slot → Slot
+used_part used s = record s { accessible = count s.region.page used }
+
+-- A table's region once pages that it used were zeroed by hand: those that are dirty, as far as bytes may stay resident.
+abbrev pub used_by_marks : List Bool → ℕ → Slot → Slot
+used_by_marks marks keep s = record s { region = pages_restored s.base.bytes (pages_by_hand s.region.page keep marks) s.region }
+
+-- The same by the marks that the reset is given, or without any.
+abbrev pub used_reset : Option (List Bool) → ℕ → ℕ → Slot → Slot
+used_reset None keep used s = bottom_reset keep used s
+used_reset (Some marks) keep used s = used_by_marks marks keep s
 
 -- of what the slot holds, the bytes from one place on are what they go back to
 abbrev pub IsUnusedFrom : ℕ → Slot → Type 0

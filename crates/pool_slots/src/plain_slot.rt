@@ -1,11 +1,12 @@
-ghost use Rattle.std.specs.Prelude.{◌≡◌, ◌+◌, ◌%◌, ◌≤◌, [], length, min, replicate, slice_range, All, IfSome};
+ghost use Rattle.std.specs.Prelude.{◌≡◌, ◌+◌, ◌%◌, ◌≤◌, [], Some, length, min, replicate, slice_range, All, IfSome};
+ghost use Rattle.pool_images.specs.Resets.{given_marks, kept_by, left_by, marks_of};
 ghost use Rattle.pool_images.specs.Slots.{IsPart, IsClean, size_of, decommitted_all};
-ghost use Rattle.pool_slots.specs.PlainSlots.{IsPlain, IsUnusedFrom, plain_written, top_kept, top_reset, below_top, bottom_reset, above_bottom, CleanSlotsReadZeros, ZeroedSlotsAreClean};
+ghost use Rattle.pool_slots.specs.PlainSlots.{IsPlain, IsUnusedFrom, plain_written, top_kept, top_reset, below_top, bottom_reset, above_bottom, used_part, used_by_marks, used_reset, CleanSlotsReadZeros, ZeroedSlotsAreClean};
 ghost use Rattle.pool_slots.specs.SlotQueues.{plain_slot};
 
-use pool_images::{ByteRange, Ranges};
+use pool_images::{ByteRange, PageSpan, Ranges, reset_dirty};
 use pool_pages::{PageCalls, PageRegion, Pages};
-use pool_types::HostAlignedByteCount;
+use pool_types::{DecommitBehavior, HostAlignedByteCount};
 use std::marker::Model;
 
 /// The region of a table or a stack from a byte on, seen as a slot without image, all of which can be reached.
@@ -104,6 +105,68 @@ impl<P: Pages> PlainSlot<P> {
             len: rest,
         });
         kept
+    }
+
+    /// Resets the slot as a table that used its first `used` bytes, whole pages: by the dirty marks of these pages where they
+    /// are offered and the table used more than one page, as the reset of a memory's slot goes by them, and else as
+    /// `reset_used` does. `ranges` must be empty. Answers how many bytes are zeroed.
+    pub fn reset_pages(
+        &mut self,
+        dirty_pages: bool,
+        used: HostAlignedByteCount,
+        keep_resident: HostAlignedByteCount,
+        ranges: &mut Ranges,
+    ) -> usize
+        requires used_page { used.page ≡ self.old.region.page }
+        requires page { keep_resident.page ≡ self.old.region.page }
+        requires within { used.bytes ≤ self.old.static_size }
+        requires unused { IsUnusedFrom used.bytes self.old }
+        requires empty { ranges.old ≡ [] }
+        ensures resident { result ≡ kept_by (given_marks dirty_pages (used_part used.bytes self.old)) DecommitBehavior.RestoreOriginalMapping keep_resident.bytes (used_part used.bytes self.old) }
+        ensures ranges { ranges.new ≡ left_by (given_marks dirty_pages (used_part used.bytes self.old)) DecommitBehavior.RestoreOriginalMapping keep_resident.bytes (used_part used.bytes self.old) }
+        ensures value { self.new ≡ used_reset (given_marks dirty_pages (used_part used.bytes self.old)) keep_resident.bytes used.bytes self.old }
+        ensures parts { All (IsPart self.new.region.page (size_of self.new)) ranges.new }
+        ensures clean_after { IsClean (decommitted_all ranges.new self.new) }
+        ensures unused { IsUnusedFrom used.bytes self.new }
+    {
+        if dirty_pages && used.byte_count() > self.region.page().get() {
+            self.reset_marked(used, keep_resident, ranges)
+        } else {
+            self.reset_used(used, keep_resident, ranges)
+        }
+    }
+
+    // The reset by dirty marks.
+    fn reset_marked(
+        &mut self,
+        used: HostAlignedByteCount,
+        keep_resident: HostAlignedByteCount,
+        ranges: &mut Ranges,
+    ) -> usize
+        requires used_page { used.page ≡ self.old.region.page }
+        requires page { keep_resident.page ≡ self.old.region.page }
+        requires within { used.bytes ≤ self.old.static_size }
+        requires unused { IsUnusedFrom used.bytes self.old }
+        requires empty { ranges.old ≡ [] }
+        ensures resident { result ≡ kept_by (Some (marks_of (used_part used.bytes self.old))) DecommitBehavior.RestoreOriginalMapping keep_resident.bytes (used_part used.bytes self.old) }
+        ensures ranges { ranges.new ≡ left_by (Some (marks_of (used_part used.bytes self.old))) DecommitBehavior.RestoreOriginalMapping keep_resident.bytes (used_part used.bytes self.old) }
+        ensures value { self.new ≡ used_by_marks (marks_of (used_part used.bytes self.old)) keep_resident.bytes self.old }
+        ensures parts { All (IsPart self.new.region.page (size_of self.new)) ranges.new }
+        ensures clean_after { IsClean (decommitted_all ranges.new self.new) }
+        ensures unused { IsUnusedFrom used.bytes self.new }
+    {
+        let _plain = self.len();
+        let _marks = self.region.len();
+        let page = self.region.page().get();
+        let base = self.base.byte_count();
+        let span = PageSpan {
+            page,
+            base,
+            first: base / page,
+            pages: used.byte_count() / page,
+        };
+        let most = keep_resident.byte_count() / page;
+        reset_dirty(&mut self.region, span, most, ranges)
     }
 
     /// Resets the slot as a table that used its first `used` bytes, whole pages: so many of these, or all where they are

@@ -22,6 +22,7 @@ use pool_slots::{
     make_striped_plan,
 };
 use pool_types::{
+    Enabled,
     HostAlignedByteCount, MemoryKind, MemoryTunables, Offered, PageSize, PoolingAllocationConfig,
     Tunables,
 };
@@ -202,6 +203,7 @@ fn settings_of(
             limits.max_memory_size,
         ).byte_count(),
         keep_resident: HostAlignedByteCount::rounded_up_unchecked(page, keep),
+        dirty_pages: offered.dirty_pages && config.pagemap_scan != Enabled::No,
         batch: config.decommit_batch_size,
         max_core_instances: limits.total_core_instances as u64,
         max_component_instances: limits.total_component_instances as u64,
