@@ -1,0 +1,17 @@
+pub mod Adds
+pub mod Begins
+pub mod Begun
+pub mod CallEnds
+pub mod CallNotes
+pub mod Growing
+pub mod LiveFaults
+pub mod LiveNames
+pub mod LiveUnits
+pub mod Performs
+pub mod Regiven
+pub mod Replied
+pub mod Starts
+pub mod StepMade
+pub mod Steps
+pub mod StepsHere
+pub mod TurnsAgain

@@ -1,0 +1,3 @@
+pub mod Asked
+pub mod Noted
+pub mod Working
