@@ -3,6 +3,7 @@ pub mod Begins
 pub mod Begun
 pub mod CallEnds
 pub mod CallNotes
+pub mod Grounds
 pub mod Growing
 pub mod LiveFaults
 pub mod LiveNames

@@ -3,6 +3,7 @@ ghost use Rattle.std.specs.Prelude.{◌≡◌, ℕ, ◌+◌, ◌-◌, ◌^◌, �
 ghost use Rattle.pool_hall.specs.Seat.{made_with, view, IsSeatOf, IsFree};
 ghost use Rattle.pool_alloc.specs.CallStages.{stage_of};
 ghost use Rattle.pool_alloc.specs.Calls.{IsIdle};
+ghost use Rattle.pool_callers.specs.Callers.{about_shared};
 ghost use Rattle.pool_driver.specs.Calling.{GoesOnSince};
 ghost use Rattle.pool_driver.specs.Driving.{IsDriven, Given, alone_of};
 ghost use Rattle.pool_driver.specs.Pools.{IsSharedOf};
@@ -16,6 +17,7 @@ ghost use Rattle.pool_run.specs.declared.command.Command.{Command};
 ghost use Rattle.pool_run.specs.declared.reply.Reply.{Reply};
 ghost use Rattle.pool_threads.specs.Asked.{asked, asked_at, at_next, faulted, faulted_by, faulted_in, refused, refused_by, refused_in};
 ghost use Rattle.pool_threads.specs.Noted.{Notes, call_asks};
+ghost use Rattle.pool_threads.specs.Sharing.{IsGround, NotesOf, job_of, party_in, party_world};
 ghost use Rattle.pool_threads.specs.Working.{Job, IsJob, IsAtWork, IsToldSoFar, CallOf, NamesLive, StandsSomewhere, StaysSame, StepsHere, TellsOn, about_job, given_by};
 
 use crate::gate::Gate;
@@ -24,7 +26,7 @@ use pool_driver::{PoolHall, PoolSeat, SharedPool};
 use pool_limits::Unlimited;
 use pool_pages::{PageMaker, Pages};
 use pool_run::{
-    Begun, Command, Party, PartyLimits, Reply, ReplyList, RunningParty, SlotLists, answer,
+    Begun, Command, Input, Party, PartyLimits, Reply, ReplyList, RunningParty, SlotLists, answer,
     begin_next, limiter_of,
 };
 use pool_slots::{ListedHeaps, PlainHeap};
@@ -297,10 +299,8 @@ fn perform<P: Pages, M: PageMaker, R: Wait, G: Gate>(
     }
 }
 
-/// Makes all commands of a party, one after the other, over a pool that others use at the same time. The party is as it is made, and its seat
-/// has nothing; afterwards the seat has what the party's live grants are of. It may wait for others, each time while they hold one part of
-/// the pool. Takes memory for the replies first: for want of it nothing is done. The gate is told before and after each command.
-pub fn run_party<P: Pages, M: PageMaker, R: Wait, G: Gate>(
+// `run_party`, of the party that is given.
+fn run_given<P: Pages, M: PageMaker, R: Wait, G: Gate>(
     rt: &R,
     alloc: Global,
     pool: &SharedPool<PoolHall<P, PlainHeap, M>>,
@@ -351,4 +351,58 @@ pub fn run_party<P: Pages, M: PageMaker, R: Wait, G: Gate>(
         gate,
     );
     Ok(PlainList::from_vec(replies))
+}
+
+// The party with this number.
+fn party_at(input: &Input, party: usize) -> &Party
+    requires { party < length input.now.parties }
+    ensures { result.now ≡ party_in input.now party }
+{
+    &input.parties.as_slice()[party]
+}
+
+/// Makes all commands of a party of the input, one after the other, over a pool that others use at the same time. The running party is as
+/// it is made, and its seat has nothing; afterwards the seat has what the party's live grants are of. It may wait for others, each time
+/// while they hold one part of the pool. Takes memory for the replies first: for want of it nothing is done. The gate is told before and
+/// after each command.
+pub fn run_party<P: Pages, M: PageMaker, R: Wait, G: Gate>(
+    rt: &R,
+    alloc: Global,
+    pool: &SharedPool<PoolHall<P, PlainHeap, M>>,
+    seat: &mut PoolSeat<P, PlainHeap, M>,
+    input: &Input,
+    modules: &[ModuleCall],
+    party: usize,
+    running: &mut RunningParty<P>,
+    gate: &G,
+) -> Result<ReplyList, AllocError>
+    requires ground { IsGround M.told input.now modules.now pool.now }
+    requires party { party < length input.now.parties }
+    requires own { IsSeatOf pool.now.hall seat.old }
+    requires free { IsFree seat.old }
+    requires made { running.old ≡ party_made_for pool.now.settings (party_in input.now party) }
+    requires nothing { IsDriven (length (made_with pool.now.hall)) (alone_of (about_shared M.told pool.now)) (view seat.old) running.old.frame None }
+    ensures own { IsSeatOf pool.now.hall seat.new }
+    ensures free { IsFree seat.new }
+    ensures told { IfOk result (λ replies. IsPooledRun (party_world (job_of M.told input.now pool.now) (party_in input.now party) running.new.frame.stripe) (party_in input.now party).commands replies) }
+    ensures all { IfOk result (λ replies. length replies ≡ length (party_in input.now party).commands) }
+    ensures named { IfOk result (λ replies. NamesLive replies running.new.live) }
+    ensures notes { IfOk result (λ replies. NotesOf pool.now.plan modules.now (party_in input.now party) running.new.frame.stripe replies (view seat.old) (view seat.new)) }
+    ensures work { IfOk result (λ _. IsAtWork (job_of M.told input.now pool.now) (length (made_with pool.now.hall)) (view seat.new) running.new) }
+    ensures idle { IfOk result (λ _. IsIdle running.new.frame) }
+    ensures seat { OnErr result (seat.new ≡ seat.old) }
+    ensures same { OnErr result (running.new ≡ running.old) }
+{
+    let given = party_at(input, party);
+    run_given(
+        rt,
+        alloc,
+        pool,
+        seat,
+        modules,
+        given,
+        running,
+        party as u32,
+        gate,
+    )
 }

@@ -1,7 +1,5 @@
+use Rattle.pool_threads.specs.Sharing.{job_of}
 use Rattle.pool_threads.proofs.party.run_party.Given as goal
 
-abbrev pub ghost-start : goal.ghost-start
-ghost-start g a = g.job
-
-abbrev pub ghost-perform : goal.ghost-perform
-ghost-perform g a = g.job
+abbrev pub ghost-run_given : goal.ghost-run_given
+ghost-run_given g a = job_of g.M.PageMaker.told a.input.now a.pool.now
