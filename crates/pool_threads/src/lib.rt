@@ -10,4 +10,4 @@ mod gate;
 mod party;
 
 pub use gate::{Gate, OpenGate};
-pub use party::run_party;
+pub use party::{party_at, run_party};

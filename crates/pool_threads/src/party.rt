@@ -353,8 +353,8 @@ fn run_given<P: Pages, M: PageMaker, R: Wait, G: Gate>(
     Ok(PlainList::from_vec(replies))
 }
 
-// The party with this number.
-fn party_at(input: &Input, party: usize) -> &Party
+/// The party with this number.
+pub fn party_at(input: &Input, party: usize) -> &Party
     requires { party < length input.now.parties }
     ensures { result.now ≡ party_in input.now party }
 {
