@@ -1,0 +1,10 @@
+//! All parties of an input side by side, each on a thread of its own.
+//!
+//! It is ours and no port. It stands on `pool_threads` and the crates below it.
+#![tactic(auto)]
+
+mod joins;
+mod worker;
+mod workers;
+
+pub use worker::Worker;
