@@ -1,2 +1,6 @@
+pub mod Driving
+pub mod Joined
 pub mod Joins
 pub mod Limits
+pub mod Refusals
+pub mod Sparing

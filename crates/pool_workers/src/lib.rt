@@ -4,7 +4,9 @@
 #![tactic(auto)]
 
 mod joins;
+mod threads;
 mod worker;
 mod workers;
 
+pub use threads::{run_threads, run_threads_with};
 pub use worker::Worker;
