@@ -63,6 +63,7 @@ module _ {P M T : Type 0} (told : M → MakerTold) (all : Shared) (pool : Shared
   none_joined v units rises added low subtracted = record {
     units = units;
     even = λ c some' below. ap (often c) (added ∙ sym subtracted);
+    lower = λ c. omega (arith, ap (often c) (low ∙ sym added));
     within = λ k. none_spent k;
     each = λ i below. absurd (omega (arith, below));
     faults = inl (omega (arith, all_none faulted all.input.parties));
@@ -82,6 +83,7 @@ module _ {P M T : Type 0} (told : M → MakerTold) (all : Shared) (pool : Shared
       record {
         units = joins.units;
         even = joins.even;
+        lower = λ c. omega (arith, so_far.lower c, joins.over c);
         within = λ k. omega (arith, so_far.within k, joins.within k, more (asked k all.modules));
         each = λ i inside.
             elim (cases_lt i n) [

@@ -1,5 +1,6 @@
 pub mod Driving
 pub mod Joined
+pub mod JoinedOne
 pub mod Joins
 pub mod Limits
 pub mod Refusals

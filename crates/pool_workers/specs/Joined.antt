@@ -69,11 +69,12 @@ module _ {P M T : Type 0} (told : M → MakerTold) (all : Shared) (pool : Shared
     pub over_components : 0 < refused components (party_in all.input i).commands replies → number (low_additions component_counter) v < number (additions component_counter) v
 
   -- What is so of the seat to which those of the first parties were joined that have these replies, and that gave back what they had live. It has
-  -- no unit, and counted off as often as it counted. It used up at most what these parties ask for; and of their failed page calls each is
+  -- no unit, and counted off as often as it counted, which was low at most as often. It used up at most what these parties ask for; and of their failed page calls each is
   -- a fault more of a memory slot's cell, or such a cell is noted as topped.
   pub record IsJoined (v : View T) (replies : List (List Reply)) : Type 0 where
     pub units : v.units ≡ []
     pub even : IsEven v
+    pub lower : (c : ℕ) → number (low_additions c) v ≤ number (additions c) v
     pub within : (k : Scarce) → spent pool.plan k v ≤ asked_by_all k all.modules all.input.parties replies
     pub each : (i : ℕ) → i < length replies → HasRun v i (slice_index_or replies i [])
     pub faults : (faulted_of_all all.input.parties replies ≤ faults_in pool.plan v) ⊎ HasNotedCell pool.plan v

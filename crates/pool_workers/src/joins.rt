@@ -1,6 +1,7 @@
 //! How the workers' seats become one again: each is joined, and gives back what its party has live.
-ghost use Rattle.std.specs.Prelude.{◌≡◌, ℕ, ◌+◌, ◌<◌, ◌≤◌, ◌++◌, ◌∷◌, [], All, length, slice_index_or, true, None, Some, IfSome, vec_capacity};
+ghost use Rattle.std.specs.Prelude.{◌≡◌, ℕ, ◌+◌, ◌<◌, ◌≤◌, ◌++◌, ◌∷◌, [], All, length, slice_set, true, None, Some, IfSome, vec_capacity};
 ghost use Rattle.pool_hall.specs.Seat.{made_with, view, IsSeatOf, IsFree};
+ghost use Rattle.pool_hall.specs.Tally.{additions, low_additions, number};
 ghost use Rattle.pool_alloc.specs.Calls.{IsGrant, IsIdle};
 ghost use Rattle.pool_alloc.specs.declared.frame.Outcome.TheVariants.{Granted};
 ghost use Rattle.pool_driver.specs.Calling.{GoesOnSince, HasEnded};
@@ -16,43 +17,44 @@ ghost use Rattle.pool_workers.specs.Workers.{AreBack, IsBack};
 ghost use Rattle.pool_threads.specs.Working.{Job, about_job, given_by};
 
 use crate::worker::Worker;
-use pool_alloc::{Call, Frame, Grant, Outcome};
+use pool_alloc::{Call, Grant, Outcome};
 use pool_driver::{PoolHall, PoolSeat, SharedPool};
 use pool_limits::Unlimited;
 use pool_pages::{PageMaker, Pages};
 use pool_run::{ReplyList, RunningParty};
-use pool_slots::{ListedHeaps, PlainHeap};
+use pool_slots::PlainHeap;
 use std::alloc::Global;
 use std::sync::Wait;
 
-// Makes the steps of a call that has begun, and that no limiter is asked in.
+// Makes the steps of a party's call that has begun, in which no limiter is asked.
 fn finish_call<P: Pages, M: PageMaker, R: Wait>(
     rt: &R,
     alloc: Global,
     pool: &SharedPool<PoolHall<P, PlainHeap, M>>,
     seat: &mut PoolSeat<P, PlainHeap, M>,
-    frame: &mut Frame<P, PlainHeap>,
-    heaps: &mut ListedHeaps,
+    party: &mut RunningParty<P>,
 ) -> Outcome<P, PlainHeap>
     ghost given: { Given }
     requires pool { IsSharedOf M.told given.about pool.now }
     requires own { IsSeatOf pool.now.hall seat.old }
     requires free { IsFree seat.old }
-    requires driven { IsDriven (length (made_with pool.now.hall)) given (view seat.old) frame.old None }
-    requires begun { GoesOnSince given.about (view seat.old) (view seat.old) frame.old frame.old }
+    requires driven { IsDriven (length (made_with pool.now.hall)) given (view seat.old) party.old.frame None }
+    requires begun { GoesOnSince given.about (view seat.old) (view seat.old) party.old.frame party.old.frame }
     ensures own { IsSeatOf pool.now.hall seat.new }
     ensures free { IsFree seat.new }
-    ensures driven { IsDriven (length (made_with pool.now.hall)) given (view seat.new) frame.new (Some result) }
-    ensures ended { HasEnded given.about (view seat.old) (view seat.new) frame.old frame.new result }
+    ensures driven { IsDriven (length (made_with pool.now.hall)) given (view seat.new) party.new.frame (Some result) }
+    ensures ended { HasEnded given.about (view seat.old) (view seat.new) party.old.frame party.new.frame result }
     ensures grows { Grows (view seat.old) (view seat.new) }
+    ensures live { party.new.live ≡ party.old.live }
 {
     let mut outcome = None;
     for _ in rt.forever() {
+        let heaps = &mut party.heaps;
         pool.step(
             rt,
             seat,
             alloc,
-            frame,
+            &mut party.frame,
             &mut Unlimited,
             heaps,
             &mut outcome,
@@ -64,31 +66,61 @@ fn finish_call<P: Pages, M: PageMaker, R: Wait>(
     unreachable!()
 }
 
-// Gives a grant back.
+// Gives a grant of a party back, which isn't among its live ones any more.
 fn give_back<P: Pages, M: PageMaker, R: Wait>(
     rt: &R,
     alloc: Global,
     pool: &SharedPool<PoolHall<P, PlainHeap, M>>,
     seat: &mut PoolSeat<P, PlainHeap, M>,
-    frame: &mut Frame<P, PlainHeap>,
-    heaps: &mut ListedHeaps,
+    party: &mut RunningParty<P>,
     grant: Grant<P, PlainHeap>,
 )
-    ghost given: { Given }
-    requires pool { IsSharedOf M.told given.about pool.now }
+    ghost job: { Job }
+    requires pool { IsSharedOf M.told (about_job job) pool.now }
     requires own { IsSeatOf pool.now.hall seat.old }
     requires free { IsFree seat.old }
-    requires idle { IsIdle frame.old }
-    requires grant { IsGrant given.about.maker given.about.settings given.about.plan grant }
-    requires driven { IsDriven (length (made_with pool.now.hall)) given (view seat.old) frame.old (Some (Granted grant)) }
+    requires idle { IsIdle party.old.frame }
+    requires grant { IsGrant job.world.maker job.settings job.plan grant }
+    requires driven { IsDriven (length (made_with pool.now.hall)) (given_by job party.old.live) (view seat.old) party.old.frame (Some (Granted grant)) }
     ensures own { IsSeatOf pool.now.hall seat.new }
     ensures free { IsFree seat.new }
-    ensures idle { IsIdle frame.new }
-    ensures driven { IsDriven (length (made_with pool.now.hall)) given (view seat.new) frame.new None }
-    ensures spares { Spares given.about.plan (view seat.old) (view seat.new) }
+    ensures idle { IsIdle party.new.frame }
+    ensures driven { IsDriven (length (made_with pool.now.hall)) (given_by job party.old.live) (view seat.new) party.new.frame None }
+    ensures spares { Spares job.plan (view seat.old) (view seat.new) }
+    ensures live { party.new.live ≡ party.old.live }
 {
-    frame.begin(Call::GiveBack(grant));
-    finish_call(rt, alloc, pool, seat, frame, heaps);
+    party.frame.begin(Call::GiveBack(grant));
+    finish_call(rt, alloc, pool, seat, party);
+}
+
+// Gives back the grant at a place, if it is live.
+fn give_back_at<P: Pages, M: PageMaker, R: Wait>(
+    rt: &R,
+    alloc: Global,
+    pool: &SharedPool<PoolHall<P, PlainHeap, M>>,
+    seat: &mut PoolSeat<P, PlainHeap, M>,
+    party: &mut RunningParty<P>,
+    at: usize,
+)
+    ghost job: { Job }
+    requires pool { IsSharedOf M.told (about_job job) pool.now }
+    requires own { IsSeatOf pool.now.hall seat.old }
+    requires free { IsFree seat.old }
+    requires idle { IsIdle party.old.frame }
+    requires driven { IsDriven (length (made_with pool.now.hall)) (given_by job party.old.live) (view seat.old) party.old.frame None }
+    requires keeps { All (λ g. IfSome g GrantKeeps) party.old.live }
+    requires grants { All (λ g. IfSome g (IsGrant job.world.maker job.settings job.plan)) party.old.live }
+    ensures own { IsSeatOf pool.now.hall seat.new }
+    ensures free { IsFree seat.new }
+    ensures idle { IsIdle party.new.frame }
+    ensures driven { IsDriven (length (made_with pool.now.hall)) (given_by job party.new.live) (view seat.new) party.new.frame None }
+    ensures spares { Spares job.plan (view seat.old) (view seat.new) }
+    ensures live { party.new.live ≡ slice_set party.old.live at None }
+{
+    match party.live.take(at) {
+        None => {}
+        Some(grant) => give_back(rt, alloc, pool, seat, party, grant),
+    }
 }
 
 // Gives back all that is live of a party. Its seat has nothing then.
@@ -115,17 +147,7 @@ fn give_back_all<P: Pages, M: PageMaker, R: Wait>(
 {
     let count = party.live.len();
     for at in 0..count {
-        if let Some(grant) = party.live.take(at) {
-            give_back(
-                rt,
-                alloc,
-                pool,
-                seat,
-                &mut party.frame,
-                &mut party.heaps,
-                grant,
-            );
-        }
+        give_back_at(rt, alloc, pool, seat, party, at);
     }
 }
 
@@ -144,6 +166,7 @@ fn join_one<P: Pages, M: PageMaker, R: Wait>(
     requires back { IsBack M.told all.input all.modules pool.now worker }
     requires units { (view seat.old).units ≡ [] }
     requires even { IsEven (view seat.old) }
+    requires lower { (c : ℕ) → number (low_additions c) (view seat.old) ≤ number (additions c) (view seat.old) }
     ensures own { IsSeatOf pool.now.hall seat.new }
     ensures free { IsFree seat.new }
     ensures joins { IfSome result (Joins M.told all pool.now (view seat.old) (view seat.new) worker.number) }

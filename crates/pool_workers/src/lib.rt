@@ -10,3 +10,6 @@ mod workers;
 
 pub use threads::{run_threads, run_threads_with};
 pub use worker::Worker;
+
+#[cfg(test)]
+mod threads_tests;

@@ -26,7 +26,7 @@ use crate::worker::Worker;
 use crate::workers::{make_workers, work};
 use pool_alloc::{Metrics, ModuleCall, Parts};
 use pool_driver::{OpenPool, PoolHall, PoolSeat, SharedPool};
-use pool_pages::{FailingMaker, PageCalls, PageMaker, Pages};
+use pool_pages::{Failing, FailingMaker, PageCalls, PageMaker, Pages};
 use pool_run::{Input, ReplyList, RunFault, RunOutput, is_valid, make_calls, make_pool};
 use pool_slots::PlainHeap;
 use pool_threads::{Gate, OpenGate};

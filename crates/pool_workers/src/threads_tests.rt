@@ -1,0 +1,103 @@
+//! Parties on threads of their own, over a small pool.
+use crate::threads::run_threads;
+use pool_pages::MemoryPages;
+use pool_run::{Command, Input, Party, Reply};
+use pool_types::{Offered, PageSize, PlainList, PoolingAllocationConfig, Tunables};
+use std::alloc::{AllocError, Global};
+use std::test::*;
+
+// Asks for a stack, sets its first bytes, reads them, gives it back, and asks for one again.
+fn commands(alloc: Global, byte: u8) -> Result<PlainList<Command>, AllocError> {
+    let mut list = Vec::with_capacity(alloc, 6)?;
+    list.push(Command::Stack)?;
+    list.push(Command::Fill {
+        of: 0,
+        memory: 0,
+        at: 0,
+        len: 4,
+        byte,
+    })?;
+    list.push(Command::Read {
+        of: 0,
+        memory: 0,
+        at: 0,
+        len: 6,
+    })?;
+    list.push(Command::Drop { of: 0 })?;
+    list.push(Command::Stack)?;
+    list.push(Command::Read {
+        of: 4,
+        memory: 0,
+        at: 0,
+        len: 6,
+    })?;
+    Ok(PlainList::from_vec(list))
+}
+
+fn party(alloc: Global, home: u64, byte: u8) -> Result<Party, AllocError> {
+    Ok(Party {
+        home,
+        limits: None,
+        gc_faults: PlainList::new(alloc),
+        heap_faults: PlainList::new(alloc),
+        commands: commands(alloc, byte)?,
+    })
+}
+
+fn input(alloc: Global, parties: PlainList<Party>) -> Input {
+    let mut config = PoolingAllocationConfig::default();
+    config.limits.total_stacks = 2;
+    config.stack_size = 8192;
+    config.async_stack_zeroing = true;
+    Input {
+        page: 4096,
+        shards: 1,
+        config,
+        tunables: Tunables::default(),
+        offered: Offered::default(),
+        modules: PlainList::new(alloc),
+        parties,
+        schedule: PlainList::new(alloc),
+        finish: true,
+        faults: PlainList::new(alloc),
+    }
+}
+
+fn is_read(reply: &Reply, byte: u8) -> bool {
+    match reply {
+        Reply::Bytes(bytes) => {
+            let got = bytes.as_slice();
+            got.len() == 6 && got[0] == byte && got[3] == byte && got[4] == 0 && got[5] == 0
+        }
+        _ => false,
+    }
+}
+
+fn are_right(replies: &[Reply], byte: u8) -> bool {
+    replies.len() == 6
+        && matches!(&replies[0], Reply::Stack(_))
+        && matches!(&replies[1], Reply::Done)
+        && is_read(&replies[2], byte)
+        && matches!(&replies[3], Reply::Returned)
+        && matches!(&replies[4], Reply::Stack(_))
+        && is_read(&replies[5], 0)
+}
+
+#[test]
+fn two_parties_have_their_own_stacks(rt: HostRuntime) -> Result<(), Fail> {
+    let alloc = rt.alloc();
+    let page = PageSize::new(4096)?;
+    for _ in 0..20 {
+        let mut parties = Vec::with_capacity(alloc, 2)?;
+        parties.push(party(alloc, 0, 7)?)?;
+        parties.push(party(alloc, 1, 9)?)?;
+        let input = input(alloc, PlainList::from_vec(parties));
+        let mut pages = MemoryPages::new(page);
+        let output = run_threads(&rt, alloc, &input, &mut pages)?;
+        let replies = output.replies.as_slice();
+        assert_eq!(rt; replies.len(), 2);
+        assert!(rt; are_right(replies[0].as_slice(), 7));
+        assert!(rt; are_right(replies[1].as_slice(), 9));
+    }
+    Ok(())
+}
