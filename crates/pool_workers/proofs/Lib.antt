@@ -1,4 +1,5 @@
 pub mod Driving
+pub mod Grounding
 pub mod Joined
 pub mod JoinedOne
 pub mod Joins
