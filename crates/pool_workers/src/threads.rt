@@ -17,7 +17,7 @@ ghost use Rattle.pool_run.specs.Runs.{FaultsInMaking, HasFaultedMaking, NamesRul
 ghost use Rattle.pool_run.specs.Validity.{is_valid};
 ghost use Rattle.pool_threads.specs.Sharing.{IsGround, job_of};
 ghost use Rattle.pool_threads.specs.Working.{about_job};
-ghost use Rattle.pool_workers.specs.Joined.{IsJoined, shared_by};
+ghost use Rattle.pool_workers.specs.Joined.{IsJoined, Shared, shared_by};
 ghost use Rattle.pool_workers.specs.Threads.{HaveRunBeside};
 ghost use Rattle.pool_workers.specs.Workers.{AreBack, AreReady, DrivesWorkers};
 
@@ -50,7 +50,15 @@ fn work_list<P: Pages + Send, M: PageMaker, R: Threads + Wait + Sync, G: Gate + 
     ensures back { AreBack M.told input.now modules.now pool.now result.items }
 {
     let mut workers = workers;
-    work(rt, alloc, pool, input, modules, workers.as_mut_slice(), gate);
+    work(
+        rt,
+        alloc,
+        pool,
+        input,
+        modules,
+        workers.as_mut_slice(),
+        gate,
+    );
     workers
 }
 
@@ -64,6 +72,8 @@ fn side_by_side<P: Pages + Send, M: PageMaker, R: Threads + Wait + Sync, G: Gate
     modules: &[ModuleCall],
     gate: &G,
 ) -> Result<Vec<ReplyList>, RunFault>
+    ghost all: { Shared }
+    requires all { all ≡ shared_by input.now modules.now }
     requires ground { IsGround M.told input.now modules.now pool.now }
     requires drives { DrivesWorkers M.told input.now pool.now }
     requires own { IsSeatOf pool.now.hall seat.old }
@@ -71,7 +81,7 @@ fn side_by_side<P: Pages + Send, M: PageMaker, R: Threads + Wait + Sync, G: Gate
     requires first { view seat.old ≡ first_view (made_with pool.now.hall) (limits_of pool.now.hall) }
     ensures own { IsSeatOf pool.now.hall seat.new }
     ensures free { IsFree seat.new }
-    ensures joined { IfOk result (λ v. IsJoined M.told (shared_by input.now modules.now) pool.now (view seat.new) v.items) }
+    ensures joined { IfOk result (λ v. IsJoined M.told all pool.now (view seat.new) v.items) }
     ensures count { IfOk result (λ v. length v.items ≡ length input.now.parties) }
     ensures portions { OnOk result ((view seat.new).portions ≡ all_portions) }
     ensures memory { IfErr result (λ fault. fault ≡ RunFault.Memory) }
@@ -97,15 +107,15 @@ fn run_over<P: Pages + Send, M: PageMaker, R: Threads + Wait + Sync, G: Gate + S
     alloc: Global,
     input: &Input,
     modules: &[ModuleCall],
-    open: OpenPool<P, PlainHeap, M>,
+    opened: OpenPool<P, PlainHeap, M>,
     gate: &G,
 ) -> Result<(Vec<ReplyList>, Parts<P, PlainHeap>), RunFault>
     ghost maker: { MakerTold }
-    requires open { IsOpen M.told (about_job (job_of M.told input.now open.pool)) open }
-    requires ground { IsGround M.told input.now modules.now open.pool }
-    requires drives { DrivesWorkers M.told input.now open.pool }
-    requires first { view open.seat ≡ first_view (made_with open.pool.hall) (limits_of open.pool.hall) }
-    requires maker { (job_of M.told input.now open.pool).world.maker ≡ maker }
+    requires open { IsOpen M.told (about_job (job_of M.told input.now opened.pool)) opened }
+    requires ground { IsGround M.told input.now modules.now opened.pool }
+    requires drives { DrivesWorkers M.told input.now opened.pool }
+    requires first { view opened.seat ≡ first_view (made_with opened.pool.hall) (limits_of opened.pool.hall) }
+    requires maker { (job_of M.told input.now opened.pool).world.maker ≡ maker }
     requires calls { modules.now ≡ calls_made input.now.tunables maker.page 0 input.now.modules }
     ensures ran { IfOk result (λ r. HaveRunBeside input.now maker r.0.items) }
     ensures home { IfOk result (λ r. AreAtHome r.1) }
@@ -116,7 +126,7 @@ fn run_over<P: Pages + Send, M: PageMaker, R: Threads + Wait + Sync, G: Gate + S
         seat,
         lists,
         room,
-    } = open;
+    } = opened;
     let mut seat = seat;
     let replies = match side_by_side(rt, alloc, &pool, &mut seat, input, modules, gate) {
         Ok(replies) => replies,

@@ -130,8 +130,13 @@ pub(crate) fn work<P: Pages + Send, M: PageMaker, R: Threads + Wait + Sync, G: G
     if count == 0 {
         return;
     }
-    thread::for_each_mut(rt, workers, count, &|_, worker: &mut Worker<PoolSeat<P, PlainHeap, M>, P>|
-        requires { IsGround M.told input.now modules.now pool.now × IsReady M.told input.now pool.now worker.now }
-        ensures { IsBack M.told input.entry.now modules.entry.now pool.entry.now worker.exit.now × (worker.exit.now.number ≡ worker.entry.now.number) }
-    { work_one(rt, alloc, pool, input, modules, worker, gate) });
+    thread::for_each_mut(
+        rt,
+        workers,
+        count,
+        &|_, worker: &mut Worker<PoolSeat<P, PlainHeap, M>, P>|
+            requires { IsGround M.told input.now modules.now pool.now × IsReady M.told input.now pool.now worker.now }
+            ensures { IsBack M.told input.entry.now modules.entry.now pool.entry.now worker.exit.now × (worker.exit.now.number ≡ worker.entry.now.number) }
+        { work_one(rt, alloc, pool, input, modules, worker, gate) },
+    );
 }
