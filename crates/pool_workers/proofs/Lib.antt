@@ -1,3 +1,4 @@
+pub mod Beside
 pub mod Driving
 pub mod Grounding
 pub mod Joined
