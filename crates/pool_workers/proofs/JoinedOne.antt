@@ -24,7 +24,7 @@ use Rattle.pool_workers.specs.Joined.{HasRun, Joins, Shared}
 use Rattle.pool_workers.specs.Sparing.{Spares}
 use Rattle.pool_workers.specs.Workers.{HasWorked, worker_view}
 use Rattle.pool_workers.specs.declared.worker.Worker.{Worker}
-use Rattle.pool_workers.proofs.Joins.{notes_join, with_more}
+use Rattle.pool_workers.proofs.JoinedViews.{notes_join, with_more}
 
 -- more portions are no more of anything else
 spent_more : {T : Type 0} (plan : Plan) (k : Scarce) (n : ℕ) (v : View T) → spent plan k (with_more n v) ≡ spent plan k v

@@ -3,7 +3,7 @@ pub mod Driving
 pub mod Grounding
 pub mod Joined
 pub mod JoinedOne
-pub mod Joins
+pub mod JoinedViews
 pub mod Limits
 pub mod Refusals
 pub mod Sparing
