@@ -59,22 +59,23 @@ module _ {T P : Type 0} (j : Job) (places : ℕ) (v : View T) (f : Frame P Plain
       (λ t. omega (arith, live_weigh t left, live_weigh t live, fewer (grant_count t) live of grant has))
       (λ k. omega (arith, fewer (grant_counted (only k)) live of grant has)) (kept_at live of grant has keeps) driven
 
--- a place that has nothing is emptied
-pub set_none : {X : Type 0} (xs : List (Option X)) (k : ℕ) → slice_index_or xs k None ≡ None → slice_set xs k None ≡ xs
-set_none [] k is = refl
-set_none (x ∷ xs) zero is = ap (λ (y : Option _). y ∷ xs) (sym is)
-set_none (x ∷ xs) (suc k) is = ap (λ (ys : List (Option _)). x ∷ ys) (set_none xs k is)
+module _ {X : Type 0} where
+  -- a place that has nothing is emptied
+  pub set_none : (xs : List (Option X)) (k : ℕ) → slice_index_or xs k None ≡ None → slice_set xs k None ≡ xs
+  set_none [] k is = refl
+  set_none (x ∷ xs) zero is = ap (λ (y : Option X). y ∷ xs) (sym is)
+  set_none (x ∷ xs) (suc k) is = ap (λ (ys : List (Option X)). x ∷ ys) (set_none xs k is)
 
--- it has nothing then, nor has one that had nothing
-pub emptied : {X : Type 0} (xs : List (Option X)) (k i : ℕ) → (slice_index_or xs i None ≡ None) ⊎ (i ≡ k) → slice_index_or (slice_set xs k None) i None ≡ None
-emptied [] k i is = refl
-emptied (x ∷ xs) zero zero is = refl
-emptied (x ∷ xs) zero (suc i) (inl is) = is
-emptied (x ∷ xs) zero (suc i) (inr is) = absurd (omega (arith, is))
-emptied (x ∷ xs) (suc k) zero (inl is) = is
-emptied (x ∷ xs) (suc k) zero (inr is) = absurd (omega (arith, is))
-emptied (x ∷ xs) (suc k) (suc i) (inl is) = emptied xs k i (inl is)
-emptied (x ∷ xs) (suc k) (suc i) (inr is) = emptied xs k i (inr (omega (arith, is)))
+  -- it has nothing then, nor has one that had nothing
+  pub emptied : (xs : List (Option X)) (k i : ℕ) → (slice_index_or xs i None ≡ None) ⊎ (i ≡ k) → slice_index_or (slice_set xs k None) i None ≡ None
+  emptied [] k i is = refl
+  emptied (x ∷ xs) zero zero is = refl
+  emptied (x ∷ xs) zero (suc i) (inl is) = is
+  emptied (x ∷ xs) zero (suc i) (inr is) = absurd (omega (arith, is))
+  emptied (x ∷ xs) (suc k) zero (inl is) = is
+  emptied (x ∷ xs) (suc k) zero (inr is) = absurd (omega (arith, is))
+  emptied (x ∷ xs) (suc k) (suc i) (inl is) = emptied xs k i (inl is)
+  emptied (x ∷ xs) (suc k) (suc i) (inr is) = emptied xs k i (inr (omega (arith, is)))
 
 -- nothing is live
 none_granted : {P : Type 0} (of : Grant P PlainHeap → ℕ) (live : List (Option (Grant P PlainHeap))) → ((i : ℕ) → i < length live → slice_index_or live i None ≡ None) → sum_by (granted_to of) live ≡ 0

@@ -5,5 +5,6 @@ pub mod Joined
 pub mod JoinedOne
 pub mod JoinedViews
 pub mod Limits
+pub mod Numbered
 pub mod Refusals
 pub mod Sparing
