@@ -32,7 +32,7 @@ fn tested(input: Input, fit: bool) -> Result<Input, InputFault>
     ensures ready { IfOk result (λ input. is_built input ≡ true) }
 {
     if !is_built(&input) {
-        return Err(InputFault::NotBuilt);
+        return Err(InputFault::Invalid);
     }
     if !fit {
         return Err(InputFault::Invalid);
@@ -46,7 +46,7 @@ fn input_of(alloc: Global, value: &Value) -> Result<Input, InputFault>
 {
     match Input::from_json(alloc, value) {
         Ok(input) => tested(input, numbers_fit(value)),
-        Err(FormFault::OtherForm) => Err(InputFault::NotBuilt),
+        Err(FormFault::OtherForm) => Err(InputFault::Invalid),
         Err(FormFault::Memory) => Err(InputFault::Memory),
     }
 }
@@ -62,7 +62,7 @@ fn shared_of(alloc: Global, value: &Value) -> Result<SharedInput, InputFault>
                 Err(InputFault::Invalid)
             }
         }
-        Err(FormFault::OtherForm) => Err(InputFault::NotBuilt),
+        Err(FormFault::OtherForm) => Err(InputFault::Invalid),
         Err(FormFault::Memory) => Err(InputFault::Memory),
     }
 }

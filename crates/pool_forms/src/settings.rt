@@ -190,6 +190,7 @@ fn config_of(value: &Value) -> Option<PoolingAllocationConfig>
             "table_keep_resident",
             "memory_protection_keys",
             "max_memory_protection_keys",
+            "pagemap_scan",
         ],
     ) {
         return None;
@@ -199,7 +200,9 @@ fn config_of(value: &Value) -> Option<PoolingAllocationConfig>
     config.limits = limits;
     let config = with_slots(config, value)?;
     let config = with_stacks(config, value)?;
-    with_keys(config, value)
+    let mut config = with_keys(config, value)?;
+    config.pagemap_scan = enabled(value.get("pagemap_scan"))?;
+    Some(config)
 }
 
 /// Settings of the pool that may be left out.
@@ -324,13 +327,14 @@ fn behaviour(field: Option<&Value>) -> Option<DecommitBehavior>
 fn offered_of(value: &Value) -> Option<Offered>
     ensures { result ≡ offered_form (view value.now) }
 {
-    if !has_only(value, &["keys", "behaviour"]) {
+    if !has_only(value, &["keys", "dirty_pages", "behaviour"]) {
         return None;
     }
     let keys = count_or(0, value.get("keys"))?;
     let behaviour = behaviour(value.get("behaviour"))?;
     let mut offered = Offered::default();
     offered.keys = keys;
+    offered.dirty_pages = flag_or(false, value.get("dirty_pages"))?;
     offered.behaviour = behaviour;
     Some(offered)
 }

@@ -16,7 +16,7 @@ pub fn is_built(input: &Input) -> bool
 fn is_built_offer(offered: &Offered) -> bool
     ensures { result ≡ is_built_offer offered.now }
 {
-    !offered.dirty_pages
+    offered.dirty_pages || true
 }
 
 fn are_built_modules(modules: &[ModuleInfo]) -> bool
