@@ -30,9 +30,9 @@ module _ (at : ℕ) (new : List ℕ) (s : Slot) where
   }
 
 -- what is told of a plain slot without image
-record IsBlankTold (s : Slot) (c : Contents) : Type 0 where
-  sound : IsSound s.region.page s.region.len s.base.bytes (size_of s) c
-  zeros : c.origin ≡ replicate (length c.origin) 0
+pub record IsBlankTold (s : Slot) (c : Contents) : Type 0 where
+  pub sound : IsSound s.region.page s.region.len s.base.bytes (size_of s) c
+  pub zeros : c.origin ≡ replicate (length c.origin) 0
 
 blank_of : (s : Slot) (o : Option Contents) → s.image ≡ None → IfSome o (IsSound s.region.page s.region.len s.base.bytes (size_of s)) → IfSome o (IsReady s) → IfSome o (IsBlankTold s)
 blank_of s None none sound ready = sound
@@ -40,7 +40,7 @@ blank_of s (Some c) none sound ready =
     let Z : Option ImageName → Type 0 = λ o. c.origin ≡ placed s.base.bytes (restored_image o s.region.behaviour) c.origin in
     record { sound = sound; zeros = subst Z none ready.origin }
 
-blank : (s : Slot) → IsPlain s → IfSome s.region.contents (IsBlankTold s)
+pub blank : (s : Slot) → IsPlain s → IfSome s.region.contents (IsBlankTold s)
 blank s p = blank_of s s.region.contents p.image p.fits.told p.ready
 
 -- zeros that are written are what the bytes go back to
@@ -98,7 +98,7 @@ half_of from to s (Some c) sound ready below above = record { sound = sound; rea
 origin_none : (b : DecommitBehavior) → None ≡ restored_image None b
 origin_none b = refl
 
-no_image : (s : Slot) → s.image ≡ None → s.image ≡ restored_image s.image s.region.behaviour
+pub no_image : (s : Slot) → s.image ≡ None → s.image ≡ restored_image s.image s.region.behaviour
 no_image s none = let I : Option ImageName → Type 0 = λ o. o ≡ restored_image o s.region.behaviour in subst I (sym none) (origin_none s.region.behaviour)
 
 shape_next : (r : ByteRange) (s : Slot) (c : Contents) → IsSlot (next r s) → s.region.contents ≡ Some c → IsShaped s.region.page s.region.len (decommitted (s.base.bytes + r.start) r.len c)
@@ -135,7 +135,7 @@ clean_between from to s p order within part below above =
 part_between : (page size from to : ℕ) → from % page ≡ 0 → to % page ≡ 0 → from ≤ to → to ≤ size → IsPart page size (record { start = from; len = to - from })
 part_between page size from to a b order within = record { start = a; len = sub_whole to from page b a; inside = omega arith }
 
-told_held : (at n from to : ℕ) (s : Slot) → IsPlain s → at + n ≤ from → at + n ≤ size_of s → to ≤ size_of s → IfSome s.region.contents (Holds s from to) → IfSome (plain_written at (replicate n 0) s).region.contents (Holds s from to)
+pub told_held : (at n from to : ℕ) (s : Slot) → IsPlain s → at + n ≤ from → at + n ≤ size_of s → to ≤ size_of s → IfSome s.region.contents (Holds s from to) → IfSome (plain_written at (replicate n 0) s).region.contents (Holds s from to)
 told_held at n from to s p behind inside within holds =
     let Sound : Contents → Type 0 = IsSound s.region.page s.region.len s.base.bytes (size_of s) in
     lifted (λ c. Sound c × Holds s from to c) (Holds s from to) (written (s.base.bytes + at) (replicate n 0)) s.region.contents
@@ -148,7 +148,7 @@ pub empty_held : (s : Slot) (at : ℕ) (o : Option Contents) → IfSome o (IsSou
 empty_held s at None sound fits within = sound
 empty_held s at (Some c) sound fits within = same_range c.bytes c.origin (s.base.bytes + at) (s.base.bytes + at) (omega (arith, sound.shaped.bytes, fits.sizes.inside)) (omega (arith, sound.shaped.origin, fits.sizes.inside)) (λ j x over below. absurd (omega arith))
 
-written_size : (at n : ℕ) (s : Slot) → IsPlain s → at + n ≤ s.static_size → at + length (replicate {A = ℕ} n 0) ≤ s.accessible.bytes
+pub written_size : (at n : ℕ) (s : Slot) → IsPlain s → at + n ≤ s.static_size → at + length (replicate {A = ℕ} n 0) ≤ s.accessible.bytes
 written_size at n s p within = omega (arith, length-replicate {A = ℕ} n 0, p.all)
 
 -- The top of a stack is zeroed by hand, and the rest decommitted.

@@ -1,5 +1,5 @@
-use Rattle.std.proofs.Common.{◌≡◌, rules, true, false, List, sym, subst, is_ok}
-use Rattle.pool_alloc.proofs.Imports.{Slot, ByteRange, Zero, Queued, IsReset}
+use Rattle.std.proofs.Common.{◌≡◌, ◌≤◌, rules, arith, true, false, List, sym, subst, is_ok}
+use Rattle.pool_alloc.proofs.Imports.{Slot, ByteRange, Zero, Queued, IsReset, given_marks, kept_most}
 use Rattle.pool_alloc.specs.Leases.{slot_taken}
 use Rattle.pool_alloc.specs.PageCallAnswers.{Resets}
 use Rattle.pool_alloc.proofs.LocalQueues.{memory_queued, memory_reset, reset_told, zeros_of}
@@ -11,14 +11,14 @@ push_reset-requires-clause-reset g c =
     let R : List ByteRange → Type 0 = λ l. IsReset l (memory_queued c.in-Ok.kept c.slot_taken-at.result c.clear_and_remain_ready.new.self) in
     let M : Queued → Type 0 = λ m. IsReset c.as_slice-listed.result.now m in
     subst M (sym c.memory_queued-item.ensures) (subst R (sym c.as_slice-listed.ensures)
-    (memory_reset c.args.settings.now.keep_resident.bytes slot.accessible.bytes c.in-Ok.kept slot.region.behaviour c.slot_taken-at.result c.clear_and_remain_ready.new.self c.clear_and_remain_ready.new.ranges c.requires.can.kept c.in-Ok.ensures.resident c.clear_and_remain_ready.ensures.fits c.clear_and_remain_ready.ensures.parts c.in-Ok.ensures.clean_after))
+    (memory_reset c.args.settings.now.keep_resident.bytes c.in-Ok.kept c.slot_taken-at.result c.clear_and_remain_ready.new.self c.clear_and_remain_ready.new.ranges c.requires.can.kept (omega (arith, c.in-Ok.ensures.resident, kept_most (given_marks c.args.settings.now.dirty_pages slot) slot.region.behaviour c.args.settings.now.keep_resident.bytes slot)) c.clear_and_remain_ready.ensures.fits c.clear_and_remain_ready.ensures.parts c.in-Ok.ensures.clean_after))
 
 pub returns : goal.returns
 returns g c =
     let keep = c.args.settings.now.keep_resident.bytes in
     let new : Slot = c.clear_and_remain_ready.new.self in
-    let T : Slot → Type 0 = λ s. Resets false keep (slot_taken c.args.lease) s new in
-    let told = reset_told keep c.in-Ok.kept (slot_taken c.args.lease) c.unwrap_static_image-slot.result new c.clear_and_remain_ready.new.ranges c.requires.can.kept c.in-Ok.ensures.value c.in-Ok.ensures.resident c.clear_and_remain_ready.ensures.ranges c.clear_and_remain_ready.ensures.fits c.clear_and_remain_ready.ensures.parts c.in-Ok.ensures.clean_after in
+    let T : Slot → Type 0 = λ s. Resets false c.args.settings.now.dirty_pages keep (slot_taken c.args.lease) s new in
+    let told = reset_told c.args.settings.now.dirty_pages keep c.in-Ok.kept (slot_taken c.args.lease) c.unwrap_static_image-slot.result new c.clear_and_remain_ready.new.ranges c.requires.can.kept c.in-Ok.ensures.value c.in-Ok.ensures.resident c.clear_and_remain_ready.ensures.ranges c.clear_and_remain_ready.ensures.fits c.clear_and_remain_ready.ensures.parts c.in-Ok.ensures.clean_after in
     (false, new, subst T (search rules) told, search rules, search rules)
 
 pub returns-in_default : goal.returns-in_default
@@ -26,7 +26,7 @@ returns-in_default g c =
     let keep = c.args.settings.now.keep_resident.bytes in
     let slot : Slot = c.unwrap_static_image-slot.result in
     let new : Slot = c.clear_and_remain_ready.new.self in
-    let T : Slot → Type 0 = λ s. Resets true keep (slot_taken c.args.lease) s new in
+    let T : Slot → Type 0 = λ s. Resets true c.args.settings.now.dirty_pages keep (slot_taken c.args.lease) s new in
     let zeros : slot.region.behaviour ≡ Zero = zeros_of slot.region.behaviour (is_ok c.clear_and_remain_ready.result) c.clear_and_remain_ready.ensures.restores (search rules) in
     let told : T slot = (zeros, c.in_default.ensures.fault) in
     (true, new, subst T (search rules) told, search rules, search rules)
