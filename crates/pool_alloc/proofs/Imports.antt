@@ -77,7 +77,7 @@ pub use Rattle.pool_slots.proofs.ListUnits.{away_follows, away_parts, kept_follo
 pub use Rattle.pool_slots.proofs.Lists.{each_both, each_weaker}
 pub use Rattle.pool_slots.proofs.PartUnits.{puts_count, takes_count, units_append, units_by_kind}
 pub use Rattle.pool_slots.proofs.PartsMade.{made_shard_of}
-pub use Rattle.pool_slots.proofs.MarkedTables.{IsUsedReset, used_is_reset, used_size}
+pub use Rattle.pool_slots.proofs.MarkedTables.{IsSoReset, used_is_reset, used_size}
 pub use Rattle.pool_slots.proofs.PlainSlots.{clean_slots_read_zeros, empty_held, top_done, top_plain}
 pub use Rattle.pool_slots.proofs.PlanSizes.{shard_below}
 pub use Rattle.pool_slots.proofs.Planning.{HasShards, allocators_placed, numbered, roles, shards_of, slots_are_at_home}

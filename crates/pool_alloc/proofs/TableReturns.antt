@@ -1,6 +1,6 @@
 -- Slots on their way back: a table's as it is reset, and any as it goes back into its cell.
 use Rattle.std.proofs.Common.{◌≡◌, ℕ, ◌*◌, ◌-◌, ◌%◌, ◌≤◌, Bool, true, false, List, [], ◌∷◌, length, refl, ap, arith, replicate, min, Option, Some, None, nat_lt, if◌then◌else◌, IsSome, IfSome}
-use Rattle.pool_alloc.proofs.Imports.{rounded_is_whole, SlotKind, memory_kind, table_kind, stack_kind, heap_kind, MakerTold, Told, ByteRange, Slot, IsClean, identity, told_same, previously_used, unknown, is_taken, like_restored, pages_by_hand, plain_written, Queued, CanBeZeroed, LeavesClean, empty_queue, plain_slot, with_ranges, IsUsedReset, used_is_reset, used_kept, used_left, used_reset, used_size, TellsMarks, leaves_clean, width}
+use Rattle.pool_alloc.proofs.Imports.{rounded_is_whole, SlotKind, memory_kind, table_kind, stack_kind, heap_kind, MakerTold, Told, ByteRange, Slot, IsClean, identity, told_same, previously_used, unknown, is_taken, like_restored, pages_by_hand, plain_written, Queued, CanBeZeroed, LeavesClean, empty_queue, plain_slot, with_ranges, IsSoReset, used_is_reset, used_kept, used_left, used_reset, used_size, TellsMarks, leaves_clean, width}
 use Rattle.pool_slots.specs.declared.queued_range.QueueKind.TheVariants as queued
 use Rattle.pool_alloc.specs.BetweenSteps.{IsSettings, MayHold, MayQueue, MustBeByHand}
 use Rattle.pool_alloc.specs.PoolTables.{IsPoolTable}
@@ -15,11 +15,11 @@ use Rattle.pool_alloc.proofs.TableRegions.{table_back}
 use Rattle.pool_alloc.proofs.TableResets.{table_is_reset}
 
 -- A table's region is reset as it may be.
-pub table_done : (offered : Bool) (page keep : ℕ) (l : LeasedTable) (region : Told) → IsInRegion page l region → TellsMarks region → keep % page ≡ 0 → IsUsedReset (table_marks offered page l region) keep (bytes_used page l) (plain_slot 0 region)
+pub table_done : (offered : Bool) (page keep : ℕ) (l : LeasedTable) (region : Told) → IsInRegion page l region → TellsMarks region → keep % page ≡ 0 → IsSoReset (table_marks offered page l region) keep (bytes_used page l) (plain_slot 0 region)
 table_done offered page keep l region lies marked whole =
     let keeps : keep % region.page ≡ 0 = rw lies.same_page whole in
     let uses : bytes_used page l % region.page ≡ 0 = rw lies.same_page (rounded_is_whole page (l.table.size * width l.table.kind)) in
-    used_is_reset offered keep (bytes_used page l) (plain_slot 0 region) lies.plain marked uses (omega (arith, lies.within)) keeps lies.unused
+    used_is_reset keep (bytes_used page l) (plain_slot 0 region) lies.plain uses (omega (arith, lies.within)) lies.unused offered marked keeps
 
 -- A table's slot that was reset leaves clean, and is the slot that it was.
 pub table_leaves : (offered : Bool) (page keep : ℕ) (l : LeasedTable) (region : Told) → IsInRegion page l region → TellsMarks region → keep % page ≡ 0 → LeavesClean (with_ranges queued.Table l.index (used_left (table_marks offered page l region) keep (bytes_used page l) (plain_slot 0 region)) (empty_queue 0 0)).ranges (table_queued offered page keep l region)
@@ -29,7 +29,7 @@ table_leaves offered page keep l region lies marked whole =
     let marks : Option (List Bool) = table_marks offered page l region in
     let done = table_done offered page keep l region lies marked whole in
     leaves_clean queued.Table (table_queued offered page keep l region) (used_left marks keep used s) (empty_queue 0 0) refl tt refl
-    (table_is_reset page l region (used_left marks keep used s) (used_reset marks keep used s) (used_kept marks keep used s) l.numbers lies done.plain (used_size marks keep used s) done.kept done.unused done.parts done.clean)
+    (table_is_reset page l region (used_left marks keep used s) (used_reset marks keep used s) (used_kept marks keep used s) l.numbers lies done.plain (used_size marks keep used s) done.most done.unused done.parts done.clean_after)
 
 one_written : (at : ℕ) (new : List ℕ) (s : Slot) → IsOneSlot s (plain_written at new s)
 one_written at new s = ap (λ (b : Bool). record (identity s) { tells = b }) (told_same _ s.region.contents)

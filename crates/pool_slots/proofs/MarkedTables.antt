@@ -1,20 +1,23 @@
 -- A table's region is reset, by the dirty marks of the pages that it used or without any.
 use Rattle.std.proofs.Common.{◌≡◌, ℕ, ◌+◌, ◌-◌, ◌*◌, ◌/◌, ◌%◌, ◌<◌, ◌≤◌, ◌&&◌, Bool, true, false, List, [], ◌∷◌, ◌++◌, length, get_or, take, drop, refl, sym, ap, ◌∙◌, subst, arith, slice_range, replicate, min, nat_lt, if◌then◌else◌, Option, None, Some, IfSome, All, option_map, add-mul, mul-le-mul_right}
-use Rattle.pool_slots.proofs.Imports.{length-replicate, Contents, written, overwritten, ImageName, ByteRange, Slot, IsSlot, IsSound, IsReady, IsClean, IsPart, Holds, placed, origin_image, size_of, decommitted_all, called, decommitting, followed, Told, range-zeros}
+use Rattle.pool_slots.proofs.Imports.{length-replicate, Contents, written, overwritten, ImageName, ByteRange, Slot, IsSlot, IsSound, IsReady, IsClean, IsPart, Holds, placed, origin_image, size_of, decommitted_all, called, decommitting, followed, Told, CanReach, range-zeros, tells_shaped}
 use Rattle.pool_types.specs.Count.{Count, count}
 use Rattle.pool_types.specs.declared.decommit_behavior.DecommitBehavior.TheVariants.{RestoreOriginalMapping}
 use Rattle.pool_pages.specs.Contents.{put_back, touched_marked}
 use Rattle.pool_pages.specs.Told.{TellsMarks, restored}
 use Rattle.pool_images.specs.ResetLaws.{bytes_of}
-use Rattle.pool_images.specs.Resets.{marks_of, marked_pages, pages_by_hand, pages_left, pages_restored, runs_of, at_most_eight}
+use Rattle.pool_images.specs.Resets.{marks_of, marked_pages, pages_by_hand, pages_left, pages_restored, runs_of, at_most_eight, span_marks}
+use Rattle.pool_images.specs.declared.image_slot.dirty_pages.PageSpan.{PageSpan}
 use Rattle.pool_images.specs.Slots.{IsPlaced, cleared, reset_ranges}
 use Rattle.pool_images.proofs.MarkedPages.{RiseIn, take_rises}
-use Rattle.pool_images.proofs.MarkedResets.{marks_parts, started, rise, sum}
+use Rattle.pool_images.proofs.MarkedResets.{hand_is, left_is, marks_parts, started, rise, sum}
 use Rattle.pool_images.proofs.PutBacks.{Backed, TellsBacked, backed_both, lone_pages, only_region, pages_backed, ranges_backed}
 use Rattle.pool_images.proofs.Ready.{IsStarted}
 use Rattle.pool_images.proofs.ResetBounds.{kept_within}
 use Rattle.pool_images.proofs.SameBytes.{by}
-use Rattle.pool_slots.specs.PlainSlots.{IsPlain, IsUnusedFrom, bottom_reset, plain_written, used_after, used_kept, used_left, used_marks, used_part, used_reset}
+use Rattle.pool_images.proofs.Spans.{slot_marks, slot_span}
+use Rattle.pool_slots.specs.PlainSlots.{IsPlain, IsTableReset, IsUnusedFrom, IsUsedSpan, bottom_reset, plain_written, used_after, used_kept, used_left, used_marks, used_part, used_reset}
+use Rattle.pool_slots.specs.SlotQueues.{plain_slot}
 use Rattle.pool_slots.proofs.PlainSlots.{IsBlankTold, blank, bottom_plain, bottom_reset_done, bottom_unused, no_image, plain_after, told_held, written_size}
 
 -- A plain slot goes back to zeros: bytes of it that are set to what they go back to are written with zeros.
@@ -160,41 +163,96 @@ module _ (used keep : ℕ) (s : Slot) (p : IsPlain s) (within : used ≤ s.stati
         holds = followed (IsStarted (used_part used s)) (Holds t 0 (size_of t)) v.contents (λ d x. x.holds) st;
       })
 
--- What a table's region is once it is reset, by these marks or none.
-pub record IsUsedReset (marks : Option (List Bool)) (keep used : ℕ) (s : Slot) : Type 0 where
-  pub plain : IsPlain (used_reset marks keep used s)
-  pub unused : IsUnusedFrom used (used_reset marks keep used s)
-  pub parts : All (IsPart (used_reset marks keep used s).region.page (size_of (used_reset marks keep used s))) (used_left marks keep used s)
-  pub clean : IsClean (decommitted_all (used_left marks keep used s) (used_reset marks keep used s))
-  pub kept : used_kept marks keep used s ≤ used
-
 pub used_size : (marks : Option (List Bool)) (keep used : ℕ) (s : Slot) → (used_reset marks keep used s).static_size ≡ s.static_size
 used_size None keep used s = refl
 used_size (Some marks) keep used s = refl
 
-module _ (offered : Bool) (keep used : ℕ) (s : Slot) (p : IsPlain s) (marked : TellsMarks s.region) (used_whole : used % s.region.page ≡ 0) (within : used ≤ s.static_size) where
-  pub reset_by_marks : IsUnusedFrom used s → IsUsedReset (Some (marks_of (used_part used s))) keep used s
-  reset_by_marks unused = record {
-    plain = marked_plain used keep s p within used_whole marked;
-    unused = marked_unused used keep s p within used_whole marked unused;
+-- What a table's region is once it is reset, by its dirty marks or without any.
+abbrev pub IsSoReset : Option (List Bool) → ℕ → ℕ → Slot → Type 0
+IsSoReset marks keep used s = IsTableReset marks keep used s (used_reset marks keep used s) (used_kept marks keep used s) (used_left marks keep used s)
+
+module _ (keep used : ℕ) (s : Slot) (p : IsPlain s) (used_whole : used % s.region.page ≡ 0) (within : used ≤ s.static_size) (unused : IsUnusedFrom used s) where
+  pub marked_reset_is : TellsMarks s.region → IsSoReset (Some (marks_of (used_part used s))) keep used s
+  marked_reset_is marked = record {
+    resident = refl;
+    ranges = refl;
+    value = refl;
     parts = marked_parts used keep s p within used_whole marked;
-    clean = marked_clean used keep s p within used_whole marked unused;
-    kept = kept_within (used_part used s) keep (part_fits used s p within used_whole) marked;
+    clean_after = marked_clean used keep s p within used_whole marked unused;
+    unused = marked_unused used keep s p within used_whole marked unused;
+    plain = marked_plain used keep s p within used_whole marked;
+    most = kept_within (used_part used s) keep (part_fits used s p within used_whole) marked;
   }
 
-  pub used_is_reset : keep % s.region.page ≡ 0 → IsUnusedFrom used s → IsUsedReset (used_marks offered used s) keep used s
-  used_is_reset keep_whole unused = either (offered && nat_lt s.region.page used) where
-    either : (b : Bool) → IsUsedReset (if b then Some (marks_of (used_part used s)) else None) keep used s
-    either true = reset_by_marks unused
-    either false =
-        let done = bottom_reset_done keep used s p within keep_whole used_whole unused in
-        record {
-          plain = bottom_plain keep used s p within keep_whole used_whole unused;
-          unused = bottom_unused keep used s p within keep_whole used_whole unused;
-          parts = done.0;
-          clean = done.1;
-          kept = omega arith;
-        }
+  pub plain_reset_is : keep % s.region.page ≡ 0 → IsSoReset None keep used s
+  plain_reset_is keep_whole =
+      let done = bottom_reset_done keep used s p within keep_whole used_whole unused in
+      record {
+        resident = refl;
+        ranges = refl;
+        value = refl;
+        parts = done.0;
+        clean_after = done.1;
+        unused = bottom_unused keep used s p within keep_whole used_whole unused;
+        plain = bottom_plain keep used s p within keep_whole used_whole unused;
+        most = omega arith;
+      }
+
+  pub used_is_reset : (offered : Bool) → TellsMarks s.region → keep % s.region.page ≡ 0 → IsSoReset (used_marks offered used s) keep used s
+  used_is_reset offered marked keep_whole = either (offered && nat_lt s.region.page used) where
+    either : (b : Bool) → IsSoReset (if b then Some (marks_of (used_part used s)) else None) keep used s
+    either true = marked_reset_is marked
+    either false = plain_reset_is keep_whole
+
+-- The same as the code says it.
+pub so_reset : (marks : Option (List Bool)) (keep used : ℕ) (s new : Slot) (n : ℕ) (rs : List ByteRange) → new ≡ used_reset marks keep used s → n ≡ used_kept marks keep used s → rs ≡ used_left marks keep used s → IsSoReset marks keep used s → IsTableReset marks keep used s new n rs
+so_reset marks keep used s new n rs value kept left done =
+    subst (λ (x : Slot). IsTableReset marks keep used s x n rs) (sym value)
+    (subst (λ (m : ℕ). IsTableReset marks keep used s (used_reset marks keep used s) m rs) (sym kept)
+    (subst (λ (l : List ByteRange). IsTableReset marks keep used s (used_reset marks keep used s) (used_kept marks keep used s) l) (sym left) done))
+
+-- the pages that a table used
+pub used_span : (used : ℕ) (s : Slot) → IsPlain s → TellsMarks s.region → used ≤ s.static_size → used % s.region.page ≡ 0 → IsUsedSpan used s (record { page = s.region.page; base = s.base.bytes; first = s.base.bytes / s.region.page; pages = used / s.region.page })
+used_span used s p marked within whole =
+    let fits = part_fits used s p within whole in
+    let pages : used / s.region.page * s.region.page ≡ used = sum (used_part used s) 0 fits marked in
+    record {
+      span = slot_span (used_part used s) fits marked;
+      base = refl;
+      page = refl;
+      bytes = pages;
+      marks = slot_marks (used_part used s) fits;
+      reach = followed (IsReady s) (CanReach s.base.bytes (used / s.region.page * s.region.page)) s.region.contents (λ c r. λ k from below. r.reach k from (omega (arith, below, pages, within, p.all))) p.ready;
+      shaped = tells_shaped s p.fits;
+      told = marked;
+      whole = whole;
+      within = within;
+      plain = p;
+    }
+
+-- a plain slot whose pages were set by hand
+plain_restored : (base : ℕ) (ks : List ℕ) (t : Told) → plain_slot base (pages_restored base ks t) ≡ record (plain_slot base t) { region = pages_restored base ks t }
+plain_restored base ks t = subst (λ (w : Told). plain_slot base w ≡ record (plain_slot base t) { region = w }) (sym (pages_backed base ks t).rest) refl
+
+kept_is : (s : Slot) (keep most p n : ℕ) (ms : List Bool) → n ≡ length (take most (marked_pages ms)) * p → most ≡ keep / p → p ≡ s.region.page → ms ≡ marks_of s → n ≡ length (pages_by_hand s.region.page keep (marks_of s)) * s.region.page
+kept_is s keep most p n ms is count page marks =
+    is
+    ∙ ap (λ (l : List Bool). length (take most (marked_pages l)) * p) marks
+    ∙ ap (λ (m : ℕ). length (take m (marked_pages (marks_of s))) * p) (count ∙ ap (λ (q : ℕ). keep / q) page)
+    ∙ ap (λ (q : ℕ). length (take (keep / s.region.page) (marked_pages (marks_of s))) * q) page
+
+pub by_marks : (b : ℕ) (t u : Told) (keep used most n : ℕ) (x : PageSpan) (rs : List ByteRange) → IsUsedSpan used (plain_slot b t) x → IsUnusedFrom used (plain_slot b t) → most ≡ keep / x.page → u ≡ pages_restored x.base (take most (marked_pages (span_marks x t))) t
+    → rs ≡ at_most_eight (x.pages * x.page) (runs_of x.page (drop most (marked_pages (span_marks x t)))) → n ≡ length (take most (marked_pages (span_marks x t))) * x.page
+    → IsTableReset (Some (marks_of (used_part used (plain_slot b t)))) keep used (plain_slot b t) (plain_slot b u) n rs
+by_marks b t u keep used most n x rs pages unused count new left kept =
+    let s : Slot = plain_slot b t in
+    let part : Slot = used_part used s in
+    let restored : u ≡ pages_restored b (pages_by_hand t.page keep (marks_of part)) t = hand_is part keep most x.base x.page (span_marks x t) u new pages.base count pages.page pages.marks in
+    so_reset (Some (marks_of part)) keep used s (plain_slot b u) n rs
+    (ap (plain_slot b) restored ∙ plain_restored b (pages_by_hand t.page keep (marks_of part)) t)
+    (kept_is part keep most x.page n (span_marks x t) kept count pages.page pages.marks)
+    (left_is part keep most x.pages x.page (span_marks x t) rs left pages.bytes count pages.page pages.marks)
+    (marked_reset_is keep used s pages.plain pages.whole pages.within unused pages.told)
 
 -- what decommits make of a region doesn't depend on how much of its slot can be reached
 same_region : (rs : List ByteRange) (s : Slot) (a : Count) (d : Bool) → (decommitted_all rs (record s { accessible = a; dirty = d })).region ≡ (decommitted_all rs s).region

@@ -1,7 +1,7 @@
 -- A plain slot is written, and reset.
 use Rattle.std.proofs.Common.{◌≡◌, ℕ, ◌+◌, ◌-◌, ◌%◌, ◌<◌, ◌≤◌, Bool, true, false, List, [], ◌∷◌, length, get_or, refl, sym, ap, ◌∙◌, subst, inl, inr, arith, min, replicate, slice_range, Option, None, Some, IfSome, option_map, nat_lt, All, if◌then◌else◌}
 use Rattle.pool_slots.proofs.Imports.{cases_lt, ltb-true, ltb-false, All-cons, All-nil, zero-mod, sub_whole, length-replicate, get_or-replicate, same_lists, Contents, IsShaped, put, written, decommitted, DecommitBehavior, length-put, get_or-put_in, range-put_above, range_joined, same_range, same_at, length-range, get_or-range, written_shaped, ImageName, ByteRange, Slot, IsSlot, IsSound, IsReady, IsClean, IsPart, Holds, restored_image, placed, size_of, reset_ranges, decommitted_all, back_here, back_there, written_ready, next, fits_next, lifted, followed, paired, size_whole}
-use Rattle.pool_slots.specs.PlainSlots.{IsPlain, IsUnusedFrom, plain_written, top_kept, top_reset, bottom_reset, below_top, above_bottom, CleanSlotsReadZeros}
+use Rattle.pool_slots.specs.PlainSlots.{IsPlain, IsUnusedFrom, plain_written, top_kept, top_reset, bottom_reset, below_top, CleanSlotsReadZeros}
 use Rattle.pool_slots.proofs.ByHand.{ready_after}
 
 module _ (at : ℕ) (new : List ℕ) (s : Slot) where
@@ -237,13 +237,6 @@ top_done keep s new ranges p whole is left =
     let one : ByteRange = record { start = 0; len = s.static_size - top_kept keep s } in
     let done : D (top_reset keep s) (below_top keep s) = (All-cons (IsPart s.region.page (size_of s)) one [] (top_parts keep s p whole) (All-nil (IsPart s.region.page (size_of s))), top_clean keep s p whole) in
     subst (λ x. D x ranges) (sym is) (subst (D (top_reset keep s)) (sym left) done)
-
-pub bottom_done : (keep used : ℕ) (s new : Slot) (ranges : List ByteRange) → IsPlain s → used ≤ s.static_size → keep % s.region.page ≡ 0 → used % s.region.page ≡ 0 → IsUnusedFrom used s → new ≡ bottom_reset keep used s → ranges ≡ above_bottom keep used → All (IsPart new.region.page (size_of new)) ranges × IsClean (decommitted_all ranges new) × IsUnusedFrom used new
-bottom_done keep used s new ranges p within a b unused is left =
-    let D : Slot → List ByteRange → Type 0 = λ x l. All (IsPart x.region.page (size_of x)) l × IsClean (decommitted_all l x) × IsUnusedFrom used x in
-    let both = bottom_reset_done keep used s p within a b unused in
-    let done : D (bottom_reset keep used s) (above_bottom keep used) = (both.0, both.1, bottom_unused keep used s p within a b unused) in
-    subst (λ x. D x ranges) (sym is) (subst (D (bottom_reset keep used s)) (sym left) done)
 
 -- zeros in what a region goes back to
 zeros_read : (s : Slot) (n : ℕ) (c : Contents) → IsSlot s → n ≤ size_of s → IsBlankTold s c → Holds s 0 (size_of s) c → slice_range c.bytes s.base.bytes (s.base.bytes + n) ≡ replicate n 0
