@@ -74,16 +74,17 @@ used_reset (Some marks) keep used s = record s { region = pages_restored s.base.
 abbrev pub used_after : Option (List Bool) → ℕ → ℕ → Slot → Option (List ℕ)
 used_after marks keep used s = bytes_of (decommitted_all (used_left marks keep used s) (used_reset marks keep used s))
 
--- A table's region was reset, by these marks or none, so that it is clean once these ranges are decommitted.
-pub record IsTableReset (marks : Option (List Bool)) (keep used : ℕ) (old new : Slot) (kept : ℕ) (ranges : List ByteRange) : Type 0 where
-  pub resident : kept ≡ used_kept marks keep used old
-  pub ranges : ranges ≡ used_left marks keep used old
+-- A table's region was reset, by these marks or none, with this answer and these ranges left: it is clean once they are
+-- decommitted.
+pub record IsTableReset (marks : Option (List Bool)) (keep used : ℕ) (old new : Slot) (answer : ℕ) (listed : List ByteRange) : Type 0 where
+  pub resident : answer ≡ used_kept marks keep used old
+  pub ranges : listed ≡ used_left marks keep used old
   pub value : new ≡ used_reset marks keep used old
-  pub parts : All (IsPart new.region.page (size_of new)) ranges
-  pub clean_after : IsClean (decommitted_all ranges new)
+  pub parts : All (IsPart new.region.page (size_of new)) listed
+  pub clean_after : IsClean (decommitted_all listed new)
   pub unused : IsUnusedFrom used new
   pub plain : IsPlain new
-  pub most : kept ≤ used
+  pub most : answer ≤ used
 
 -- These are the pages that a table used, and their marks are told.
 pub record IsUsedSpan (used : ℕ) (s : Slot) (pages : PageSpan) : Type 0 where
