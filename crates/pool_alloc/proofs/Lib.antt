@@ -13,6 +13,7 @@ pub mod FramesStayFit
 pub mod FreeTurns
 pub mod FreedSlots
 pub mod FullShards
+pub mod GrantedRequests
 pub mod GuardPages
 pub mod HeapRows
 pub mod HeapSlots
