@@ -27,6 +27,7 @@ pub mod LocalQueues
 pub mod MadeNumbers
 pub mod MadePools
 pub mod MakeSteps
+pub mod MemoryReturns
 pub mod NextTargets
 pub mod OnCounters
 pub mod OnParts
