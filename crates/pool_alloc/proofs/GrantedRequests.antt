@@ -1,11 +1,11 @@
 -- Where nothing that its steps ask for fails, a request is refused for room or for want of memory alone. So one that has all it needs is
 -- granted, or finds no memory.
-use Rattle.std.proofs.Common.{◌≡◌, ℕ, ◌+◌, ◌<◌, ◌≤◌, ◌==◌, ◌||◌, ◌&&◌, ◌⊎◌, Bool, true, false, not, List, [], ◌∷◌, length, drop, Option, Some, None, Result, Ok, Err, refl, sym, ap, ◌∙◌, subst, inl, inr, arith, is_some, nat_lt, nat_le, if◌then◌else◌, IfErr, IfSome}
+use Rattle.std.proofs.Common.{◌≡◌, ℕ, ◌+◌, ◌<◌, ◌==◌, ◌||◌, ◌⊎◌, Bool, true, false, List, [], ◌∷◌, length, drop, Option, Some, None, Result, Ok, Err, refl, sym, ap, ◌∙◌, subst, inl, inr, arith, nat_lt, nat_le, if◌then◌else◌, IfErr, IfSome}
 use Rattle.std.proofs.lemmas.Bool.{ne_eqb}
 use Rattle.pool_slots.specs.declared.errors.AllocError.TheVariants as refusal
 use Rattle.pool_slots.specs.declared.heap_maker.HeapMakeFault.TheVariants as no_heap
 use Rattle.pool_alloc.proofs.Imports.{MakerTold, ShardState, SlotId, pick_answer, slot_number, Slot, MemoryState, Told, Unsupported, Queue, Queued, first_of_kind, others_of_kind, AllocError, HeapMakeFault, LimiterError, Cell, unmapped, unknown, previously_used, taken, slot_of, Plan, SlotKind, memory_kind, table_kind, stack_kind, heap_kind, SlotName, heap_in, cell_numbers}
-use Rattle.pool_alloc.specs.CallStages.{Progress, untested, uncounted, admitted, seeks_single, seeks_stack, tests_heap, seeks_heap, counts_heap, Stage, no_call, keys, asks as asking, tests_component, counts_component, returning, refusing, purging, reserving, releasing, Goes, stage_at, stage_by, stage_of}
+use Rattle.pool_alloc.specs.CallStages.{untested, seeks_single, seeks_stack, tests_heap, seeks_heap, counts_heap, Stage, no_call, keys, asks as asking, tests_component, counts_component, returning, refusing, purging, reserving, releasing, Goes, stage_at, stage_by, stage_of}
 use Rattle.pool_alloc.specs.BetweenSteps.{IsShapedAt}
 use Rattle.pool_alloc.specs.Calls.{MayBegin, begun_call}
 use Rattle.pool_alloc.specs.GrantedRequests.{IsWant, CanBeMade, BreaksNoRule, NothingFails, GoesWell, AllGoWell, IsGranted}
@@ -20,10 +20,10 @@ use Rattle.pool_alloc.specs.Refusals.{heap_refused, module_refused, component_re
 use Rattle.pool_alloc.specs.Releases.{release_row, reserve_row, warm_taken, drain_from, drain_at, free_first, behind_stripe, not_resident, released_stripe, taking}
 use Rattle.pool_alloc.specs.StepReads.{StepGiven, allocator_for, info_wanted, memories_wanted, tables_wanted, shard_at, shard_tried, queue_at, queue_tried, heaps_at, wanted, cell_named}
 use Rattle.pool_alloc.specs.StepTable.{FlushStep, run, zero, put, free, flush_step, memory_kept, memory_turn, table_kept, table_turn, merged, validated, counted, stacks_tested, heaps_tested, heap_granted, heap_next, make_heap_row, component_tested, component_counted, paged, was_made, was_made_table, was_reset, reset_turn, put_first, flush_row, row_of, picked, taken_next, region_next, unmapped_next}
-use Rattle.pool_alloc.specs.Stepping.{CanStep, StepsTo, Takes, is_idle}
+use Rattle.pool_alloc.specs.Stepping.{CanStep, StepsTo, Takes}
 use Rattle.pool_alloc.specs.TableLeases.{LeasedTable}
 use Rattle.pool_alloc.specs.TableSteps.{table_made, table_reset_into}
-use Rattle.pool_alloc.specs.Turns.{After, Left, Row, Turn, goes, ends, next, flush, search, stays, after, answer_of, ends_with, goes_to, is_flushed, all_returned, returned_next, next_by, slot_search, no_slot_left}
+use Rattle.pool_alloc.specs.Turns.{After, Left, Row, Turn, goes, ends, next, flush, search, stays, after, answer_of, ends_with, goes_to, is_flushed, all_returned, returned_next, next_by, slot_search}
 use Rattle.pool_alloc.specs.UnhinderedRequests.{is_for_room, asked_by, HasAllItNeeds, IsForGrant}
 use Rattle.pool_alloc.specs.declared.frame.Asked.{Asked}
 use Rattle.pool_alloc.specs.declared.frame.Asked.TheVariants.{Module as module_asked, Memory as memory_asked, Table as table_asked, Stack as stack_asked, Heap as heap_asked}

@@ -1,7 +1,7 @@
 -- A request that nothing hinders and in which nothing fails is granted, unless there is no memory for it: what it may break, and what may
 -- fail in a step.
-use Rattle.std.specs.Prelude.{◌≡◌, ℕ, ◌<◌, List, [], ◌∷◌, true, false, Option, Some, None, Ok, IfErr}
-use Rattle.pool_alloc.specs.Imports.{AllocError, Slot, Told, HeapMakeFault}
+use Rattle.std.specs.Prelude.{◌≡◌, ℕ, ◌<◌, List, [], ◌∷◌, true, false, None, Ok, IfErr}
+use Rattle.pool_alloc.specs.Imports.{AllocError, Slot, Told}
 use Rattle.pool_slots.specs.declared.errors.AllocError.TheVariants as refusal
 use Rattle.pool_slots.specs.declared.heap_maker.HeapMakeFault.TheVariants as no_heap
 use Rattle.pool_alloc.specs.MemorySteps.{memory_made}

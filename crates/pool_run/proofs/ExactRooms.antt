@@ -1,21 +1,20 @@
 -- A request is refused for room exactly where it is short of something: along a party's run its memories lie in different slots of its
 -- stripe, so what it is granted leaves none out.
-use Rattle.std.proofs.Common.{◌≡◌, ◌≢◌, ◌↔◌, ◌⊎◌, ℕ, zero, suc, ◌+◌, ◌%◌, ◌<◌, ◌≤◌, ◌==◌, Bool, true, false, List, [], ◌∷◌, length, map, Option, Some, None, Result, Ok, Err, refl, sym, ap, ◌∙◌, subst, inl, inr, arith, All, nat_lt, option_map, slice_get, unwrap_or, sum_by, if◌then◌else◌}
+use Rattle.std.proofs.Common.{◌≡◌, ℕ, zero, suc, ◌+◌, ◌%◌, ◌<◌, ◌≤◌, ◌==◌, Bool, true, false, List, [], ◌∷◌, length, Option, Some, None, Result, Ok, Err, refl, sym, ap, subst, inl, inr, arith, All, nat_lt, option_map, slice_get, unwrap_or, if◌then◌else◌}
 use Rattle.pool_slots.specs.declared.errors.AllocError.TheVariants as alloc
 use Rattle.pool_slots.specs.declared.errors.ConcurrencyKind.{ConcurrencyKind}
 use Rattle.pool_slots.specs.declared.errors.ConcurrencyKind.TheVariants.{ComponentInstances}
 use Rattle.pool_slots.specs.declared.errors.PoolConcurrencyLimitError.{PoolConcurrencyLimitError}
-use Rattle.pool_run.proofs.Imports.{cases_Bool, sum_by-cons, AllocError, ComponentInfo, CoreInstances, Fibers, GcHeaps, MemoryStripe, Tables, LimiterError, Limits, MemoryType, Unsupported, TableSize, Want, new_memory, new_table, new_stack, new_heap, option_or, component_refused, table_refused, no_component_left, minimum_asked, maximum_asked, memory_answer, table_answer, type_maximum, type_refused}
+use Rattle.pool_run.proofs.Imports.{cases_Bool, sum_by-cons, AllocError, ComponentInfo, CoreInstances, Fibers, GcHeaps, MemoryStripe, Tables, LimiterError, Limits, MemoryType, Unsupported, TableSize, Want, new_memory, new_table, new_stack, new_heap, option_or, component_refused, table_refused, minimum_asked, maximum_asked, memory_answer, table_answer, type_maximum, type_refused}
 use Rattle.pool_run.specs.Acts.{Act, requests, on_memory, on_table, drops, purges, releases, act_of, Wanted, an_instance, a_component, a_stack, a_heap, heap_type}
-use Rattle.pool_run.specs.Exact.{IsTooMuch, IsShortOf, IsShort, refuses_for_room, IfForRoom, met_fault, is_refusal, LieInStripe, TellsExactly, TellsExactlyOf, ExactStep, IsExactRun}
-use Rattle.pool_run.specs.Needs.{memories_needed, stripe_count, MayBeGranted}
-use Rattle.pool_run.specs.Private.{Grants, Terms, PrivateState, IsGranted, own_refusal, first_refusal, stripe_slots, limit_for, refused_as, GivenRefusal, no_memory, no_instance, no_slot, page_fault, IsRefused, IsComponentRefused, IsHeapRefused, HeapRefusal, RefusesHeap, Moves, Requests, request_of, wants_of, images_of, module_of, stack_refusal, heap_barred, heap_memory, heap_refusal, no_heap_left, table_room, StepsBy, with_grants, no_grants}
+use Rattle.pool_run.specs.Exact.{IsShortOf, IsShort, refuses_for_room, IfForRoom, met_fault, is_refusal, LieInStripe, TellsExactly, TellsExactlyOf, ExactStep, IsExactRun}
+use Rattle.pool_run.specs.Needs.{stripe_count}
+use Rattle.pool_run.specs.Private.{Grants, Terms, PrivateState, IsGranted, own_refusal, first_refusal, stripe_slots, limit_for, refused_as, GivenRefusal, no_memory, no_instance, no_slot, page_fault, IsRefused, IsComponentRefused, RefusesHeap, Moves, Requests, request_of, wants_of, images_of, module_of, heap_barred, heap_memory, table_room, StepsBy, with_grants, no_grants}
 use Rattle.pool_run.specs.Rooms.{World, PooledStep, IsPooledRun, TellsOfPool, TellsRequest, HasNoMemoryIn, AreFreeSlots, HasRoom, HasHeapRoom, IsFull, IsHeapFull, live_count}
 use Rattle.pool_run.specs.Unhindered.{IsServed}
 use Rattle.pool_run.specs.declared.command.Command.{Command}
 use Rattle.pool_run.specs.declared.reply.Reply.{Reply}
 use Rattle.pool_run.specs.declared.reply.Reply.TheVariants.{Instance, Component, Stack, Heap, Refused}
-use Rattle.pool_run.specs.declared.reply.Refusal.{Refusal}
 use Rattle.pool_run.specs.declared.reply.Refusal.TheVariants.{Alloc}
 use Rattle.pool_run.proofs.OwnRefusals.{IsOwn, answer_own}
 use Rattle.pool_run.proofs.PlacedSlots.{AreInPlace, few_slots, few_of_stripe, live_of_stripe, none_placed, placed_more, placed_still}
@@ -182,15 +181,15 @@ module _ (w : World) (some : 0 < w.terms.settings.num_stripes) (counts : w.count
   stack_room grants slot room GcHeaps short = absurd (omega (arith, short.some))
 
   granted_room : (n : ℕ) (wanted : Wanted) (s new : PrivateState) (reply : Reply) → Requests t n wanted s reply new → TellsRequest w wanted s.grants reply → Lies reply → Placed s.grants → is_refusal reply ≡ false → IsShort w wanted s.grants → ⊥
-  granted_room n wanted s new (Refused refusal) is tells its placed no short = absurd cc
-  granted_room n (an_instance number) s new (Instance ms ts) is tells its placed no short = instance_room number s.grants ms ts placed its is.1.0 tells short.0 short.1
-  granted_room n (an_instance number) s new _ is tells its placed no short = absurd is.1
-  granted_room n (a_component info) s new Component is tells its placed no short = component_room info s.grants tells short.0 short.1
-  granted_room n (a_component info) s new _ is tells its placed no short = absurd is.1
-  granted_room n a_stack s new (Stack slot) is tells its placed no short = stack_room s.grants slot tells short.0 short.1
-  granted_room n a_stack s new _ is tells its placed no short = absurd is.1
-  granted_room n (a_heap limits) s new (Heap slot memory) is tells its placed no short = heap_room limits s.grants slot memory placed its tells short.0 short.1
-  granted_room n (a_heap limits) s new _ is tells its placed no short = absurd is
+  granted_room n wanted s new (Refused refusal) is tells its placed reply_is short = absurd cc
+  granted_room n (an_instance number) s new (Instance ms ts) is tells its placed reply_is short = instance_room number s.grants ms ts placed its is.1.0 tells short.0 short.1
+  granted_room n (an_instance number) s new _ is tells its placed reply_is short = absurd is.1
+  granted_room n (a_component info) s new Component is tells its placed reply_is short = component_room info s.grants tells short.0 short.1
+  granted_room n (a_component info) s new _ is tells its placed reply_is short = absurd is.1
+  granted_room n a_stack s new (Stack slot) is tells its placed reply_is short = stack_room s.grants slot tells short.0 short.1
+  granted_room n a_stack s new _ is tells its placed reply_is short = absurd is.1
+  granted_room n (a_heap limits) s new (Heap slot memory) is tells its placed reply_is short = heap_room limits s.grants slot memory placed its tells short.0 short.1
+  granted_room n (a_heap limits) s new _ is tells its placed reply_is short = absurd is
 
   -- What a refusal for room names is short, where the party is alone.
   full_short : (number : ℕ) (grants : Grants) (kind : ConcurrencyKind) → Placed grants → NamesOwn t kind → IsFull w (request_of t number) grants kind → IsShortOf w (an_instance number) grants kind

@@ -1,40 +1,34 @@
 -- A party's live memories lie in the stripe that its key gave it, at each moment of a run, and so do those that its replies tell.
-use Rattle.std.proofs.Common.{◌≡◌, ◌⊎◌, ℕ, ◌+◌, ◌<◌, ◌≤◌, ◌%◌, ◌&&◌, Bool, true, false, not, is_some, List, [], ◌∷◌, ◌++◌, length, map, Option, Some, None, refl, sym, ap, ◌∙◌, subst, inl, inr, arith, All, slice_get, slice_set, slice_index_or, sum_by, zero, suc}
+use Rattle.std.proofs.Common.{◌≡◌, ℕ, ◌≤◌, ◌%◌, ◌&&◌, Bool, true, false, not, is_some, List, [], ◌∷◌, length, Option, Some, None, refl, sym, ap, ◌∙◌, subst, inl, inr, arith, slice_get, slice_index_or, sum_by, suc}
 use Rattle.pool_alloc.specs.declared.frame.Call.TheVariants as call
 use Rattle.pool_alloc.specs.declared.frame.Outcome.TheVariants as answer
 use Rattle.pool_alloc.specs.StripesOfGrants.{in_hand, right_outside, KeepsToItsStripe}
 use Rattle.pool_alloc.specs.Turns.{is_granting}
 use Rattle.pool_alloc.proofs.BegunFrames.{idle_weight}
-use Rattle.pool_alloc.proofs.PlanPlaces.{stripe_holds}
 use Rattle.pool_alloc.proofs.StripesKept.{step_stripe}
 use Rattle.pool_alloc.proofs.StripesOfGrants.{keeps_on}
 use Rattle.pool_slots.specs.declared.errors.AllocError.TheVariants as alloc
 use Rattle.pool_slots.specs.SlotQueues.{same_kind}
-use Rattle.pool_run.proofs.Imports.{All-map, cases_Bool, cases_eq, cases_lt, get_or-le-sum_by, get_or-append_right, get_or-map, get_or-set_other, get_or-set_same, get_or_append_left, get_or_from_slice_get, length-append, length-set, slice_get-get_or, slice_get_within, set_past, sum_by-cons, sum_by-set, same_Some, not_both, one_if, has_number, Allocator, MakerTold, PartyTold, Thing, of_units, frame_weight, frame_units, frame_count, grant_weight, grant_count, count_granted, instance_count, both_count, memory_slot, After, Asked, memory_asked, table_asked, stack_asked, heap_asked, Call, Frame, Grant, Outcome, Phase, Idle, PoolCore, PlainHeap, ModuleAsked, Plan, SlotKind, memory_kind, table_kind, stack_kind, heap_kind, stripe_allocator, is_idle, CanStep, IsIdle, IsFrame, at_rest, begun_call, all_returned, returned_next, Lease, LeasedTable, Stage, keys, no_call, stage_of, instance, component, one_memory, one_table, stack, heap, objects_in, Settings}
-use Rattle.pool_run.specs.Acts.{Act, requests, on_memory, on_table, drops, purges, releases, act_of, Wanted, an_instance, a_component, a_stack, a_heap, heap_type}
+use Rattle.pool_run.proofs.Imports.{All-map, cases_Bool, cases_lt, get_or-le-sum_by, set_past, sum_by-cons, sum_by-set, same_Some, not_both, one_if, has_number, Allocator, MakerTold, PartyTold, Thing, of_units, frame_weight, frame_units, grant_count, count_granted, instance_count, both_count, memory_slot, After, Asked, memory_asked, table_asked, stack_asked, heap_asked, Frame, Grant, Outcome, Phase, PoolCore, PlainHeap, ModuleAsked, Plan, SlotKind, memory_kind, table_kind, stack_kind, heap_kind, stripe_allocator, is_idle, IsIdle, IsFrame, at_rest, begun_call, all_returned, returned_next, Lease, LeasedTable, keys, no_call, stage_of, instance, component, one_memory, one_table, stack, heap, objects_in}
+use Rattle.pool_run.specs.Acts.{Act, requests, on_memory, on_table, drops, purges, releases, act_of, Wanted, an_instance, a_component, a_stack, a_heap}
 use Rattle.pool_run.specs.Exact.{LieInStripe}
-use Rattle.pool_run.specs.Folds.{RunState, Folds, TurnsIf, TurnsOf, IsUnderWay, IsRunTo, commands_of, replies_to, with_turn}
 use Rattle.pool_run.specs.Rooms.{World}
 use Rattle.pool_run.specs.RunsMade.{is_drawing}
-use Rattle.pool_run.specs.Ties.{CanTurn, granted_to, held_by_party}
-use Rattle.pool_run.specs.Turns.{Turned, Opening, rests, replies, makes_step, answered, drop_opening, granted_reply, with_reply, OpensRequest, OpensPurge, OpensAct, OpensNext, OpensAt, OpensWanted, Leaves, Turns, Steps}
+use Rattle.pool_run.specs.Ties.{CanTurn, granted_to}
+use Rattle.pool_run.specs.Turns.{Turned, Opening, rests, replies, makes_step, answered, drop_opening, granted_reply, OpensRequest, OpensPurge, OpensAct, OpensNext, OpensAt, OpensWanted, Leaves, Turns, Steps}
 use Rattle.pool_run.specs.Worlds.{AreCallsFor}
 use Rattle.pool_run.specs.declared.command.Command.{Command}
 use Rattle.pool_run.specs.declared.reply.Reply.{Reply}
 use Rattle.pool_run.specs.declared.reply.Reply.TheVariants.{Returned, Purged, Released, Refused}
 use Rattle.pool_run.specs.declared.reply.Refusal.TheVariants.{Alloc}
 use Rattle.pool_run.specs.declared.running_party.RunningParty.{RunningParty}
-use Rattle.pool_run.proofs.Drawn.{HasDrawn, IsKeyed, TurnStripe, no_keys, opens_keyed, turn_stripe}
-use Rattle.pool_run.proofs.ExactRooms.{TellStripe}
-use Rattle.pool_run.proofs.Folding.{run_turned}
-use Rattle.pool_run.proofs.Opened.{IsOpened, IsReply, IsStep, idle_is, opened}
+use Rattle.pool_run.proofs.Drawn.{IsKeyed, no_keys, opens_keyed}
+use Rattle.pool_run.proofs.Opened.{IsOpened, IsStep, idle_is, opened}
 use Rattle.pool_run.proofs.Parties.{can_step, HaveSame}
 use Rattle.pool_run.proofs.Reserving.{answered_frame}
-use Rattle.pool_run.proofs.Running.{can_turn}
 use Rattle.pool_run.proofs.Sounds.{IsSoundTurn}
 use Rattle.pool_run.proofs.StageSteps.{is_key, is_none, none_idle}
 use Rattle.pool_run.proofs.Stepped.{IsStepped, stepped}
-use Rattle.pool_run.proofs.StripeSlots.{of_stripe}
 use Rattle.pool_run.proofs.Turned.{HasTurned, has_turned, turn_sound}
 use Rattle.pool_run.proofs.Weighed.{held_units}
 

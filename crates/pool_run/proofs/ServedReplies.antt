@@ -1,5 +1,5 @@
 -- What a party's private run says of a request that may be granted and isn't refused for room: it is served.
-use Rattle.std.proofs.Common.{◌≡◌, ℕ, zero, suc, ◌+◌, ◌==◌, Bool, true, false, List, [], ◌∷◌, Option, Some, None, refl, sym, ap, ◌∙◌, subst, inl, inr, arith, if◌then◌else◌, slice_get}
+use Rattle.std.proofs.Common.{◌≡◌, ℕ, zero, suc, ◌+◌, ◌==◌, true, false, List, [], ◌∷◌, Option, Some, None, refl, sym, ap, ◌∙◌, subst, inl, inr, arith, if◌then◌else◌, slice_get}
 use Rattle.pool_slots.specs.declared.errors.AllocError.TheVariants as alloc
 use Rattle.pool_alloc.specs.UnhinderedRequests.{is_for_room}
 use Rattle.pool_run.proofs.Imports.{nat_tests, AllocError, ComponentInfo, Fibers, Limits, MemoryType, Unsupported, Want, component_refused, new_memory, new_table, no_component_left}

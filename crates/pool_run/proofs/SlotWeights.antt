@@ -1,15 +1,15 @@
 -- What the slots of a party's live memories weigh together, whatever each weighs: a request adds to that no more than its reply
 -- grants, and no other command adds to it.
-use Rattle.std.proofs.Common.{◌≡◌, ℕ, zero, suc, ◌+◌, ◌<◌, ◌≤◌, ◌==◌, Bool, true, false, List, [], ◌∷◌, length, replicate, Option, Some, None, Result, Ok, Err, refl, sym, ap, ◌∙◌, subst, inl, inr, arith, option_map, slice_get, slice_set, slice_index_or, sum_by, if◌then◌else◌}
-use Rattle.pool_run.proofs.Imports.{cases_lt, get_or_from_slice_get, slice_get_within, set_past, sum_by-cons, sum_by-set, MemoryWant, MemoryType, GrowthRule}
+use Rattle.std.proofs.Common.{◌≡◌, ℕ, zero, suc, ◌+◌, ◌≤◌, List, [], ◌∷◌, length, replicate, Option, Some, None, refl, sym, ap, ◌∙◌, inl, inr, arith, option_map, slice_get, slice_set, slice_index_or, sum_by}
+use Rattle.pool_run.proofs.Imports.{cases_lt, get_or_from_slice_get, slice_get_within, set_past, sum_by-cons, sum_by-set, MemoryWant, GrowthRule}
 use Rattle.pool_run.specs.Acts.{MemoryOp, reads, writes, fills, grows, asks_size, Act, requests, on_memory, on_table, drops, purges, releases, act_of, Wanted, an_instance, a_component, a_stack, a_heap, heap_type}
-use Rattle.pool_run.specs.Objects.{MovesNamed, MovesObject, object_at, with_object}
-use Rattle.pool_run.specs.Private.{PrivateMemory, PrivateGrant, instance_grant, component_grant, memory_grant, table_grant, stack_grant, heap_grant, Grants, Terms, grant_at, memories_in_grant, memories_named_in, put_memory, put_table, put_stack, private_memories, private_tables, private_stacks, GrowthEnd, as_it_was, could_not, has_grown, growth, size_wanted, left_of, private_written, MemoryMoves, MovesBytes, Drops, PrivateState, PrivateStep, OnGrants, Moves, Requests, Request, request_of, Instantiates, AsksForComponent, AsksForStack, AsksForHeap, begun, begun_instance, begun_memory, heap_memory, table_at, with_table}
+use Rattle.pool_run.specs.Objects.{MovesNamed, object_at, with_object}
+use Rattle.pool_run.specs.Private.{PrivateMemory, PrivateGrant, instance_grant, component_grant, memory_grant, table_grant, stack_grant, heap_grant, Grants, Terms, grant_at, memories_in_grant, memories_named_in, put_memory, put_table, put_stack, private_memories, private_stacks, GrowthEnd, as_it_was, could_not, has_grown, growth, size_wanted, left_of, private_written, MemoryMoves, MovesBytes, Drops, PrivateState, PrivateStep, Moves, Requests, Request, request_of, Instantiates, begun, begun_instance, begun_memory, heap_memory, table_at, with_table}
 use Rattle.pool_run.specs.PrivateStacks.{WritesBytes, PrivateStack, StackMoves}
 use Rattle.pool_run.specs.PrivateTables.{PrivateTable, StoredTable, TableMoves}
 use Rattle.pool_run.specs.declared.command.Command.{Command}
 use Rattle.pool_run.specs.declared.reply.Reply.{Reply}
-use Rattle.pool_run.specs.declared.reply.Reply.TheVariants.{Instance, Component, Stack, Heap, Done, Trap, Returned, Refused}
+use Rattle.pool_run.specs.declared.reply.Reply.TheVariants.{Instance, Component, Stack, Heap, Done, Trap, Refused}
 use Rattle.pool_run.specs.declared.reply.Refusal.TheVariants.{Alloc}
 
 -- A memory stays in its slot, whatever is done with it.

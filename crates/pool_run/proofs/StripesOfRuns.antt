@@ -1,20 +1,18 @@
 -- At each moment of a run each party's live memories lie in its stripe, and so do those that it was told. So its replies tell exactly
 -- where there was room.
-use Rattle.std.proofs.Common.{◌≡◌, ℕ, ◌+◌, ◌-◌, ◌<◌, ◌≤◌, ◌%◌, true, false, List, [], ◌∷◌, ◌++◌, length, Option, Some, None, refl, sym, ap, ◌∙◌, subst, inl, inr, arith, Bool, slice_get, slice_set, slice_index_or}
+use Rattle.std.proofs.Common.{◌≡◌, ℕ, ◌+◌, ◌-◌, ◌<◌, ◌≤◌, ◌%◌, true, false, List, [], ◌∷◌, ◌++◌, length, Option, Some, None, refl, sym, ap, ◌∙◌, subst, inl, inr, arith, slice_get, slice_set, slice_index_or}
 use Rattle.pool_alloc.proofs.PlanPlaces.{stripe_holds}
-use Rattle.pool_run.proofs.Imports.{cases_eq, cases_lt, get_or-append_right, get_or-map, get_or-set_other, get_or-set_same, get_or_append_left, get_or_from_slice_get, length-append, length-set, slice_get-get_or, slice_get_within, same_Some, has_number, memory_kind, grant_count, IsIdle, MakerTold, ModuleAsked, PlainHeap, Plan, PoolCore, Settings, stripe_allocator}
+use Rattle.pool_run.proofs.Imports.{cases_eq, cases_lt, get_or-append_right, get_or-set_other, get_or-set_same, get_or_append_left, get_or_from_slice_get, length-append, length-set, slice_get-get_or, slice_get_within, has_number, grant_count, ModuleAsked, Plan, stripe_allocator}
 use Rattle.pool_run.specs.Acts.{requests, act_of, Wanted}
-use Rattle.pool_run.specs.Agreeing.{IsRunnable}
 use Rattle.pool_run.specs.Exact.{LieInStripe, IsExactRun}
-use Rattle.pool_run.specs.Folds.{RunParts, RunState, Folds, TurnsIf, IsUnderWay, IsRunTo, commands_of, replies_to, told_state, with_turn, party_by_party}
+use Rattle.pool_run.specs.Folds.{RunState, Folds, TurnsIf, IsUnderWay, IsRunTo, commands_of, replies_to, with_turn}
 use Rattle.pool_run.specs.Rooms.{World, world_at}
-use Rattle.pool_run.specs.RunsMade.{is_drawing}
 use Rattle.pool_run.specs.Ties.{CanTurn}
 use Rattle.pool_run.specs.Turns.{Turned, Turns, with_reply}
 use Rattle.pool_run.specs.declared.command.Command.{Command}
 use Rattle.pool_run.specs.declared.reply.Reply.{Reply}
 use Rattle.pool_run.specs.declared.running_party.RunningParty.{RunningParty}
-use Rattle.pool_run.proofs.Drawn.{HasDrawn, TurnStripe, turn_stripe}
+use Rattle.pool_run.proofs.Drawn.{TurnStripe, turn_stripe}
 use Rattle.pool_run.proofs.ExactRooms.{TellStripe, run_exact}
 use Rattle.pool_run.proofs.Folding.{replies_pooled, run_turned}
 use Rattle.pool_run.proofs.OwnStripes.{IsInStripe, idle_in_stripe, nothing_live, turn_in_stripe, turn_lies}
