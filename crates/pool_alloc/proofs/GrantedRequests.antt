@@ -247,7 +247,7 @@ module _ {P H : Type 0} where
 
   reset_fine : (b : Bool) (held : Slot) (lease : Lease) (c : PoolCore P H) (f : Frame P H) → FineEnding f.ending → FineTurn (was_reset b held lease c f).frame (was_reset b held lease c f).turn
   reset_fine true held lease c f fine = (fine, tt)
-  reset_fine false held lease c f fine = queue_fine c.settings.batch (reset_into c.settings.keep_resident.bytes (slot_taken lease) (slot_of lease.memory) f.local) f fine
+  reset_fine false held lease c f fine = queue_fine c.settings.batch (reset_into c.settings.dirty_pages c.settings.keep_resident.bytes (slot_taken lease) (slot_of lease.memory) f.local) f fine
 
   merged_fine : (b : Bool) (whole : Queue) (f : Frame P H) → FineEnding f.ending → FineTurn (merged b whole f).frame (merged b whole f).turn
   merged_fine true whole f fine = fine
