@@ -22,15 +22,16 @@ pub use Rattle.pool_hall.specs.declared.unit_name.SlotKind.{SlotKind}
 pub use Rattle.pool_hall.specs.declared.unit_name.SlotKind.TheVariants.{Heap as heap_kind, Memory as memory_kind, Stack as stack_kind, Table as table_kind}
 pub use Rattle.pool_hall.specs.declared.unit_name.UnitName.{UnitName}
 pub use Rattle.pool_images.proofs.Begun.{rounded_up_above}
-pub use Rattle.pool_images.proofs.Identity.{same_called, same_faulted, told_same}
+pub use Rattle.pool_images.proofs.Identity.{like_restored, same_called, same_faulted, told_same}
 pub use Rattle.pool_images.proofs.Making.{fresh_clean, fresh_keeps}
 pub use Rattle.pool_images.proofs.Marks.{marked_above, range-zeros}
 pub use Rattle.pool_images.proofs.PageSizes.{rounded_is_whole, rounded_leaves, rounded_same, rounded_within}
 pub use Rattle.pool_images.proofs.Ready.{IsGood, followed, good}
-pub use Rattle.pool_images.proofs.Resets.{kept_at_most}
+pub use Rattle.pool_images.proofs.ResetBounds.{few_left, kept_most}
 pub use Rattle.pool_images.specs.Images.{Image}
 pub use Rattle.pool_images.specs.Orders.{Follows, replacing, resizing}
-pub use Rattle.pool_images.specs.Slots.{FitsInto, HasColour, HasImage, Holds, IsBegun, IsClean, IsFresh, IsLeft, IsPart, IsRangeOf, IsReady, IsSized, IsSlot, IsSound, Reads, Slot, SlotIdentity, called, coloured, decommitted_all, forgotten, hides, identity, kept_bytes, left_ranges, name_of, replaced, reset_slot, reused, size_of, wiped, without_image, without_mapped}
+pub use Rattle.pool_images.specs.Resets.{given_marks, kept_by, left_by, pages_by_hand, reset_by}
+pub use Rattle.pool_images.specs.Slots.{FitsInto, HasColour, HasImage, Holds, IsBegun, IsClean, IsFresh, IsLeft, IsPart, IsRangeOf, IsReady, IsSized, IsSlot, IsSound, Reads, Slot, SlotIdentity, called, coloured, decommitted_all, forgotten, hides, identity, name_of, replaced, reset_slot, reused, size_of, wiped, without_image, without_mapped}
 pub use Rattle.pool_images.specs.declared.image_slot.ImageName.{ImageName}
 pub use Rattle.pool_images.specs.declared.ranges.ByteRange.{ByteRange}
 pub use Rattle.pool_index.proofs.ComingBack.{Free, after_take_sound, all_free, free_after}
@@ -65,7 +66,7 @@ pub use Rattle.pool_pages.proofs.Small.{each_at, none_mapped, second_true, told_
 pub use Rattle.pool_pages.specs.CallSums.{added, both}
 pub use Rattle.pool_pages.specs.Contents.{CanReach, Contents, IsShaped, hidden, put_all, recoloured}
 pub use Rattle.pool_pages.specs.MakerTold.{MakerTold, Planned, fresh, made_region, plan_for}
-pub use Rattle.pool_pages.specs.Told.{PageCall, TellsShaped, Told, decommitting, erasing, hiding, recolouring, remapping, succeeded}
+pub use Rattle.pool_pages.specs.Told.{PageCall, TellsMarks, TellsShaped, Told, decommitting, erasing, hiding, recolouring, remapping, succeeded}
 pub use Rattle.pool_pages.specs.declared.pages.PageCalls.{PageCalls}
 pub use Rattle.pool_slots.proofs.AwayOnce.{away_once, cell_at, home_there, list_at, shard_of_kind}
 pub use Rattle.pool_slots.proofs.ByKinds.{all_by_kind, long_by_kind, one_by_kind}
@@ -76,7 +77,8 @@ pub use Rattle.pool_slots.proofs.ListUnits.{away_follows, away_parts, kept_follo
 pub use Rattle.pool_slots.proofs.Lists.{each_both, each_weaker}
 pub use Rattle.pool_slots.proofs.PartUnits.{puts_count, takes_count, units_append, units_by_kind}
 pub use Rattle.pool_slots.proofs.PartsMade.{made_shard_of}
-pub use Rattle.pool_slots.proofs.PlainSlots.{bottom_plain, bottom_reset_done, bottom_unused, clean_slots_read_zeros, empty_held, top_done, top_plain}
+pub use Rattle.pool_slots.proofs.MarkedTables.{IsSoReset, used_is_reset, used_size}
+pub use Rattle.pool_slots.proofs.PlainSlots.{clean_slots_read_zeros, empty_held, top_done, top_plain}
 pub use Rattle.pool_slots.proofs.PlanSizes.{shard_below}
 pub use Rattle.pool_slots.proofs.Planning.{HasShards, allocators_placed, numbered, roles, shards_of, slots_are_at_home}
 pub use Rattle.pool_slots.proofs.Settings.{settings_speak}
@@ -98,7 +100,7 @@ pub use Rattle.pool_slots.specs.Makings.{IsListedPoolFault}
 pub use Rattle.pool_slots.specs.PartUnits.{part_away, part_kept, units_of_slots}
 pub use Rattle.pool_slots.specs.Parts.{IsAt, IsCellPart, IsShardPart, cell_of_part, part_at}
 pub use Rattle.pool_slots.specs.PartsMade.{AreMadeTo, HaveGuards, IsCellMade, IsMadeAs, SomeGivenUp, fails_some_slot, lists_some_making, queue_made, shard_made, stack_region}
-pub use Rattle.pool_slots.specs.PlainSlots.{IsPlain, IsUnusedFrom, StackState, above_bottom, bottom_reset, plain_written, stack_kept, stack_ranges, stack_zeroed, top_kept, top_reset}
+pub use Rattle.pool_slots.specs.PlainSlots.{IsPlain, IsUnusedFrom, StackState, plain_written, stack_kept, stack_ranges, stack_zeroed, top_kept, top_reset, used_kept, used_left, used_marks, used_part, used_reset}
 pub use Rattle.pool_slots.specs.Plans.{Block, IsAllocator, IsAtHome, IsPlacedAllocator, Role, allocators, allocators_of, blocks, cell_place, cell_role, cells_block, has_number, have_number, heaps_role, home_among, home_in, home_of, is_within, no_role, number_at, number_in, queue_role, queues_for, role_among, role_at, shard_role, shards_block, slots_at}
 pub use Rattle.pool_slots.specs.PlansMade.{places_planned}
 pub use Rattle.pool_slots.specs.RegionCells.{CellState, IsAwaited, IsRegionOf, away_by, cell_away, cell_emptied, cell_filled, cell_numbers, region_of as unit_region, right_to as unit_right}

@@ -13,6 +13,7 @@ pub mod FramesStayFit
 pub mod FreeTurns
 pub mod FreedSlots
 pub mod FullShards
+pub mod GrantedRequests
 pub mod GuardPages
 pub mod HeapRows
 pub mod HeapSlots
@@ -26,6 +27,7 @@ pub mod LocalQueues
 pub mod MadeNumbers
 pub mod MadePools
 pub mod MakeSteps
+pub mod MemoryReturns
 pub mod NextTargets
 pub mod OnCounters
 pub mod OnParts

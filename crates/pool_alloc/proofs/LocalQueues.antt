@@ -1,6 +1,6 @@
 -- Local and shared queues stay what they are as ranges and slots come and go.
 use Rattle.std.proofs.Common.{◌≡◌, ℕ, ◌+◌, ◌^◌, ◌*◌, ◌<◌, ◌≤◌, Bool, true, false, List, [], ◌∷◌, ◌++◌, length, refl, sym, ap, ◌∙◌, subst, arith, All, None, Option, Some, map, IfSome, inl, inr}
-use Rattle.pool_alloc.proofs.Imports.{IsGivenBack, AllByRecursion, by_kind, all_by_kind, long_by_kind, one_by_kind, length-append, length-map, or_left, cases_Bool, All-nil, All-cons, All-append, All-same, length_all_zip, All-head, All-tail, MakerTold, DecommitBehavior, Zero, RestoreOriginalMapping, ByteRange, Slot, IsSlot, IsClean, IsPart, size_of, kept_bytes, left_ranges, reset_slot, decommitted_all, identity, kept_at_most, SlotName, QueuedRange, Queue, Queued, behind, is_of, empty_queue, AreDistinct, AreApart, LeavesClean, IsReset, IsLeftBy, holds, owner, with_slot, after_take, taken_into, drained, after_append, first_slot, after_run, CanBeZeroed, first_zeroed, is_to_zero, others_of_kind, same_kind, zeroed, zeroed_by, zeroed_slot, leaves_clean, queue_joined, owned_joined, slot_self, faulted_owned, SlotKind, stack_kind, QueueKind, slot_kind, can_zero, queue_popped, queue_zeroed, told_same}
+use Rattle.pool_alloc.proofs.Imports.{IsGivenBack, AllByRecursion, by_kind, all_by_kind, long_by_kind, one_by_kind, length-append, length-map, or_left, cases_Bool, All-nil, All-cons, All-append, All-same, length_all_zip, All-head, All-tail, MakerTold, DecommitBehavior, Zero, RestoreOriginalMapping, ByteRange, Slot, IsSlot, IsClean, IsPart, size_of, given_marks, kept_by, left_by, reset_by, decommitted_all, identity, kept_most, SlotName, QueuedRange, Queue, Queued, behind, is_of, empty_queue, AreDistinct, AreApart, LeavesClean, IsReset, IsLeftBy, holds, owner, with_slot, after_take, taken_into, drained, after_append, first_slot, after_run, CanBeZeroed, first_zeroed, is_to_zero, others_of_kind, same_kind, zeroed, zeroed_by, zeroed_slot, leaves_clean, queue_joined, owned_joined, slot_self, faulted_owned, SlotKind, stack_kind, QueueKind, slot_kind, can_zero, queue_popped, queue_zeroed, told_same}
 use Rattle.pool_alloc.specs.Leases.{memory_slot}
 use Rattle.pool_slots.specs.declared.queued_range.QueueKind.TheVariants.{Memory}
 use Rattle.pool_alloc.specs.PageCallAnswers.{Decommits, Resets}
@@ -206,7 +206,7 @@ alone name m is =
     let H : SlotName → Type 0 = λ n. holds n (m ∷ []) ≡ true in
     subst H is (or_left _ _ (slot_self m.name))
 
-one_slot_local : (maker : MakerTold) (s : Settings) (kind : QueueKind) (ranges : List ByteRange) (i : ℕ) (m : Queued) (q : Queue) → m.name ≡ name_queued kind i → q.range_room ≡ queue_room s.batch → q.slot_room ≡ queue_room s.batch → 1 ≤ s.batch → length ranges ≤ 2 * s.batch → IsQueuedOf maker s m → All (MayBeRanged s) (ranges_listed kind i ranges) → q.ranges ≡ ranges_listed kind i ranges → q.slots ≡ m ∷ [] → LeavesClean q.ranges m → IsLocal maker s q
+one_slot_local : (maker : MakerTold) (s : Settings) (kind : QueueKind) (ranges : List ByteRange) (i : ℕ) (m : Queued) (q : Queue) → m.name ≡ name_queued kind i → q.range_room ≡ queue_room s.batch → q.slot_room ≡ queue_room s.batch → 1 ≤ s.batch → length ranges ≤ 2 * s.batch + 6 → IsQueuedOf maker s m → All (MayBeRanged s) (ranges_listed kind i ranges) → q.ranges ≡ ranges_listed kind i ranges → q.slots ≡ m ∷ [] → LeavesClean q.ranges m → IsLocal maker s q
 one_slot_local maker s kind ranges i m q named range_room slot_room some few of ranged is holds_it leaves =
     let H : QueuedRange → Type 0 = λ r. holds (owner r) q.slots ≡ true in
     let held : holds (name_queued kind i) q.slots ≡ true = rw holds_it (alone (name_queued kind i) m named) in
@@ -242,7 +242,7 @@ pub record IsResetLocal (maker : MakerTold) (s : Settings) (q : Queue) : Type 0 
   pub known : All IsGivenBack q.slots
 
 -- The local queue after a reset of a slot that it is told of: the ranges are few, and all of that slot.
-pub reset_local : (maker : MakerTold) (s : Settings) (kind : QueueKind) (ranges : List ByteRange) (i : ℕ) (m : Queued) (q : Queue) → m.name ≡ name_queued kind i → IsSettings s → IsLocal maker s q → q.ranges ≡ [] → q.slots ≡ [] → length ranges ≤ 2 * s.batch → IsQueuedOf maker s m → All (MayBeRanged s) (ranges_listed kind i ranges) → LeavesClean (ranges_listed kind i ranges) m → IsGivenBack m → IsResetLocal maker s (with_slot m (record q { ranges = q.ranges ++ ranges_listed kind i ranges }))
+pub reset_local : (maker : MakerTold) (s : Settings) (kind : QueueKind) (ranges : List ByteRange) (i : ℕ) (m : Queued) (q : Queue) → m.name ≡ name_queued kind i → IsSettings s → IsLocal maker s q → q.ranges ≡ [] → q.slots ≡ [] → length ranges ≤ 2 * s.batch + 6 → IsQueuedOf maker s m → All (MayBeRanged s) (ranges_listed kind i ranges) → LeavesClean (ranges_listed kind i ranges) m → IsGivenBack m → IsResetLocal maker s (with_slot m (record q { ranges = q.ranges ++ ranges_listed kind i ranges }))
 reset_local maker s kind ranges i m q named settings local none no_slots few of ranged leaves known =
     let listed : List QueuedRange = ranges_listed kind i ranges in
     let q' : Queue = with_slot m (record q { ranges = q.ranges ++ listed }) in
@@ -259,17 +259,19 @@ reset_local maker s kind ranges i m q named settings local none no_slots few of 
 abbrev pub memory_queued : ℕ → TakenSlot → Slot → Queued
 memory_queued bytes at slot = record { name = memory_slot at.name.slot; slot = slot; known = true; bytes = bytes; by_hand = None; numbers = at.numbers }
 
-pub memory_reset : (keep accessible bytes : ℕ) (b : DecommitBehavior) (at : TakenSlot) (slot : Slot) (ranges : List ByteRange) → keep ≤ 2 ^ 32 → bytes ≡ kept_bytes b keep accessible → IsSlot slot → All (IsPart slot.region.page (size_of slot)) ranges → IsClean (decommitted_all ranges slot) → IsReset ranges (memory_queued bytes at slot)
-memory_reset keep accessible bytes b at slot ranges small kept fits parts clean =
-    record { fits = fits; parts = parts; clean = λ known. clean; zeroed = tt; by_hand = refl; bytes = omega (arith, small, kept, kept_at_most b keep accessible) }
+pub memory_reset : (keep bytes : ℕ) (at : TakenSlot) (slot : Slot) (ranges : List ByteRange) → keep ≤ 2 ^ 32 → bytes ≤ keep → IsSlot slot → All (IsPart slot.region.page (size_of slot)) ranges → IsClean (decommitted_all ranges slot) → IsReset ranges (memory_queued bytes at slot)
+memory_reset keep bytes at slot ranges small kept fits parts clean =
+    record { fits = fits; parts = parts; clean = λ known. clean; zeroed = tt; by_hand = refl; bytes = omega (arith, small, kept) }
 
 -- and is what the step may be told.
-pub reset_told : (keep bytes : ℕ) (at : TakenSlot) (slot new : Slot) (ranges : List ByteRange) → keep ≤ 2 ^ 32 → new ≡ reset_slot slot.region.behaviour keep slot → bytes ≡ kept_bytes slot.region.behaviour keep slot.accessible.bytes → ranges ≡ left_ranges slot.region.behaviour keep slot.accessible.bytes → IsSlot new → All (IsPart new.region.page (size_of new)) ranges → IsClean (decommitted_all ranges new) → Resets false keep at slot new
-reset_told keep bytes at slot new ranges small is kept left fits parts clean =
+pub reset_told : (offered : Bool) (keep bytes : ℕ) (at : TakenSlot) (slot new : Slot) (ranges : List ByteRange) → keep ≤ 2 ^ 32 → new ≡ reset_by (given_marks offered slot) slot.region.behaviour keep slot → bytes ≡ kept_by (given_marks offered slot) slot.region.behaviour keep slot → ranges ≡ left_by (given_marks offered slot) slot.region.behaviour keep slot → IsSlot new → All (IsPart new.region.page (size_of new)) ranges → IsClean (decommitted_all ranges new) → Resets false offered keep at slot new
+reset_told offered keep bytes at slot new ranges small is kept left fits parts clean =
     let b : DecommitBehavior = slot.region.behaviour in
+    let marks : Option (List Bool) = given_marks offered slot in
+    let most : bytes ≤ keep = omega (arith, kept, kept_most marks b keep slot) in
     let L : List ByteRange → Slot → ℕ → Type 0 = λ rs s n. LeavesClean (ranges_listed Memory at.name.slot rs) (memory_queued n at s) in
-    let leaves : L ranges new bytes = leaves_clean Memory (memory_queued bytes at new) ranges (empty_queue 0 0) refl tt refl (memory_reset keep slot.accessible.bytes bytes b at new ranges small kept fits parts clean) in
-    (is, subst (λ (n : ℕ). L (left_ranges b keep slot.accessible.bytes) (reset_slot b keep slot) n) kept (subst (λ (s : Slot). L (left_ranges b keep slot.accessible.bytes) s bytes) is (subst (λ (rs : List ByteRange). L rs new bytes) left leaves)))
+    let leaves : L ranges new bytes = leaves_clean Memory (memory_queued bytes at new) ranges (empty_queue 0 0) refl tt refl (memory_reset keep bytes at new ranges small most fits parts clean) in
+    (is, subst (λ (n : ℕ). L (left_by marks b keep slot) (reset_by marks b keep slot) n) kept (subst (λ (s : Slot). L (left_by marks b keep slot) s bytes) is (subst (λ (rs : List ByteRange). L rs new bytes) left leaves)))
 
 -- A reset fails only where pages go back to zeros.
 pub zeros_of : (b : DecommitBehavior) (ok : Bool) → (b ≡ RestoreOriginalMapping → ok ≡ true) → ok ≡ false → b ≡ Zero

@@ -1,6 +1,6 @@
 -- The rows of a give-back, and of a flush.
 use Rattle.std.proofs.Common.{map, ◌≡◌, ℕ, ◌+◌, ◌-◌, ◌%◌, ◌^◌, ◌<◌, ◌≤◌, Bool, true, false, List, [], ◌∷◌, ◌++◌, length, refl, sym, ap, subst, ◌∙◌, arith, All, inl, Option, None, Some, ◌==◌, ◌||◌, ◌&&◌, not, nat_le, nat_lt, filter, if◌then◌else◌, IfSome, ◌*◌}
-use Rattle.pool_alloc.proofs.Imports.{of_kind, long_by_kind, Plan, leb-false, or_parts, length_push, length-append, All-head, All-nil, All-push, All-filter, All-weaker, All-tail, length-filter_both, MakerTold, DecommitBehavior, Zero, RestoreOriginalMapping, Slot, forgotten, left_ranges, reset_slot, ByteRange, ShardState, image_slot_of, CellState, cell_filled, Queue, Queued, LeavesClean, empty_queue, taken_into, drained, after_append, IsSettled, first_of_kind, first_zeroed, is_to_zero, others_of_kind, plain_slot, SlotKind, memory_kind, home_of, cell_place, AllByRecursion, list_any, SlotName, Told, StackState, above_bottom, stack_kept, stack_ranges, stack_zeroed, stack_item, leaves_clean, first_settled, zeroed_long, table_kind, stack_kind}
+use Rattle.pool_alloc.proofs.Imports.{of_kind, long_by_kind, Plan, leb-false, or_parts, length_push, length-append, All-head, All-nil, All-push, All-filter, All-weaker, All-tail, length-filter_both, MakerTold, RestoreOriginalMapping, Slot, forgotten, given_marks, left_by, reset_by, few_left, ByteRange, ShardState, image_slot_of, CellState, cell_filled, Queue, Queued, LeavesClean, empty_queue, taken_into, drained, after_append, IsSettled, first_of_kind, first_zeroed, is_to_zero, others_of_kind, plain_slot, SlotKind, memory_kind, home_of, cell_place, AllByRecursion, list_any, SlotName, Told, StackState, TellsMarks, used_left, used_part, stack_kept, stack_ranges, stack_zeroed, stack_item, leaves_clean, first_settled, zeroed_long, table_kind, stack_kind}
 use Rattle.pool_alloc.proofs.SumsBelow.{queued_cells}
 use Rattle.pool_alloc.proofs.PlanPlaces.{IsShardPlace, IsQueuePlace, apart_places, queue_no_cell, tried_is_queue}
 use Rattle.pool_alloc.specs.PartyTold.{PartyTold}
@@ -42,7 +42,7 @@ use Rattle.pool_alloc.proofs.Searches.{still_empty}
 use Rattle.pool_alloc.specs.Searches.{AreEmpty}
 use Rattle.pool_slots.specs.declared.part.PoolPart.TheVariants as part
 use Rattle.pool_alloc.proofs.FlushFinds.{finds, Finds, FindsFreed, FindsPut, FreesFirst, IsBack, frees_first, is_back, names_of, none_waits, order_freed, order_put, puts_some}
-use Rattle.pool_alloc.specs.TableSteps.{IsInRegion, bytes_used, reset_in, table_queued, table_reset}
+use Rattle.pool_alloc.specs.TableSteps.{IsInRegion, bytes_used, reset_in, table_marks, table_queued, table_reset}
 use Rattle.pool_alloc.specs.PoolTables.{IsPoolTable, IsTableLease}
 use Rattle.pool_alloc.specs.TableLeases.{LeasedTable}
 use Rattle.pool_alloc.proofs.KindCounts.{counts_first, first_has, first_kind, others_long, zeroed_counts}
@@ -50,18 +50,9 @@ use Rattle.pool_alloc.specs.StackLeases.{LeasedStack}
 use Rattle.pool_alloc.specs.PoolStacks.{IsStackLease, stack_reset}
 use Rattle.pool_alloc.specs.declared.pool_core.Settings.{Settings}
 use Rattle.pool_alloc.proofs.StackRegions.{few_ranges, stack_by_hand, stack_given_back, stack_leaves, stack_name, stack_page, stack_queued_of, stack_small}
-use Rattle.pool_alloc.proofs.TableReturns.{few_above, returned_has, returned_may, table_leaves, table_still}
+use Rattle.pool_alloc.proofs.TableReturns.{returned_has, returned_may, table_leaves, table_still}
 use Rattle.pool_alloc.proofs.SlotsOfFrames.{right_is_out}
 use Rattle.pool_alloc.proofs.Weights.{counted_fits}
-
--- a reset leaves one range at most
-one_if_more : (b : Bool) (r : ByteRange) → length (if b then r ∷ [] else []) ≤ 1
-one_if_more true r = omega arith
-one_if_more false r = omega arith
-
-one_range : (b : DecommitBehavior) (keep accessible : ℕ) → length (left_ranges b keep accessible) ≤ 1
-one_range RestoreOriginalMapping keep accessible = one_if_more (nat_lt keep accessible) (record { start = keep; len = accessible - keep })
-one_range Zero keep accessible = omega arith
 
 fewer_left : (p : FreedSlot → Bool) (xs : List FreedSlot) → length (filter (λ x. not (p x)) xs) ≤ length xs
 fewer_left p xs = omega (arith, length-filter_both p (λ (x : FreedSlot). not (p x)) (λ x. refl) xs)
@@ -188,7 +179,7 @@ module _ {P H : Type 0} (maker : MakerTold) (old new : PartyTold) where
       })
 
   -- The memory is reset, or a page call of that failed.
-  memory_reset_ready : (fault : Bool) (held : Slot) (lease : Lease) (c : PoolCore P H) (f : Frame P H) → Can maker (Reset (Memory lease)) c f → Resets fault c.settings.keep_resident.bytes (slot_taken lease) (image_slot_of lease.memory) held → Shows (Reset (Memory lease)) c f (was_reset fault held lease c (in_phase Idle f))
+  memory_reset_ready : (fault : Bool) (held : Slot) (lease : Lease) (c : PoolCore P H) (f : Frame P H) → Can maker (Reset (Memory lease)) c f → Resets fault c.settings.dirty_pages c.settings.keep_resident.bytes (slot_taken lease) (image_slot_of lease.memory) held → Shows (Reset (Memory lease)) c f (was_reset fault held lease c (in_phase Idle f))
   memory_reset_ready true held lease c f can told =
       let e : Frame P H = in_phase (Reset (Memory lease)) f in
       let of = can.frame.shape.2 in
@@ -205,24 +196,27 @@ module _ {P H : Type 0} (maker : MakerTold) (old new : PartyTold) where
       let of = can.frame.shape.2 in
       let keep : ℕ = c.settings.keep_resident.bytes in
       let slot : Slot = image_slot_of lease.memory in
-      let m : Queued = slot_ended keep (slot_taken lease) slot in
-      let still : IsPoolSlot maker c.settings lease.index (reset_slot slot.region.behaviour keep slot) = slot_of_one maker c.settings lease.index slot (reset_slot slot.region.behaviour keep slot) (one_reset slot.region.behaviour keep slot) of.slot in
-      let ranges : List ByteRange = left_ranges slot.region.behaviour keep slot.accessible.bytes in
-      let is = reset_local maker c.settings queued.Memory ranges lease.index m f.local refl can.core.settings can.frame.queue settled.no_ranges settled.no_slots (omega (arith, one_range slot.region.behaviour keep slot.accessible.bytes, can.core.settings.batch.0)) (record { slot = still; by_hand = tt }) (listed_may c.settings queued.Memory lease.index ranges (λ e. absurd cc)) told.1 (inl refl) in
-      reset_on_ready (Memory lease) (reset_into keep (slot_taken lease) slot f.local) c f can is (λ t. queued_last t f.local.slots m) (omega (arith, of.inside))
+      let marks : Option (List Bool) = given_marks c.settings.dirty_pages slot in
+      let m : Queued = slot_ended c.settings.dirty_pages keep (slot_taken lease) slot in
+      let still : IsPoolSlot maker c.settings lease.index (reset_by marks slot.region.behaviour keep slot) = slot_of_one maker c.settings lease.index slot (reset_by marks slot.region.behaviour keep slot) (one_reset marks slot.region.behaviour keep slot) of.slot in
+      let ranges : List ByteRange = left_by marks slot.region.behaviour keep slot in
+      let is = reset_local maker c.settings queued.Memory ranges lease.index m f.local refl can.core.settings can.frame.queue settled.no_ranges settled.no_slots (omega (arith, few_left marks slot.region.behaviour keep slot, can.core.settings.batch.0)) (record { slot = still; by_hand = tt }) (listed_may c.settings queued.Memory lease.index ranges (λ e. absurd cc)) told.1 (inl refl) in
+      reset_on_ready (Memory lease) (reset_into c.settings.dirty_pages keep (slot_taken lease) slot f.local) c f can is (λ t. queued_last t f.local.slots m) (omega (arith, of.inside))
 
   -- The table is.
-  table_reset_ready : (region : Told) (lease : LeasedTable) (c : PoolCore P H) (f : Frame P H) → Can maker (Reset (Table lease)) c f → IsPoolTable maker c.settings lease.index (plain_slot 0 region) → IsInRegion c.settings.page lease region
-      → Shows (Reset (Table lease)) c f (record { part = c; frame = record f { phase = Idle; local = table_reset c.settings.page c.settings.table_keep_resident.bytes lease region f.local }; turn = reset_turn c.settings.batch (table_reset c.settings.page c.settings.table_keep_resident.bytes lease region f.local) })
-  table_reset_ready region lease c f can of lies =
+  table_reset_ready : (region : Told) (lease : LeasedTable) (c : PoolCore P H) (f : Frame P H) → Can maker (Reset (Table lease)) c f → IsPoolTable maker c.settings lease.index (plain_slot 0 region) → IsInRegion c.settings.page lease region → TellsMarks region
+      → Shows (Reset (Table lease)) c f (record { part = c; frame = record f { phase = Idle; local = table_reset c.settings.dirty_pages c.settings.page c.settings.table_keep_resident.bytes lease region f.local }; turn = reset_turn c.settings.batch (table_reset c.settings.dirty_pages c.settings.page c.settings.table_keep_resident.bytes lease region f.local) })
+  table_reset_ready region lease c f can of lies marked =
       let settled = can.frame.shape.0 in
       let page : ℕ = c.settings.page in
       let keep : ℕ = c.settings.table_keep_resident.bytes in
-      let m : Queued = table_queued page keep lease region in
-      let ranges : List ByteRange = above_bottom keep (bytes_used page lease) in
-      let leaves = table_leaves page keep lease region lies can.core.settings.table_kept in
-      let is = reset_local maker c.settings queued.Table ranges lease.index m f.local refl can.core.settings can.frame.queue settled.no_ranges settled.no_slots (omega (arith, few_above keep (bytes_used page lease), can.core.settings.batch.0)) (record { slot = table_still maker c.settings page keep lease region of; by_hand = refl }) (listed_may c.settings queued.Table lease.index ranges (λ e. absurd cc)) leaves (inl refl) in
-      reset_on_ready (Table lease) (table_reset page keep lease region f.local) c f can is (λ t. queued_last t f.local.slots m) (omega (arith, can.frame.shape.2.inside))
+      let offered : Bool = c.settings.dirty_pages in
+      let marks : Option (List Bool) = table_marks offered page lease region in
+      let m : Queued = table_queued offered page keep lease region in
+      let ranges : List ByteRange = used_left marks keep (bytes_used page lease) (plain_slot 0 region) in
+      let leaves = table_leaves offered page keep lease region lies marked can.core.settings.table_kept in
+      let is = reset_local maker c.settings queued.Table ranges lease.index m f.local refl can.core.settings can.frame.queue settled.no_ranges settled.no_slots (omega (arith, few_left marks RestoreOriginalMapping keep (used_part (bytes_used page lease) (plain_slot 0 region)), can.core.settings.batch.0)) (record { slot = table_still offered maker c.settings page keep lease region of; by_hand = refl }) (listed_may c.settings queued.Table lease.index ranges (λ e. absurd cc)) leaves (inl refl) in
+      reset_on_ready (Table lease) (table_reset offered page keep lease region f.local) c f can is (λ t. queued_last t f.local.slots m) (omega (arith, can.frame.shape.2.inside))
 
   -- The stack is.
   stack_reset_ready : (lease : LeasedStack) (c : PoolCore P H) (f : Frame P H) → Can maker (Reset (Stack lease)) c f → Shows (Reset (Stack lease)) c f (stack_reset_row lease c (in_phase Idle f))
@@ -247,8 +241,8 @@ module _ {P H : Type 0} (maker : MakerTold) (old new : PartyTold) where
   reset_ready g (Memory lease) c f can told = memory_reset_ready g.fault g.slot lease c f can told
   reset_ready g (Table lease) c f can told =
       let held : IsTableLease maker c.settings c.plan lease = can.frame.shape.2 in
-      let S : Option Told → Type 0 = λ o. Shows (Reset (Table lease)) c f (record { part = c; frame = record f { phase = Idle; local = reset_in c.settings.page c.settings.table_keep_resident.bytes lease o f.local }; turn = reset_turn c.settings.batch (reset_in c.settings.page c.settings.table_keep_resident.bytes lease o f.local) }) in
-      subst S (sym held.lies.is) (table_reset_ready held.region lease c f can held.slot held.lies)
+      let S : Option Told → Type 0 = λ o. Shows (Reset (Table lease)) c f (record { part = c; frame = record f { phase = Idle; local = reset_in c.settings.dirty_pages c.settings.page c.settings.table_keep_resident.bytes lease o f.local }; turn = reset_turn c.settings.batch (reset_in c.settings.dirty_pages c.settings.page c.settings.table_keep_resident.bytes lease o f.local) }) in
+      subst S (sym held.lies.is) (table_reset_ready held.region lease c f can held.slot held.lies (subst (λ (o : Option Told). IfSome o TellsMarks) held.lies.is told))
   reset_ready g (Stack lease) c f can told = stack_reset_ready lease c f can
 
   -- The local queue is appended.

@@ -1,6 +1,6 @@
 -- The rows of a request that has a slot.
 use Rattle.std.proofs.Common.{◌≡◌, ℕ, ◌+◌, ◌<◌, ◌≤◌, Bool, true, false, List, [], ◌∷◌, ◌++◌, length, refl, sym, ap, subst, inl, inr, arith, Option, Some, None, Result, Ok, Err, ◌∙◌, ◌⊎◌, ◌^◌, nat_le, nat_lt, if◌then◌else◌, IfSome, IsSome, IfOk, slice_get, slice_index_or, is_some, ◌*◌}
-use Rattle.pool_alloc.proofs.Imports.{told_both, told_weaker, refused_limits, TableType, ltb-true, ltb-false, kind_number, Plan, length_push, nil_from_length, All-push, Told, minimum_byte_size, allow_growth_to, MemoryDecl, Image, Slot, forgotten, hides, IsClean, IsLeft, ShardState, after_free, InitialSize, AddressSpace, MemoryMinimum, LimiterError, MemoryState, slot_of, static_capacity, maximum_asked, Cell, unmapped, unknown, previously_used, taken, is_taken, CellState, cell_numbers, cell_emptied, cell_filled, AllocError, least_most, MakerTold, SlotName, SlotKind, ImageSlot, home_of, cell_of, memory_kind, table_kind, stack_kind, heap_kind, of_kind}
+use Rattle.pool_alloc.proofs.Imports.{told_both, told_weaker, refused_limits, TableType, ltb-true, ltb-false, kind_number, Plan, length_push, nil_from_length, All-push, Told, minimum_byte_size, allow_growth_to, MemoryDecl, MemoryType, Image, Slot, forgotten, hides, IsClean, IsLeft, ShardState, after_free, InitialSize, AddressSpace, MemoryMinimum, LimiterError, MemoryState, slot_of, static_capacity, maximum_asked, Cell, unmapped, unknown, previously_used, taken, is_taken, CellState, cell_numbers, cell_emptied, cell_filled, AllocError, least_most, MakerTold, SlotName, SlotKind, ImageSlot, home_of, cell_of, memory_kind, table_kind, stack_kind, heap_kind, of_kind}
 use Rattle.pool_alloc.specs.declared.pool_core.Counters.{Counters}
 use Rattle.pool_alloc.specs.PoolStacks.{stack_made}
 use Rattle.pool_alloc.specs.StackLeases.{stack_taken}
@@ -31,7 +31,7 @@ use Rattle.pool_alloc.specs.MemorySteps.{made_of, made_of_limits, made_for, memo
 use Rattle.pool_alloc.specs.Places.{Thing, right_to, both_count, phase_count, phase_instances, region_count, taken_count, instances_for, Counts, counted_instance, counted_object, phase_counted}
 use Rattle.pool_alloc.specs.StepTable.{in_cell, in_shard, region_next, take_region_on, paged, empty_row, instantiate_row, was_made, make_memory_row, count_object_row, put_back_on, free_one_on, unmapped_next, was_made_table, make_table_row, memory_kept, memory_turn, table_kept, table_turn}
 use Rattle.pool_alloc.specs.Searches.{AreEmpty, IsSearchedBy, IsSearchedAt, IsSearched}
-use Rattle.pool_alloc.specs.BetweenSteps.{IsCore, IsLeaseOf, IsToGrant, IsAllocating, HasNoneWaiting, IsShapedAt, IsSupported, HasSlot, HasBegun, IsMadeOf, IsNew, IsPoolSlot, MayHold, HasRegion, HasCells, IsSlotName, HasTable, IsMemoryNext, IsTableNext, IsStackNext, IsEnabled, AreLeasesOf, IsHeapNext}
+use Rattle.pool_alloc.specs.BetweenSteps.{FitsSlotAndType, IsCore, IsLeaseOf, IsToGrant, IsAllocating, HasNoneWaiting, IsShapedAt, IsSupported, HasSlot, HasBegun, IsMadeOf, IsNew, IsPoolSlot, MayHold, HasRegion, HasCells, IsSlotName, HasTable, IsMemoryNext, IsTableNext, IsStackNext, IsEnabled, AreLeasesOf, IsHeapNext}
 use Rattle.pool_alloc.specs.CallStages.{Stage, no_call, refusing, stage_by, stage_at, Goes, stage_of}
 use Rattle.pool_alloc.specs.Stepping.{is_idle, RiseByOne}
 use Rattle.pool_alloc.specs.StepReads.{memories_wanted, images_wanted, image_wanted, shard_at, with_shard, with_cell, memory_slots, cell_named, tables_wanted, stacks_wanted, singles_wanted, heaps_wanted, IsForObjects, counting_memories, counting_tables, kind_next, kind_by, kind_last}
@@ -247,6 +247,13 @@ module _ {P H : Type 0} where
         fixed = is.made.fixed;
       }) (allocating.to_grant.supported.each k) new)
 
+  room_of : (s : Settings) (f : Frame P H) (memory : MemoryState) → IsMemoryNext f → IfAllocated f (IsNew s.max_memory_size (image_wanted f) memory) → FitsSlotAndType s memory
+  room_of s f memory more new =
+      let k : ℕ = length f.objects.memories.items in
+      told_there (FitsSlotAndType s memory) (memories_wanted f.asked) k more
+      (told_weaker (IsNew s.max_memory_size (image_wanted f) memory) (λ decl. FitsSlotAndType s memory) (slice_get (memories_wanted f.asked) k)
+      (λ decl is. let same : memory.linear.capacity ≡ static_capacity s.max_memory_size (maximum_asked memory.ty) = is.made.capacity ∙ ap (λ (ty : MemoryType). static_capacity s.max_memory_size (maximum_asked ty)) (sym is.made.ty) in omega (arith, same)) new)
+
 module _ {P H : Type 0} (maker : MakerTold) (old new : PartyTold) where
   abbrev Shows : Phase P H → PoolCore P H → Frame P H → Row (PoolCore P H) P H → Type 0
   Shows p c f r = IsReadyRow maker old new c (in_phase p f) r
@@ -456,7 +463,7 @@ module _ {P H : Type 0} (maker : MakerTold) (old new : PartyTold) where
       let has : Goal (slot_of memory) = subst Goal (sym in_slot.slot) can.frame.shape.2 in
       record {
         kept = kept_part maker old new c e c _ can.core (held_of maker c.settings c.plan e can.frame) refl refl refl refl;
-        shape = (refl, (can.frame.shape.0, can.frame.shape.1, record { inside = has.inside; slot = has.region; memory = memory_of c.settings c.plan e memory can.frame.shape.1 can.frame.shape.4 begins }, begins, can.frame.shape.4));
+        shape = (refl, (can.frame.shape.0, can.frame.shape.1, record { inside = has.inside; slot = has.region; memory = memory_of c.settings c.plan e memory can.frame.shape.1 can.frame.shape.4 begins; room = room_of c.settings e memory can.frame.shape.4 begins }, begins, can.frame.shape.4));
         even = λ w. omega (arith, ap (λ (n : SlotName). both_count w.unit n at.numbers) (name_of at.name has.kind));
         fewer = omega arith;
         way = memory_made_way maker old new c e f.asked f.ending (objects_in f.objects) memory can.frame.shape.1.ending (no_stack f can.frame.shape.4) (record { number = refl; allocating = can.frame.shape.1; next = can.frame.shape.4; given = given; held = had; asked = asked; is = is });

@@ -1,6 +1,6 @@
 -- A slot stays that of its region, whatever calls were made on it.
 use Rattle.std.proofs.Common.{◌≡◌, ℕ, ◌+◌, ◌/◌, ◌%◌, ◌^◌, ◌<◌, ◌≤◌, Bool, true, false, List, [], ◌∷◌, length, refl, ap, ◌∙◌, sym, subst, arith, Option, Some, None, All, replicate, map, if◌then◌else◌}
-use Rattle.pool_alloc.proofs.Imports.{AllZip, zero-div, length-map, length-replicate, All-nil, All-cons, All-head, All-tail, rounded_is_whole, count, rounded_up, IsShaped, put_all, recoloured, Told, PageCall, TellsShaped, erasing, recolouring, decommitting, MakerTold, fresh, made_region, DecommitBehavior, Zero, RestoreOriginalMapping, fresh_shaped, length-put, ByteRange, Slot, IsFresh, IsClean, identity, size_of, called, coloured, wiped, reset_slot, decommitted_all, told_same, same_called, fresh_clean, identity_made, stripe_colour, regions_fresh, SlotKind, SlotName, IsSlotLeft, same_slot, front, Queue, Queued, IsLeftBy, forgotten_slot, is_of, first_slot, change_at, after_run, IsPlain, QueuedRange, slot_is}
+use Rattle.pool_alloc.proofs.Imports.{AllZip, zero-div, length-map, length-replicate, All-nil, All-cons, All-head, All-tail, rounded_is_whole, count, rounded_up, IsShaped, put_all, recoloured, Told, PageCall, TellsShaped, erasing, recolouring, decommitting, MakerTold, fresh, made_region, DecommitBehavior, Zero, RestoreOriginalMapping, fresh_shaped, length-put, ByteRange, Slot, IsFresh, IsClean, identity, size_of, called, coloured, wiped, like_restored, pages_by_hand, reset_by, decommitted_all, told_same, same_called, fresh_clean, identity_made, stripe_colour, regions_fresh, SlotKind, SlotName, IsSlotLeft, same_slot, front, Queue, Queued, IsLeftBy, forgotten_slot, is_of, first_slot, change_at, after_run, IsPlain, QueuedRange, slot_is}
 use Rattle.pool_pages.specs.declared.pages.RegionName.TheVariants as of_region
 use Rattle.pool_hall.specs.declared.unit_name.SlotKind.TheVariants.{Memory, Table, Stack, Heap}
 use Rattle.pool_alloc.specs.CanStep.{CanBeImage}
@@ -28,9 +28,11 @@ one_decommitted s (r ∷ rs) =
     let call : PageCall = decommitting (s.base.bytes + r.start) r.len in
     one_decommitted (called call s) rs ∙ same_called call s
 
-pub one_reset : (b : DecommitBehavior) (keep : ℕ) (s : Slot) → IsOneSlot s (reset_slot b keep s)
-one_reset RestoreOriginalMapping keep s = ap (λ (b : Bool). record (identity s) { tells = b }) (told_same _ s.region.contents)
-one_reset Zero keep s = one_wiped s
+pub one_reset : (marks : Option (List Bool)) (b : DecommitBehavior) (keep : ℕ) (s : Slot) → IsOneSlot s (reset_by marks b keep s)
+one_reset None RestoreOriginalMapping keep s = ap (λ (b : Bool). record (identity s) { tells = b }) (told_same _ s.region.contents)
+one_reset (Some marks) RestoreOriginalMapping keep s = (like_restored s.base.bytes (pages_by_hand s.region.page keep marks) false s).same
+one_reset None Zero keep s = one_wiped s
+one_reset (Some marks) Zero keep s = one_wiped s
 
 -- the slot of one region stays that
 pub slot_of_one : (maker : MakerTold) (s : Settings) (i : ℕ) (old new : Slot) → IsOneSlot old new → IsPoolSlot maker s i old → IsPoolSlot maker s i new

@@ -245,7 +245,7 @@ module _ {P H : Type 0} (t : Thing) (of : IsOfMemories t) where
 
   reset_clear : (b : Bool) (held : Slot) (lease : Lease) (c : PoolCore P H) (f : Frame P H) → is_granting f.ending ≡ false → ClearTurn (was_reset b held lease c f).frame (was_reset b held lease c f).turn
   reset_clear true held lease c f back = λ on. idle_of f.ending back on
-  reset_clear false held lease c f back = queue_clear c.settings.batch (reset_into c.settings.keep_resident.bytes (slot_taken lease) (slot_of lease.memory) f.local) f back
+  reset_clear false held lease c f back = queue_clear c.settings.batch (reset_into c.settings.dirty_pages c.settings.keep_resident.bytes (slot_taken lease) (slot_of lease.memory) f.local) f back
 
   merged_clear : (b : Bool) (whole : Queue) (f : Frame P H) → is_granting f.ending ≡ false → ClearTurn (merged b whole f).frame (merged b whole f).turn
   merged_clear true whole f back = λ on. idle_of f.ending back on

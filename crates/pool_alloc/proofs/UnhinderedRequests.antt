@@ -163,12 +163,12 @@ module _ {P H : Type 0} (maker : MakerTold) (live : List (Grant P H)) where
 
 module _ {P H : Type 0} (request : Call P H) where
   -- What is known at each stage of a request of what it asks for.
-  abbrev AtProgress : Progress → Type 0
+  abbrev pub AtProgress : Progress → Type 0
   AtProgress untested = instances_needed request ≡ 1
   AtProgress uncounted = instances_needed request ≡ 1
   AtProgress _ = Unit {0}
 
-  abbrev AtStage : Stage → Asked → Type 0
+  abbrev pub AtStage : Stage → Asked → Type 0
   AtStage (asking p) asked = (asked ≡ asked_by request) × AtProgress p
   AtStage (tests_component info) asked = components_needed request ≡ 1
   AtStage counts_component asked = components_needed request ≡ 1

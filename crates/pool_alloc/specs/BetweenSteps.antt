@@ -184,11 +184,16 @@ pub record IsCore {P H : Type 0} (maker : MakerTold) (c : PoolCore P H) : Type 0
   pub stripes : length c.plan.memories ≡ c.settings.num_stripes
   pub parts : (p : ℕ) → p < length c.parts → IsPartAt maker c.settings c.plan p (part_at p c.parts)
 
--- a lease of the pool: its memory lies in the region of its slot
+-- The memory can have no more bytes than a slot of the pool offers, and than its type allows.
+abbrev pub FitsSlotAndType : Settings → MemoryState → Type 0
+FitsSlotAndType s m = m.linear.capacity ≤ static_capacity s.max_memory_size (maximum_asked m.ty)
+
+-- A lease of the pool: its memory lies in the region of its slot.
 pub record IsLeaseOf (maker : MakerTold) (s : Settings) (plan : Plan) (l : Lease) : Type 0 where
   pub inside : l.index < memory_slots plan
   pub slot : IsPoolSlot maker s l.index (image_slot_of l.memory)
   pub memory : IsUsable l.memory
+  pub room : FitsSlotAndType s l.memory
 
 -- An object is a lease of the pool.
 abbrev pub IsObjectOf : {P : Type 0} → MakerTold → Settings → Plan → Object P → Type 0

@@ -118,14 +118,14 @@ pub record CanFreeOne (name : SlotName) (plan : Plan) (shard : ShardState) : Typ
   pub home : HasHome plan name
   pub used : IsSome (use_of shard (home_of plan name).local.0)
 
--- the local queue is empty, and has room
+-- the local queue is empty, and has room for a slot and the ranges that its reset may leave
 pub record CanReset (s : Settings) (held : Slot) (local : Queue) : Type 0 where
   pub page : s.keep_resident.page ≡ held.region.page
   pub kept : s.keep_resident.bytes ≤ 2 ^ 32
   pub no_ranges : local.ranges ≡ []
   pub no_slots : local.slots ≡ []
   pub owners : HasOwners local
-  pub range_room : 0 < local.range_room
+  pub range_room : 8 ≤ local.range_room
   pub slot_room : 0 < local.slot_room
 
 -- the table lies in its region, and the local queue has room for its slot

@@ -7,8 +7,9 @@ pub use Rattle.pool_hall.specs.declared.unit_name.SlotKind.{SlotKind}
 pub use Rattle.pool_hall.specs.declared.unit_name.SlotKind.TheVariants.{Heap as heap_kind, Memory as memory_kind, Stack as stack_kind, Table as table_kind}
 pub use Rattle.pool_hall.specs.declared.unit_name.UnitName.{UnitName}
 pub use Rattle.pool_images.specs.Images.{Image, ends_in_minimum, images_from}
-pub use Rattle.pool_images.specs.Orders.{Follows, removing, replacing, resetting, resizing, set_by_hand, wiping}
-pub use Rattle.pool_images.specs.Slots.{CallFaulted, FitsInto, HasImage, IsBegun, IsClean, IsFresh, IsInUse, IsLeft, IsRangeOf, IsSized, Reads, Slot, called, forgotten, hides, identity, kept_bytes, left_ranges, name_of, replaced, reset_slot, reused, wiped, without_image}
+pub use Rattle.pool_images.specs.Orders.{Follows, removing, replacing, resetting, resizing, wiping}
+pub use Rattle.pool_images.specs.Resets.{given_marks, kept_by, left_by, reset_by, told_by_hand}
+pub use Rattle.pool_images.specs.Slots.{CallFaulted, FitsInto, HasImage, IsBegun, IsClean, IsFresh, IsInUse, IsLeft, IsRangeOf, IsSized, Reads, Slot, called, forgotten, hides, identity, name_of, replaced, reused, wiped, without_image}
 pub use Rattle.pool_index.specs.Freed.{taken_outside}
 pub use Rattle.pool_index.specs.Shard.{ShardState, affine_answer, after_affine_pick, after_free, after_pick, after_take_warm, fresh_shard, one_if, pick_answer, resident_bytes, slot_number, taken_slots, use_of, used_count, warm_count}
 pub use Rattle.pool_index.specs.declared.ids.MemoryInModule.{MemoryInModule}
@@ -29,7 +30,7 @@ pub use Rattle.pool_memory.specs.declared.memory.Memory.{Memory}
 pub use Rattle.pool_memory.specs.declared.memory_error.MemoryError.{MemoryError}
 pub use Rattle.pool_pages.specs.CallSums.{added}
 pub use Rattle.pool_pages.specs.MakerTold.{MakerTold, Planned, fresh, made_region, no_calls}
-pub use Rattle.pool_pages.specs.Told.{PageCall, Told, decommitting, hiding}
+pub use Rattle.pool_pages.specs.Told.{PageCall, TellsMarks, Told, decommitting, hiding}
 pub use Rattle.pool_pages.specs.declared.pages.PageCalls.{PageCalls}
 pub use Rattle.pool_slots.specs.CellOf.{cell_of}
 pub use Rattle.pool_slots.specs.Cells.{Cell, IsCell, IsCleanOnceUsed, IsSlotOf, all_calls, calls_in, identity_made, is_taken, previously_used, taken, unknown, unmapped}
@@ -42,7 +43,7 @@ pub use Rattle.pool_slots.specs.ListUnits.{IsShardOf, all_away, all_kept, is_reg
 pub use Rattle.pool_slots.specs.PartUnits.{part_away, part_kept, units_of_slots}
 pub use Rattle.pool_slots.specs.Parts.{IsAt, IsCellPart, IsShardPart, cell_of_part, part_at}
 pub use Rattle.pool_slots.specs.PartsMade.{AreMadeTo, SomeGivenUp, fails_some_slot, lists_some_making}
-pub use Rattle.pool_slots.specs.PlainSlots.{IsPlain, IsUnusedFrom, StackState, above_bottom, bottom_reset, stack_kept, stack_ranges, stack_zeroed}
+pub use Rattle.pool_slots.specs.PlainSlots.{IsPlain, IsUnusedFrom, StackState, stack_kept, stack_ranges, stack_zeroed, used_kept, used_left, used_marks, used_reset}
 pub use Rattle.pool_slots.specs.Plans.{IsPlacedAllocator, IsPlanned, Role, allocators_of, cell_place, cell_role, has_number, have_number, heaps_role, home_of, queue_role, queue_tried as nth_queue_tried, queue_tried, queues_for, role_at, shard_role, shard_tried as nth_shard_tried}
 pub use Rattle.pool_slots.specs.PlansMade.{places_planned}
 pub use Rattle.pool_slots.specs.QueueMerges.{CanMerge}
@@ -82,7 +83,7 @@ pub use Rattle.pool_table.specs.declared.table_error.TableError.{TableError}
 pub use Rattle.pool_types.specs.Count.{IsPageSize, count, rounded_up}
 pub use Rattle.pool_types.specs.MemoryTypes.{minimum_byte_size, refused_limits}
 pub use Rattle.pool_types.specs.Rising.{Rose, risen}
-pub use Rattle.pool_types.specs.SettingsRules.{slab_stripes}
+pub use Rattle.pool_types.specs.SettingsRules.{may_use, slab_stripes}
 pub use Rattle.pool_types.specs.declared.bad_config.BadConfig.{BadConfig}
 pub use Rattle.pool_types.specs.declared.config.PoolingAllocationConfig.{PoolingAllocationConfig}
 pub use Rattle.pool_types.specs.declared.decommit_behavior.DecommitBehavior.TheVariants.{Zero}

@@ -4,6 +4,7 @@ pub mod Calls
 pub mod CanStep
 pub mod Closing
 pub mod Freeing
+pub mod GrantedRequests
 pub mod GuardPages
 pub mod HeapLeases
 mod Imports

@@ -1,13 +1,14 @@
 -- A pool as it is made.
-use Rattle.std.specs.Prelude.{◌≡◌, ◌⊎◌, ℕ, ◌+◌, ◌*◌, ◌<◌, List, Bool, true, Option, Some, None, ◌^◌}
-use Rattle.pool_alloc.specs.Imports.{count, rounded_up, MakerTold, Planned, slab_stripes, Told, Rose, BadConfig, PoolingAllocationConfig, Tunables, LinearMemory, Offered, AreMadeTo, lists_some_making, fails_some_slot, SomeGivenUp, places_planned, divided, IsStripedPlanOf, PartSettings, OfKinds, StripedPlanSettings, PoolNewError}
+use Rattle.std.specs.Prelude.{◌≡◌, ◌⊎◌, ℕ, ◌+◌, ◌*◌, ◌<◌, ◌&&◌, List, Bool, true, Option, Some, None, ◌^◌}
+use Rattle.pool_alloc.specs.Imports.{count, may_use, rounded_up, MakerTold, Planned, slab_stripes, Told, Rose, BadConfig, PoolingAllocationConfig, Tunables, LinearMemory, Offered, AreMadeTo, lists_some_making, fails_some_slot, SomeGivenUp, places_planned, divided, IsStripedPlanOf, PartSettings, OfKinds, StripedPlanSettings, PoolNewError}
 use Rattle.pool_slots.specs.declared.errors.PoolNewError.TheVariants as refused
 use Rattle.pool_alloc.specs.BetweenSteps.{queue_room}
 use Rattle.pool_alloc.specs.Calls.{lists_made}
 use Rattle.pool_alloc.specs.declared.pool_core.PoolCore.{PoolCore}
 use Rattle.pool_alloc.specs.declared.pool_core.Settings.{Settings}
 
--- What a pool keeps of its configuration: sizes of memories are rounded up to pages, and the size of an instance's state to 16 bytes.
+-- What a pool keeps of its configuration: sizes of memories are rounded up to pages, and the size of an instance's state to 16
+-- bytes. Its resets go by dirty marks where these are offered and not refused.
 abbrev pub settings_of : ℕ → PoolingAllocationConfig → Tunables → Offered → Settings
 settings_of page config tunables offered = record {
   page = page;
@@ -15,6 +16,7 @@ settings_of page config tunables offered = record {
   num_stripes = slab_stripes config tunables page offered;
   max_memory_size = rounded_up page config.limits.max_memory_size;
   keep_resident = count page (rounded_up page config.linear_memory_keep_resident);
+  dirty_pages = may_use config.pagemap_scan && offered.dirty_pages;
   batch = config.decommit_batch_size;
   max_core_instances = config.limits.total_core_instances;
   max_component_instances = config.limits.total_component_instances;

@@ -1,6 +1,6 @@
 -- What a party does by itself with what it has taken.
 use Rattle.std.specs.Prelude.{ℕ, List, ◌++◌, map, Bool, true, false, Option, Some, None, Result, Ok, Err, slice_get}
-use Rattle.pool_alloc.specs.Imports.{count, Told, MemoryDecl, MemoryType, Unsupported, Slot, kept_bytes, left_ranges, reset_slot, LimiterError, MemoryState, Static, made_static, limits_answer, fixed_in, MemoryError, stripe_colour, Queue, Queued, with_slot, QueuedRange, HeapMakeFault, AllocError}
+use Rattle.pool_alloc.specs.Imports.{count, Told, MemoryDecl, MemoryType, Unsupported, Slot, given_marks, kept_by, left_by, reset_by, LimiterError, MemoryState, Static, made_static, limits_answer, fixed_in, MemoryError, stripe_colour, Queue, Queued, with_slot, QueuedRange, HeapMakeFault, AllocError}
 use Rattle.pool_memory.specs.declared.memory_error.MemoryError.TheVariants as unmade
 use Rattle.pool_slots.specs.declared.queued_range.QueueKind.TheVariants as queued
 use Rattle.pool_slots.specs.declared.heap_maker.HeapMakeFault.TheVariants as no_heap
@@ -21,24 +21,25 @@ image_made s i region = record {
   colour = stripe_colour s.num_stripes i;
 }
 
--- the slot of a memory that has ended, once it was reset so that as many of its bytes as are wanted stay resident
-abbrev pub slot_ended : ℕ → TakenSlot → Slot → Queued
-slot_ended keep at slot = record {
+-- the slot of a memory that has ended, once it was reset, by its dirty marks where they are offered, so that as many of its bytes
+-- as are wanted stay resident
+abbrev pub slot_ended : Bool → ℕ → TakenSlot → Slot → Queued
+slot_ended offered keep at slot = record {
   name = memory_slot at.name.slot;
-  slot = reset_slot slot.region.behaviour keep slot;
+  slot = reset_by (given_marks offered slot) slot.region.behaviour keep slot;
   known = true;
-  bytes = kept_bytes slot.region.behaviour keep slot.accessible.bytes;
+  bytes = kept_by (given_marks offered slot) slot.region.behaviour keep slot;
   by_hand = None;
   numbers = at.numbers;
 }
 
 -- what is to be decommitted of it then
-abbrev pub reset_listed : ℕ → ℕ → Slot → List QueuedRange
-reset_listed keep index slot = map (λ r. record { kind = queued.Memory; slot = record { 0 = index }; range = r }) (left_ranges slot.region.behaviour keep slot.accessible.bytes)
+abbrev pub reset_listed : Bool → ℕ → ℕ → Slot → List QueuedRange
+reset_listed offered keep index slot = map (λ r. record { kind = queued.Memory; slot = record { 0 = index }; range = r }) (left_by (given_marks offered slot) slot.region.behaviour keep slot)
 
 -- the local queue with these ranges and that slot
-abbrev pub reset_into : ℕ → TakenSlot → Slot → Queue → Queue
-reset_into keep at slot q = with_slot (slot_ended keep at slot) (record q { ranges = q.ranges ++ reset_listed keep at.name.slot slot })
+abbrev pub reset_into : Bool → ℕ → TakenSlot → Slot → Queue → Queue
+reset_into offered keep at slot q = with_slot (slot_ended offered keep at slot) (record q { ranges = q.ranges ++ reset_listed offered keep at.name.slot slot })
 
 -- why a memory isn't made, as the refusal of an allocation
 abbrev pub refusal_of : MemoryError → AllocError

@@ -1,6 +1,6 @@
 -- What a step may be told: how its page calls on what the party holds end, and what they leave.
 use Rattle.std.specs.Prelude.{◌≡◌, ◌⊎◌, ℕ, List, [], ◌∷◌, Bool, true, false, not, Option, IfSome, option_map, Result}
-use Rattle.pool_alloc.specs.Imports.{rounded_up, minimum_byte_size, MemoryDecl, Zero, Image, Follows, resizing, replacing, wiping, resetting, set_by_hand, removing, Slot, IsClean, IsLeft, IsBegun, IsSized, HasImage, wiped, reused, replaced, name_of, hides, CallFaulted, called, without_image, memory_answer, Exchange, may_grow, LimiterTold, after_answer, HeapsTold, LimiterError, minimum_asked, maximum_asked, minimum_question, CanHold, Queue, LeavesClean, after_run, first_slot, IsFaulted, run_of, AreInOrder, slot_of, making_question, decommitting, ImageSlot, Unmapped, Unknown, PreviouslyUsed, Taken}
+use Rattle.pool_alloc.specs.Imports.{rounded_up, minimum_byte_size, MemoryDecl, Zero, Image, Follows, resizing, replacing, wiping, resetting, told_by_hand, given_marks, TellsMarks, removing, Slot, IsClean, IsLeft, IsBegun, IsSized, HasImage, wiped, reused, replaced, name_of, hides, CallFaulted, called, without_image, memory_answer, Exchange, may_grow, LimiterTold, after_answer, HeapsTold, LimiterError, minimum_asked, maximum_asked, minimum_question, CanHold, Queue, LeavesClean, after_run, first_slot, IsFaulted, run_of, AreInOrder, slot_of, making_question, decommitting, ImageSlot, Unmapped, Unknown, PreviouslyUsed, Taken}
 use Rattle.pool_alloc.specs.PartyTold.{MakesHeap}
 use Rattle.pool_alloc.specs.TableSteps.{AsksForTable}
 use Rattle.pool_alloc.specs.Modules.{IfAllocated, IfTable}
@@ -12,7 +12,7 @@ use Rattle.pool_alloc.specs.declared.pool_core.Settings.{Settings}
 use Rattle.pool_alloc.specs.declared.frame.Frame.{Frame}
 use Rattle.pool_alloc.specs.declared.frame.Phase.{Phase}
 use Rattle.pool_alloc.specs.declared.frame.Object.{Object}
-use Rattle.pool_alloc.specs.declared.frame.Object.TheVariants.{Memory}
+use Rattle.pool_alloc.specs.declared.frame.Object.TheVariants.{Memory, Table}
 use Rattle.pool_alloc.specs.declared.frame.TakenSlot.{TakenSlot}
 use Rattle.pool_alloc.specs.declared.frame.Phase.TheVariants.{Empty, Instantiate, MakeMemory, MakeTable, MakeHeap, Reset, Flush, Purge, Release}
 use Rattle.pool_alloc.specs.declared.purge.PurgeStep.{PurgeStep}
@@ -27,9 +27,9 @@ Empties false old new = (new ≡ wiped old) × IsClean new
 
 -- A slot that was in use is reset, and is clean once what that leaves is decommitted, or a call on its region failed. None
 -- does where pages go back to a mapped image.
-abbrev pub Resets : Bool → ℕ → TakenSlot → Slot → Slot → Type 0
-Resets true keep at old new = (old.region.behaviour ≡ Zero) × IsLeft old new
-Resets false keep at old new = (new ≡ (slot_ended keep at old).slot) × LeavesClean (reset_listed keep at.name.slot old) (slot_ended keep at old)
+abbrev pub Resets : Bool → Bool → ℕ → TakenSlot → Slot → Slot → Type 0
+Resets true offered keep at old new = (old.region.behaviour ≡ Zero) × IsLeft old new
+Resets false offered keep at old new = (new ≡ (slot_ended offered keep at old).slot) × LeavesClean (reset_listed offered keep at.name.slot old) (slot_ended offered keep at old)
 
 -- What is so of an instantiation where the slot has the wanted image already, or what where it hasn't. Where its pages
 -- aren't told it is one of both.
@@ -79,8 +79,8 @@ abbrev pub FollowsPlanFor : Settings → MemoryDecl → Bool → Option Image �
 FollowsPlanFor s decl fault image old new = FollowsPlan (minimum_byte_size decl.ty) (hides decl.ty s.tunables old.region.page) image fault old new
 
 -- The page calls of a memory's reset, in their order and as the region's plan ends them.
-abbrev pub FollowsReset : ℕ → Bool → Slot → Slot → Type 0
-FollowsReset keep fault old new = Follows (resetting old.region.behaviour old) (not fault) (set_by_hand old.region.behaviour keep old) new.region
+abbrev pub FollowsReset : Bool → ℕ → Bool → Slot → Slot → Type 0
+FollowsReset offered keep fault old new = Follows (resetting old.region.behaviour old) (not fault) (told_by_hand (given_marks offered old) old.region.behaviour keep old) new.region
 
 -- The decommits of the next ranges of one slot, in their order and as the region's plan ends them.
 abbrev pub FollowsRun : Bool → Queue → Queue → Type 0
@@ -157,14 +157,16 @@ module _ {P H : Type 0} where
   ReleasePlanned s g (releasing_step.Decommit r k at held) = FollowsDrain s g.fault held g.slot
   ReleasePlanned s g _ = Unit {0}
 
-  -- What the reset of an object may be told: how the page calls of a memory's reset ended.
+  -- What the reset of an object may be told: how the page calls of a memory's reset ended, and of a table's region the dirty
+  -- marks.
   abbrev pub ResetTold : Settings → StepGiven H → Object P → Type 0
-  ResetTold s g (Memory lease) = Resets g.fault s.keep_resident.bytes (slot_taken lease) (slot_of lease.memory) g.slot
+  ResetTold s g (Memory lease) = Resets g.fault s.dirty_pages s.keep_resident.bytes (slot_taken lease) (slot_of lease.memory) g.slot
+  ResetTold s g (Table lease) = IfSome lease.table.region TellsMarks
   ResetTold s g _ = Unit {0}
 
   -- The page calls of the reset of an object, which only a memory's makes.
   abbrev pub ResetPlanned : Settings → StepGiven H → Object P → Type 0
-  ResetPlanned s g (Memory lease) = FollowsReset s.keep_resident.bytes g.fault (slot_of lease.memory) g.slot
+  ResetPlanned s g (Memory lease) = FollowsReset s.dirty_pages s.keep_resident.bytes g.fault (slot_of lease.memory) g.slot
   ResetPlanned s g _ = Unit {0}
 
   -- the given answers may come in this phase

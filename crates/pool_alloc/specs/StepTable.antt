@@ -371,10 +371,10 @@ module _ {P H : Type 0} where
   abbrev pub was_reset : Bool → Slot → Lease → PoolCore P H → Frame P H → Row (PoolCore P H) P H
   was_reset true held lease c f = record { part = c; frame = f; turn = goes (PutBack (slot_taken lease) (Unknown (forgotten held))) }
   was_reset false held lease c f =
-      let local : Queue = reset_into c.settings.keep_resident.bytes (slot_taken lease) (slot_of lease.memory) f.local in
+      let local : Queue = reset_into c.settings.dirty_pages c.settings.keep_resident.bytes (slot_taken lease) (slot_of lease.memory) f.local in
       record { part = c; frame = record f { local = local }; turn = reset_turn c.settings.batch local }
 
-  -- A table is reset by hand and queued with the range that it leaves.
+  -- A table is reset by hand and queued with the ranges that it leaves.
   abbrev pub table_reset_row : LeasedTable → PoolCore P H → Frame P H → Row (PoolCore P H) P H
   table_reset_row lease c f =
       let local : Queue = table_reset_into c.settings lease f.local in

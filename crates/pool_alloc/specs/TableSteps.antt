@@ -1,6 +1,6 @@
 -- What the steps of a table do that change no part of the pool: a table is made, and reset.
-use Rattle.std.specs.Prelude.{◌≡◌, ℕ, ◌*◌, ◌<◌, ◌≤◌, ◌^◌, length, min, nat_lt, replicate, if◌then◌else◌, Bool, false, true, Option, Some, None, option_map, Result, Ok, Err, List, [], ◌∷◌, slice_get}
-use Rattle.pool_alloc.specs.Imports.{rounded_up, Told, TableType, TableSize, table_answer, LimiterTold, after_answer, LimiterError, IsPlain, IsUnusedFrom, bottom_reset, above_bottom, Queue, Queued, HasOwners, holds, plain_slot, with_slot, with_ranges, SlotName, RegionNumbers, AllocError, data_size, width, empty, Exchange, Exchanged, may_grow, kind_of, room_of, new_table, making_question, type_maximum, in_region, TableError}
+use Rattle.std.specs.Prelude.{◌≡◌, ℕ, ◌*◌, ◌<◌, ◌≤◌, ◌+◌, ◌^◌, length, nat_lt, replicate, if◌then◌else◌, Bool, false, true, Option, Some, None, option_map, Result, Ok, Err, List, [], ◌∷◌, slice_get}
+use Rattle.pool_alloc.specs.Imports.{rounded_up, Told, TableType, TableSize, table_answer, LimiterTold, after_answer, LimiterError, IsPlain, IsUnusedFrom, used_kept, used_left, used_marks, used_reset, Queue, Queued, HasOwners, holds, plain_slot, with_slot, with_ranges, SlotName, RegionNumbers, AllocError, data_size, width, empty, Exchange, Exchanged, may_grow, kind_of, room_of, new_table, making_question, type_maximum, in_region, TableError}
 use Rattle.pool_slots.specs.declared.queued_range.QueueKind.TheVariants as queued
 use Rattle.pool_slots.specs.declared.errors.AllocError.TheVariants as alloc
 use Rattle.pool_table.specs.declared.table_error.TableError.TheVariants as unmade
@@ -21,37 +21,41 @@ pub record IsInRegion (page : ℕ) (l : LeasedTable) (region : Told) : Type 0 wh
   pub within : bytes_used page l ≤ region.len
   pub unused : IsUnusedFrom (bytes_used page l) (plain_slot 0 region)
 
--- the queue has room for one slot more and a range of it, and doesn't hold this one
+-- the queue has room for one slot more and the ranges that its reset may leave, and doesn't hold this one
 pub record CanQueue (name : SlotName) (q : Queue) : Type 0 where
-  pub ranges : length q.ranges < q.range_room
+  pub ranges : length q.ranges + 8 ≤ q.range_room
   pub slots : length q.slots < q.slot_room
   pub owners : HasOwners q
   pub not_held : holds name q.slots ≡ false
 
+-- the dirty marks that its reset is given
+abbrev pub table_marks : Bool → ℕ → LeasedTable → Told → Option (List Bool)
+table_marks offered page l region = used_marks offered (bytes_used page l) (plain_slot 0 region)
+
 -- The table's slot once it is reset: so many of the bytes that it used are zeroed at once, and are resident. Where a
 -- decommit of the others fails, all of them are zeroed by hand.
-abbrev pub table_queued : ℕ → ℕ → LeasedTable → Told → Queued
-table_queued page keep l region = record {
+abbrev pub table_queued : Bool → ℕ → ℕ → LeasedTable → Told → Queued
+table_queued offered page keep l region = record {
   name = table_slot l.index;
-  slot = bottom_reset keep (bytes_used page l) (plain_slot 0 region);
+  slot = used_reset (table_marks offered page l region) keep (bytes_used page l) (plain_slot 0 region);
   known = true;
-  bytes = min keep (bytes_used page l);
+  bytes = used_kept (table_marks offered page l region) keep (bytes_used page l) (plain_slot 0 region);
   by_hand = Some (bytes_used page l);
   numbers = l.numbers;
 }
 
 -- a table is reset into a queue
-abbrev pub table_reset : ℕ → ℕ → LeasedTable → Told → Queue → Queue
-table_reset page keep l region q = with_slot (table_queued page keep l region) (with_ranges queued.Table l.index (above_bottom keep (bytes_used page l)) q)
+abbrev pub table_reset : Bool → ℕ → ℕ → LeasedTable → Told → Queue → Queue
+table_reset offered page keep l region q = with_slot (table_queued offered page keep l region) (with_ranges queued.Table l.index (used_left (table_marks offered page l region) keep (bytes_used page l) (plain_slot 0 region)) q)
 
 -- The local queue once a table that lies in a region was reset into it.
-abbrev pub reset_in : ℕ → ℕ → LeasedTable → Option Told → Queue → Queue
-reset_in page keep l None q = q
-reset_in page keep l (Some region) q = table_reset page keep l region q
+abbrev pub reset_in : Bool → ℕ → ℕ → LeasedTable → Option Told → Queue → Queue
+reset_in offered page keep l None q = q
+reset_in offered page keep l (Some region) q = table_reset offered page keep l region q
 
 -- The local queue once a table was reset into it.
 abbrev pub table_reset_into : Settings → LeasedTable → Queue → Queue
-table_reset_into s l q = reset_in s.page s.table_keep_resident.bytes l l.table.region q
+table_reset_into s l q = reset_in s.dirty_pages s.page s.table_keep_resident.bytes l l.table.region q
 
 -- what comes of a table's minimum where the limiter answered so: then it must fit the slot
 abbrev pub table_refused : Result Bool LimiterError → ℕ → ℕ → Option AllocError

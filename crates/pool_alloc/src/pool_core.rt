@@ -38,6 +38,8 @@ pub struct Settings {
     pub max_memory_size: usize,
     /// How many bytes of a memory a reset keeps resident.
     pub keep_resident: HostAlignedByteCount,
+    /// Whether resets go by the dirty marks of pages.
+    pub dirty_pages: bool,
     /// At how many ranges a queue is flushed.
     pub batch: usize,
     pub max_core_instances: u64,

@@ -1,5 +1,6 @@
 //! An object that is given back is reset into the local queue.
-ghost use Rattle.std.specs.Prelude.{◌≡◌, ◌^◌, ◌<◌, ◌≤◌, [], Bool, true, None};
+ghost use Rattle.std.specs.Prelude.{◌≡◌, ◌^◌, ◌<◌, ◌≤◌, [], Bool, true, None, IfSome};
+ghost use Rattle.pool_pages.specs.Told.{TellsMarks};
 ghost use Rattle.pool_images.specs.Slots.{Slot};
 ghost use Rattle.pool_memory.specs.Memories.{slot_of};
 ghost use Rattle.pool_alloc.specs.CanStep.{CanReset, CanResetObject, CanResetStack, CanResetTable};
@@ -52,10 +53,12 @@ fn reset_table<P: Pages, H: GcHeap>(
 )
     requires can { CanResetTable settings.now lease frame.old.local }
     requires unanswered { outcome.old ≡ None }
-    ensures { (c : PoolCore P H) → ◌≡◌ {A = After P H} (record { core = under settings.now c.plan c; frame = frame.new; outcome = outcome.new }) (stepped (table_reset_row lease (under settings.now c.plan c) frame.old)) }
+    ensures marks { IfSome lease.table.region TellsMarks }
+    ensures row { (c : PoolCore P H) → ◌≡◌ {A = After P H} (record { core = under settings.now c.plan c; frame = frame.new; outcome = outcome.new }) (stepped (table_reset_row lease (under settings.now c.plan c) frame.old)) }
 {
     let keep = settings.table_keep_resident;
-    table_pool::reset_table(settings.page, keep, lease, &mut frame.local);
+    let dirty = settings.dirty_pages;
+    table_pool::reset_table(settings.page, dirty, keep, lease, &mut frame.local);
     was_reset(alloc, settings.batch, frame, outcome)
 }
 
@@ -87,17 +90,18 @@ fn reset_memory<P: Pages, H: GcHeap>(
 )
     requires can { CanReset settings.now (slot_of lease.memory) frame.old.local }
     requires unanswered { outcome.old ≡ None }
-    ensures { (fault : Bool) × (after : Slot) × Resets fault settings.now.keep_resident.bytes (slot_taken lease) (slot_of lease.memory) after × FollowsReset settings.now.keep_resident.bytes fault (slot_of lease.memory) after × ((c : PoolCore P H) → ◌≡◌ {A = After P H} (record { core = under settings.now c.plan c; frame = frame.new; outcome = outcome.new }) (stepped (was_reset fault after lease (under settings.now c.plan c) frame.old))) }
+    ensures { (fault : Bool) × (after : Slot) × Resets fault settings.now.dirty_pages settings.now.keep_resident.bytes (slot_taken lease) (slot_of lease.memory) after × FollowsReset settings.now.dirty_pages settings.now.keep_resident.bytes fault (slot_of lease.memory) after × ((c : PoolCore P H) → ◌≡◌ {A = After P H} (record { core = under settings.now c.plan c; frame = frame.new; outcome = outcome.new }) (stepped (was_reset fault after lease (under settings.now c.plan c) frame.old))) }
 {
     let at = slot_taken(&lease);
     let mut slot = lease.memory.unwrap_static_image();
     let mut ranges = Ranges::new();
     let keep = settings.keep_resident;
-    let Ok(kept) = slot.clear_and_remain_ready(false, keep, &mut ranges) else {
+    let Ok(kept) = slot.clear_and_remain_ready(settings.dirty_pages, keep, &mut ranges) else {
         slot.forget();
         return frame.go(Phase::PutBack(at, ImageSlot::Unknown(slot)));
     };
     let item = memory_queued(at, slot, kept);
+    let _few = ranges.len();
     let listed = ranges.as_slice();
     frame.local.push_reset(QueueKind::Memory, item, listed);
     was_reset(alloc, settings.batch, frame, outcome)

@@ -1,6 +1,6 @@
 //! The pool of tables: a table is made in its region, and reset.
 ghost use Rattle.std.specs.Prelude.{◌≡◌, ◌≤◌, Bool, Result, IfSome, [], ◌∷◌, length, None};
-ghost use Rattle.pool_pages.specs.Told.{Told};
+ghost use Rattle.pool_pages.specs.Told.{TellsMarks, Told};
 ghost use Rattle.pool_limits.specs.Exchanges.{may_grow, Exchanged};
 ghost use Rattle.pool_limits.specs.declared.errors.LimiterError.{LimiterError};
 ghost use Rattle.pool_table.specs.Making.{making_question, room_of};
@@ -108,6 +108,7 @@ fn table_made<P: Pages, H: GcHeap>(frame: &mut Frame<P, H>, at: TakenSlot, makin
 // Resets a table into a queue.
 pub(crate) fn reset_table<P: Pages>(
     page: PageSize,
+    dirty_pages: bool,
     keep_resident: HostAlignedByteCount,
     lease: TableLease<P>,
     local: &mut DecommitQueue<P>,
@@ -115,7 +116,8 @@ pub(crate) fn reset_table<P: Pages>(
     requires keep { keep_resident.page ≡ page }
     requires region { (region : Told) × IsInRegion page lease region }
     requires room { CanQueue (table_slot lease.index) local.old }
-    ensures { (region : Told) × IsInRegion page lease region × (local.new ≡ table_reset page keep_resident.bytes lease region local.old) }
+    ensures marks { IfSome lease.table.region TellsMarks }
+    ensures reset { (region : Told) × IsInRegion page lease region × (local.new ≡ table_reset dirty_pages page keep_resident.bytes lease region local.old) }
 {
     let slot = lease.index.0;
     let numbers = lease.numbers;
@@ -123,8 +125,9 @@ pub(crate) fn reset_table<P: Pages>(
     let used = HostAlignedByteCount::rounded_up_unchecked(page, bytes);
     let mut plain = PlainSlot::new(lease.table.into_region(), page.zero());
     let mut ranges = Ranges::new();
-    let kept = plain.reset_used(used, keep_resident, &mut ranges);
+    let kept = plain.reset_pages(dirty_pages, used, keep_resident, &mut ranges);
     let _size = plain.len();
+    let _few = ranges.len();
     let (region, base) = plain.into_parts();
     let item = QueuedSlot {
         slot,

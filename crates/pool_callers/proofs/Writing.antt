@@ -60,7 +60,7 @@ module _ (a : About) where
       let m : MemoryState = memory_written at bytes l.memory in
       let one : IsOneSlot (slot_of l.memory) (slot_of m) = one_written at bytes l.memory.linear.storage in
       subst (λ (x : Lease). IsLeaseOf a.maker a.settings a.plan x) (sym is)
-      (record { inside = of.inside; slot = slot_of_one a.maker a.settings l.index (slot_of l.memory) (slot_of m) one of.slot; memory = subst (λ (x : Lease). IsUsable x.memory) is usable })
+      (record { inside = of.inside; slot = slot_of_one a.maker a.settings l.index (slot_of l.memory) (slot_of m) one of.slot; memory = subst (λ (x : Lease). IsUsable x.memory) is usable; room = of.room })
   lease_of at bytes l new usable (inr is) of = subst (λ (x : Lease). IsLeaseOf a.maker a.settings a.plan x) (sym is) of
 
 lease_keeps : (at : ℕ) (bytes : List ℕ) (l new : Lease) → Written at bytes l new → LeaseKeeps l → LeaseKeeps new

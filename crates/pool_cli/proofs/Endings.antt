@@ -5,17 +5,17 @@ use Rattle.pool_pages.specs.Told.{Told}
 use Rattle.pool_types.specs.declared.bad_config.BadConfig.{BadConfig}
 use Rattle.pool_run.specs.declared.output.RunFault.{RunFault}
 use Rattle.pool_run.specs.declared.output.RunFault.TheVariants as fault
-use Rattle.pool_forms.specs.Reading.{Reading, not_built, invalid, accepted}
+use Rattle.pool_forms.specs.Reading.{Reading, invalid, accepted}
 use Rattle.pool_cli.specs.Lines.{line_of, status_of_failure}
 use Rattle.pool_cli.specs.Stages.{Ends, IsRunFailure, Refuses, WritesText}
-use Rattle.pool_cli.specs.Statuses.{Format, run_format, shared_format, HasRead, HasDone, HasReadInvalid, HasBadConfig, HasFaulted, BreaksRule, AsksForMore, Fails, FollowsBytes, IsHindrance, IsLoadStatus, runs, status_of, status_of_limits}
+use Rattle.pool_cli.specs.Statuses.{Format, run_format, shared_format, HasRead, HasDone, HasReadInvalid, HasBadConfig, HasFaulted, BreaksRule, Fails, FollowsBytes, IsHindrance, IsLoadStatus, runs, status_of, status_of_limits}
 use Rattle.pool_forms.specs.Streams.{SourceTold, SinkTold, Wrote, most_input}
 use Rattle.pool_cli.specs.declared.failure.Failure.{Failure}
 use Rattle.pool_cli.specs.declared.failure.Failure.TheVariants as failure
 use Rattle.pool_cli.specs.declared.status.Status.{Status}
 use Rattle.pool_cli.specs.declared.status.Status.TheVariants.{Ok as Success, BadUsage, BadInput, BadConfig as BadSettings, PageFault, ReadFault, WriteFault, NoMemory, TooLong, NotBuilt}
 use Rattle.pool_cli.specs.declared.words.Task.{Task}
-use Rattle.pool_cli.specs.declared.words.Task.TheVariants.{Run, RunOnDemand, Shared, Load, Unknown}
+use Rattle.pool_cli.specs.declared.words.Task.TheVariants.{Run, RunOnDemand, Shared, Load, Later, Unknown}
 
 -- settings that are refused are the cause of a failure of a task that runs an input
 refused_fails : (faulted : Type 0) (task : Task) (error : BadConfig) (cause : Failure) (so sn : SourceTold) → runs task ≡ true → HasBadConfig task error so sn → Refuses error cause → Fails faulted task cause so sn
@@ -123,39 +123,39 @@ record HasDoneOne {X : Type 0} (f : Format X) (so sn : SourceTold) : Type 0 wher
   limits : f.broken input ≡ None
 
 -- the bytes lead to the status, or something stands in the way
-task_follows : {X : Type 0} (f : Format X) {P : Type 0} (told : P → Told) (task : Task) (status : Status) (so sn : SourceTold) (ko kn : SinkTold) (mo mn : MakerTold) (rest : List ℕ) → (task ≡ Unknown → ⊥) → ((text : List ℕ) → HasDone P task text so sn mo mn → HasDoneOne f so sn) → (HasReadInvalid task so sn → HasRead f invalid so sn) → ((e : BadConfig) → HasBadConfig task e so sn → BreaksRule f e so sn) → (AsksForMore task so sn → HasRead f not_built so sn) → so.rest ≡ Some rest → Ends told task status so sn ko kn mo mn → FollowsBytes f status rest
-task_follows f told task Success so sn ko kn mo mn rest known done bad broken more is ends =
+task_follows : {X : Type 0} (f : Format X) {P : Type 0} (told : P → Told) (task : Task) (status : Status) (so sn : SourceTold) (ko kn : SinkTold) (mo mn : MakerTold) (rest : List ℕ) → (task ≡ Unknown → ⊥) → ((text : List ℕ) → HasDone P task text so sn mo mn → HasDoneOne f so sn) → (HasReadInvalid task so sn → HasRead f invalid so sn) → ((e : BadConfig) → HasBadConfig task e so sn → BreaksRule f e so sn) → (task ≡ Later → ⊥) → so.rest ≡ Some rest → Ends told task status so sn ko kn mo mn → FollowsBytes f status rest
+task_follows f told task Success so sn ko kn mo mn rest known done bad broken later is ends =
     let one = done ends.text ends.run in
     read_follows f (accepted one.input) Success so sn rest is one.read (limits_of f one.input None Success one.limits refl)
-task_follows f told task BadUsage so sn ko kn mo mn rest known done bad broken more is ends = absurd (known ends.0.0)
-task_follows f told task BadInput so sn ko kn mo mn rest known done bad broken more is ends = read_follows f invalid BadInput so sn rest is (bad ends.0) refl
-task_follows f told task BadSettings so sn ko kn mo mn rest known done bad broken more is ends =
+task_follows f told task BadUsage so sn ko kn mo mn rest known done bad broken later is ends = absurd (known ends.0.0)
+task_follows f told task BadInput so sn ko kn mo mn rest known done bad broken later is ends = read_follows f invalid BadInput so sn rest is (bad ends.0) refl
+task_follows f told task BadSettings so sn ko kn mo mn rest known done bad broken later is ends =
     let rule = broken ends.error ends.refused in
     read_follows f (accepted rule.input) BadSettings so sn rest is rule.read (limits_of f rule.input (Some ends.error) BadSettings rule.broken refl)
-task_follows f told task PageFault so sn ko kn mo mn rest known done bad broken more is ends = hindered f PageFault rest (inr (inr (inl refl)))
-task_follows f told task ReadFault so sn ko kn mo mn rest known done bad broken more is ends = hindered f ReadFault rest (inl refl)
-task_follows f told task WriteFault so sn ko kn mo mn rest known done bad broken more is ends = hindered f WriteFault rest (inr (inl refl))
-task_follows f told task NoMemory so sn ko kn mo mn rest known done bad broken more is ends = hindered f NoMemory rest (inr (inr (inr refl)))
-task_follows f told task TooLong so sn ko kn mo mn rest known done bad broken more is ends = too_long f so rest is ends.0.1.more
-task_follows f told task NotBuilt so sn ko kn mo mn rest known done bad broken more is ends = read_follows f not_built NotBuilt so sn rest is (more ends.0) refl
+task_follows f told task PageFault so sn ko kn mo mn rest known done bad broken later is ends = hindered f PageFault rest (inr (inr (inl refl)))
+task_follows f told task ReadFault so sn ko kn mo mn rest known done bad broken later is ends = hindered f ReadFault rest (inl refl)
+task_follows f told task WriteFault so sn ko kn mo mn rest known done bad broken later is ends = hindered f WriteFault rest (inr (inl refl))
+task_follows f told task NoMemory so sn ko kn mo mn rest known done bad broken later is ends = hindered f NoMemory rest (inr (inr (inr refl)))
+task_follows f told task TooLong so sn ko kn mo mn rest known done bad broken later is ends = too_long f so rest is ends.0.1.more
+task_follows f told task NotBuilt so sn ko kn mo mn rest known done bad broken later is ends = absurd (later ends.0.0)
 
 -- the same of what the words ask for, once they are known
-asked_follows : {X : Type 0} (f : Format X) {P : Type 0} (told : P → Told) (asked task : Task) (status : Status) (so sn : SourceTold) (ko kn : SinkTold) (mo mn : MakerTold) → (asked ≡ Unknown → ⊥) → ((text : List ℕ) → HasDone P asked text so sn mo mn → HasDoneOne f so sn) → (HasReadInvalid asked so sn → HasRead f invalid so sn) → ((e : BadConfig) → HasBadConfig asked e so sn → BreaksRule f e so sn) → (AsksForMore asked so sn → HasRead f not_built so sn) → Ends told task status so sn ko kn mo mn → task ≡ asked → IfSome so.rest (FollowsBytes f status)
-asked_follows f told asked task status so sn ko kn mo mn known done bad broken more ends is =
+asked_follows : {X : Type 0} (f : Format X) {P : Type 0} (told : P → Told) (asked task : Task) (status : Status) (so sn : SourceTold) (ko kn : SinkTold) (mo mn : MakerTold) → (asked ≡ Unknown → ⊥) → ((text : List ℕ) → HasDone P asked text so sn mo mn → HasDoneOne f so sn) → (HasReadInvalid asked so sn → HasRead f invalid so sn) → ((e : BadConfig) → HasBadConfig asked e so sn → BreaksRule f e so sn) → (asked ≡ Later → ⊥) → Ends told task status so sn ko kn mo mn → task ≡ asked → IfSome so.rest (FollowsBytes f status)
+asked_follows f told asked task status so sn ko kn mo mn known done bad broken later ends is =
     let E : Task → Type 0 = λ t. Ends told t status so sn ko kn mo mn in
-    some_of so.rest (FollowsBytes f status) (λ rest left. task_follows f told asked status so sn ko kn mo mn rest known done bad broken more left (subst E is ends))
+    some_of so.rest (FollowsBytes f status) (λ rest left. task_follows f told asked status so sn ko kn mo mn rest known done bad broken later left (subst E is ends))
 
 pub follows_run : {P : Type 0} (told : P → Told) (task : Task) (status : Status) (so sn : SourceTold) (ko kn : SinkTold) (mo mn : MakerTold) → Ends told task status so sn ko kn mo mn → task ≡ Run → IfSome so.rest (FollowsBytes run_format status)
 follows_run told task status so sn ko kn mo mn ends is =
-    asked_follows run_format told Run task status so sn ko kn mo mn (λ x. cc) (λ text done. record { input = done.input; read = done.read; limits = done.limits }) (λ h. h) (λ e h. h) (λ h. h) ends is
+    asked_follows run_format told Run task status so sn ko kn mo mn (λ x. cc) (λ text done. record { input = done.input; read = done.read; limits = done.limits }) (λ h. h) (λ e h. h) (λ x. cc) ends is
 
 pub follows_on_demand : {P : Type 0} (told : P → Told) (task : Task) (status : Status) (so sn : SourceTold) (ko kn : SinkTold) (mo mn : MakerTold) → Ends told task status so sn ko kn mo mn → task ≡ RunOnDemand → IfSome so.rest (FollowsBytes run_format status)
 follows_on_demand told task status so sn ko kn mo mn ends is =
-    asked_follows run_format told RunOnDemand task status so sn ko kn mo mn (λ x. cc) (λ text done. record { input = done.input; read = done.read; limits = done.limits }) (λ h. h) (λ e h. h) (λ h. h) ends is
+    asked_follows run_format told RunOnDemand task status so sn ko kn mo mn (λ x. cc) (λ text done. record { input = done.input; read = done.read; limits = done.limits }) (λ h. h) (λ e h. h) (λ x. cc) ends is
 
 pub follows_shared : {P : Type 0} (told : P → Told) (task : Task) (status : Status) (so sn : SourceTold) (ko kn : SinkTold) (mo mn : MakerTold) → Ends told task status so sn ko kn mo mn → task ≡ Shared → IfSome so.rest (FollowsBytes shared_format status)
 follows_shared told task status so sn ko kn mo mn ends is =
-    asked_follows shared_format told Shared task status so sn ko kn mo mn (λ x. cc) (λ text done. record { input = done.input; read = done.read; limits = done.page }) (λ h. h) (λ e h. h) (λ h. h) ends is
+    asked_follows shared_format told Shared task status so sn ko kn mo mn (λ x. cc) (λ text done. record { input = done.input; read = done.read; limits = done.page }) (λ h. h) (λ e h. h) (λ x. cc) ends is
 
 -- a load ends well, unless a write or a making fails, or memory runs out
 load_status : {P : Type 0} (told : P → Told) (seed : ℕ) (status : Status) (so sn : SourceTold) (ko kn : SinkTold) (mo mn : MakerTold) → Ends told (Load seed) status so sn ko kn mo mn → IsLoadStatus status
@@ -168,7 +168,7 @@ load_status told seed ReadFault so sn ko kn mo mn ends = absurd (let is : false 
 load_status told seed WriteFault so sn ko kn mo mn ends = inr (inl refl)
 load_status told seed NoMemory so sn ko kn mo mn ends = inr (inr (inr refl))
 load_status told seed TooLong so sn ko kn mo mn ends = absurd (let is : false ≡ true = ends.0.0 in cc)
-load_status told seed NotBuilt so sn ko kn mo mn ends = absurd ends.0
+load_status told seed NotBuilt so sn ko kn mo mn ends = absurd (let is : Load seed ≡ Later = ends.0.0 in cc)
 
 pub ends_load : {P : Type 0} (told : P → Told) (task : Task) (status : Status) (so sn : SourceTold) (ko kn : SinkTold) (mo mn : MakerTold) (seed : ℕ) → Ends told task status so sn ko kn mo mn → task ≡ Load seed → IsLoadStatus status
 ends_load told task status so sn ko kn mo mn seed ends is =

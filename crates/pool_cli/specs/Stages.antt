@@ -43,7 +43,6 @@ Refuses error failure.NotBuilt = ⊥
 
 -- what a text that isn't read as an input ends the program with
 abbrev pub input_failure : InputFault → Failure
-input_failure fault.NotBuilt = failure.NotBuilt
 input_failure fault.Invalid = failure.BadInput
 input_failure fault.Memory = failure.NoMemory
 

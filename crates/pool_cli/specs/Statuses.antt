@@ -20,13 +20,13 @@ use Rattle.pool_load.specs.Load.{load_input}
 use Rattle.pool_cli.specs.Lines.{config_line, line_of}
 use Rattle.pool_forms.specs.LoadOutput.{load_text}
 use Rattle.pool_forms.specs.Output.{output_text, replies_text}
-use Rattle.pool_forms.specs.Reading.{Reading, not_built, invalid, accepted, reading, shared_reading}
+use Rattle.pool_forms.specs.Reading.{Reading, invalid, accepted, reading, shared_reading}
 use Rattle.pool_forms.specs.SharedOutput.{shared_text}
 use Rattle.pool_forms.specs.Streams.{SourceTold, SinkTold, ReadWhole, ReadTooMuch, Wrote, WrotePart, most_input}
 use Rattle.pool_cli.specs.declared.failure.Failure.{Failure}
 use Rattle.pool_cli.specs.declared.failure.Failure.TheVariants as failure
 use Rattle.pool_cli.specs.declared.status.Status.{Status}
-use Rattle.pool_cli.specs.declared.status.Status.TheVariants.{Ok as Success, BadInput, BadConfig as BadSettings, PageFault, ReadFault, WriteFault, NoMemory, TooLong, NotBuilt}
+use Rattle.pool_cli.specs.declared.status.Status.TheVariants.{Ok as Success, BadInput, BadConfig as BadSettings, PageFault, ReadFault, WriteFault, NoMemory, TooLong}
 use Rattle.pool_cli.specs.declared.words.Task.{Task}
 use Rattle.pool_cli.specs.declared.words.Task.TheVariants.{Run, RunOnDemand, Shared, Load, Later, Unknown}
 
@@ -180,16 +180,6 @@ HasFaulted told Shared source_old source_new maker_old maker_new = HasNoRegion s
 HasFaulted told (Load seed) source_old source_new maker_old maker_new = HasNoLoadPool told seed source_old source_new maker_old maker_new
 HasFaulted told _ source_old source_new maker_old maker_new = ⊥
 
--- The words ask for what is not built yet, and nothing was read; or they ask for a run, and the bytes read are JSON of a
--- form that is not accepted so far, or an input that asks for what is not built yet.
-abbrev pub AsksForMore : Task → SourceTold → SourceTold → Type 0
-AsksForMore Run source_old source_new = HasRead run_format not_built source_old source_new
-AsksForMore RunOnDemand source_old source_new = HasRead run_format not_built source_old source_new
-AsksForMore Shared source_old source_new = HasRead shared_format not_built source_old source_new
-AsksForMore Later source_old source_new = Unread source_old source_new
-AsksForMore (Load seed) source_old source_new = ⊥
-AsksForMore Unknown source_old source_new = ⊥
-
 -- Why there is no output, by the failure. What has to hold of a failed making is for whoever names this to say.
 abbrev pub Fails : Type 0 → Task → Failure → SourceTold → SourceTold → Type 0
 Fails faulted task failure.BadUsage source_old source_new = (task ≡ Unknown) × Unread source_old source_new
@@ -199,7 +189,7 @@ Fails faulted task failure.PageFault source_old source_new = faulted
 Fails faulted task failure.ReadFault source_old source_new = (reads_input task ≡ true) × Rose source_old.faults source_new.faults
 Fails faulted task failure.NoMemory source_old source_new = runs task ≡ true
 Fails faulted task failure.TooLong source_old source_new = (reads_input task ≡ true) × ReadTooMuch source_old source_new
-Fails faulted task failure.NotBuilt source_old source_new = AsksForMore task source_old source_new
+Fails faulted task failure.NotBuilt source_old source_new = (task ≡ Later) × Unread source_old source_new
 
 -- what is to be written, and why: the text of an output, or the line of a failure
 abbrev pub IsToWrite : {P : Type 0} → (P → Told) → Task → List ℕ → SourceTold → SourceTold → MakerTold → MakerTold → Type 0
@@ -240,7 +230,6 @@ status_of_limits (Some error) = BadSettings
 
 -- the status of an input that is read so, where nothing stands in the way
 abbrev pub status_of : {X : Type 0} → (X → Option BadConfig) → Reading X → Status
-status_of broken not_built = NotBuilt
 status_of broken invalid = BadInput
 status_of broken (accepted input) = status_of_limits (broken input)
 

@@ -1,7 +1,7 @@
 ghost use Rattle.std.specs.Prelude.{◌≡◌, ◌⊎◌, ℕ, true, IfSome};
 ghost use Rattle.pool_types.specs.Rising.{Rose};
 ghost use Rattle.pool_cli.specs.Lines.{line_of};
-ghost use Rattle.pool_cli.specs.Statuses.{AsksForMore, FollowsBytes, HasFaulted, HasReadInvalid, IsLoadStatus, Unread, WroteBadConfig, WroteLess, WroteOutput, reads_input, run_format, runs, shared_format};
+ghost use Rattle.pool_cli.specs.Statuses.{FollowsBytes, HasFaulted, HasReadInvalid, IsLoadStatus, Unread, WroteBadConfig, WroteLess, WroteOutput, reads_input, run_format, runs, shared_format};
 ghost use Rattle.pool_cli.specs.Stages.{Ends};
 ghost use Rattle.pool_cli.specs.declared.failure.Failure.TheVariants as failure;
 ghost use Rattle.pool_forms.specs.Streams.{ReadTooMuch, Wrote};
@@ -51,7 +51,7 @@ pub fn pool_main<S: Source, K: Sink, M: PageMaker>(
     ensures write_fault { result ≡ Status.WriteFault → WroteLess M.Region.told (task_of words.now) (S.told source.old) (S.told source.new) (K.told sink.old) (K.told sink.new) (M.told pages.old) (M.told pages.new) }
     ensures no_memory { result ≡ Status.NoMemory → (runs (task_of words.now) ≡ true) × Wrote (line_of failure.NoMemory) (K.told sink.old) (K.told sink.new) }
     ensures too_long { result ≡ Status.TooLong → (reads_input (task_of words.now) ≡ true) × ReadTooMuch (S.told source.old) (S.told source.new) × Wrote (line_of failure.TooLong) (K.told sink.old) (K.told sink.new) }
-    ensures not_built { result ≡ Status.NotBuilt → AsksForMore (task_of words.now) (S.told source.old) (S.told source.new) × Wrote (line_of failure.NotBuilt) (K.told sink.old) (K.told sink.new) }
+    ensures not_built { result ≡ Status.NotBuilt → (task_of words.now ≡ Later) × Unread (S.told source.old) (S.told source.new) × Wrote (line_of failure.NotBuilt) (K.told sink.old) (K.told sink.new) }
     // The other way round: what the words and the bytes lead to, unless something stands in the way. A fault of the source or
     // of the sink is one of theirs by the clauses above, and one of a making is listed by the input or counted by the maker; so
     // without any the status is this one, or that of want of memory.

@@ -183,6 +183,34 @@ metrics core=0 component=0 memories=0 tables=0 stacks=0 heaps=0 warm_memories=1 
 pages expose=1 hide=0 map_image=0 remap_zeros=0 erase=0 recolour=0 decommit=1
 ";
 
+// A reset by dirty marks keeps what was written, and no more.
+const MARKED: &str = r#"{"config":{"max_memory_size":131072,"linear_memory_keep_resident":65536,"pagemap_scan":"auto"},
+"offered":{"dirty_pages":true},"modules":[{"memories":[{"min":1}]}],
+"parties":[{"commands":[{"do":"instantiate","module":0},{"do":"drop","of":0}]}]}"#;
+
+const MARKED_OUTPUT: &str = "\
+0.0: granted memories 0 tables -
+0.1: returned
+metrics core=0 component=0 memories=0 tables=0 stacks=0 heaps=0 warm_memories=1 memory_resident=0 warm_tables=0 table_resident=0 warm_stacks=0 stack_resident=none
+pages expose=1 hide=0 map_image=0 remap_zeros=0 erase=0 recolour=0 decommit=0
+";
+
+const MARKED_AND_WRITTEN: &str = r#"{"config":{"max_memory_size":131072,"linear_memory_keep_resident":65536,"pagemap_scan":"auto"},
+"offered":{"dirty_pages":true},"modules":[{"memories":[{"min":1}]}],
+"parties":[{"commands":[{"do":"instantiate","module":0},{"do":"drop","of":0},{"do":"instantiate","module":0},
+{"do":"write","of":2,"at":0,"hex":"01"},{"do":"grow","of":2,"pages":1},{"do":"drop","of":2}]}]}"#;
+
+const MARKED_AND_WRITTEN_OUTPUT: &str = "\
+0.0: granted memories 0 tables -
+0.1: returned
+0.2: granted memories 0 tables -
+0.3: done
+0.4: grown 65536
+0.5: returned
+metrics core=0 component=0 memories=0 tables=0 stacks=0 heaps=0 warm_memories=1 memory_resident=4096 warm_tables=0 table_resident=0 warm_stacks=0 stack_resident=none
+pages expose=2 hide=0 map_image=0 remap_zeros=0 erase=0 recolour=0 decommit=0
+";
+
 const SMALL_PAGES: &str = r#"{"page":16,"config":{"total_memories":1},
 "modules":[{"memories":[{"min":32,"page_log2":0,"image":{"offset":16,"hex":"00112233445566778899aabbccddeeff"}}]}],
 "parties":[{"commands":[{"do":"instantiate","module":0},{"do":"read","of":0,"at":12,"len":8}]}]}"#;
@@ -307,6 +335,8 @@ fn runs_of_memories(rt: HostRuntime) -> Result<(), Fail> {
         (GROWS_OR_TRAPS, GROWS_OR_TRAPS_OUTPUT),
         (RESIDENT, RESIDENT_OUTPUT),
         (RELEASED, RELEASED_OUTPUT),
+        (MARKED, MARKED_OUTPUT),
+        (MARKED_AND_WRITTEN, MARKED_AND_WRITTEN_OUTPUT),
         (SMALL_PAGES, SMALL_PAGES_OUTPUT),
         (IMAGE_PAST_THE_END, IMAGE_PAST_THE_END_OUTPUT),
         (IMAGE_INSIDE_A_PAGE, IMAGE_INSIDE_A_PAGE_OUTPUT),

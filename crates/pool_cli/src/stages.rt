@@ -40,7 +40,6 @@ fn input_failure(fault: InputFault) -> Failure
     ensures { result ≡ input_failure fault }
 {
     match fault {
-        InputFault::NotBuilt => Failure::NotBuilt,
         InputFault::Invalid => Failure::BadInput,
         InputFault::Memory => Failure::NoMemory,
     }

@@ -4,7 +4,7 @@ pub enum Status {
     Ok = 0,
     /// The words are none that the program has.
     BadUsage = 2,
-    /// The input is no JSON, or it breaks a limit or names what isn't there.
+    /// The input is no JSON or has another form, or it breaks a limit or names what isn't there.
     BadInput = 3,
     /// A setting of the pool is refused.
     BadConfig = 4,
@@ -15,6 +15,6 @@ pub enum Status {
     NoMemory = 8,
     /// The input has more than 67,108,864 bytes.
     TooLong = 9,
-    /// The words or the input ask for what is not built yet.
+    /// The words ask for what is not built yet.
     NotBuilt = 10,
 }

@@ -102,6 +102,13 @@ const KEYS: &str = r#"{"config":{"memory_protection_keys":"yes"},
 
 const KEYS_LINE: &str = "error BadConfig: mpk is disabled on this system\n";
 
+const MARKS: &str = r#"{"config":{"pagemap_scan":"yes"}}"#;
+
+const MARKS_LINE: &str =
+    "error BadConfig: required to enable PAGEMAP_SCAN but this system does not support it\n";
+
+const UNKNOWN_FIELD: &str = r#"{"x":1}"#;
+
 const GUARD: &str = r#"{"config":{"memory_protection_keys":"auto"},
 "tunables":{"collector":true,"gc_heap_guard_size":0}}"#;
 
@@ -129,8 +136,8 @@ fn statuses(rt: HostRuntime) -> Result<(), Fail> {
         ("run", NO_HOME, 0, 0, Status::BadInput, BAD_INPUT),
         ("run", DROPS_NOTHING, 0, 0, Status::BadInput, BAD_INPUT),
         ("shared", NO_MAXIMUM, 0, 0, Status::BadInput, BAD_INPUT),
-        ("run", MINUS_NOUGHT, 0, 0, Status::NotBuilt, NOT_BUILT),
-        ("run", NO_FLAG, 0, 0, Status::NotBuilt, NOT_BUILT),
+        ("run", MINUS_NOUGHT, 0, 0, Status::BadInput, BAD_INPUT),
+        ("run", NO_FLAG, 0, 0, Status::BadInput, BAD_INPUT),
         ("run", FAULTY, 0, 0, Status::PageFault, PAGE_FAULT),
         ("run", PAGE, 0, 0, Status::BadConfig, PAGE_LINE),
         ("run", SHARDS, 0, 0, Status::BadConfig, SHARDS_LINE),
@@ -138,6 +145,8 @@ fn statuses(rt: HostRuntime) -> Result<(), Fail> {
         ("run", STACKS, 0, 0, Status::BadConfig, STACKS_LINE),
         ("run", RESERVED, 0, 0, Status::BadConfig, RESERVED_LINE),
         ("run", KEYS, 0, 0, Status::BadConfig, KEYS_LINE),
+        ("run", MARKS, 0, 0, Status::BadConfig, MARKS_LINE),
+        ("run", UNKNOWN_FIELD, 0, 0, Status::BadInput, BAD_INPUT),
         ("run", GUARD, 0, 0, Status::BadConfig, GUARD_LINE),
     ] {
         let pages = MemoryPages::new(page);

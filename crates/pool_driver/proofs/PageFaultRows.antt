@@ -302,7 +302,7 @@ module _ {P H : Type 0} (X : Type 0) where
       -- reset,
       was_reset_faulted : (fault : Bool) (held : Slot) (lease : Lease) → RowFaulted (rows.was_reset fault held lease c f)
       was_reset_faulted true held lease = to_fault_more X _ (λ x. inl x) f.ending k
-      was_reset_faulted false held lease = reset_faulted P H X f.ending c.settings.batch (reset_into c.settings.keep_resident.bytes (slot_taken lease) (slot_of lease.memory) f.local) k
+      was_reset_faulted false held lease = reset_faulted P H X f.ending c.settings.batch (reset_into c.settings.dirty_pages c.settings.keep_resident.bytes (slot_taken lease) (slot_of lease.memory) f.local) k
 
       pub reset_row_faulted : (g : StepGiven H) (o : Object P) → RowFaulted (rows.reset_row g o c f)
       reset_row_faulted g (object.Memory lease) = was_reset_faulted g.fault g.slot lease

@@ -15,7 +15,7 @@ use Rattle.pool_alloc.specs.StackLeases.{LeasedStack}
 use Rattle.pool_alloc.specs.TableLeases.{LeasedTable}
 use Rattle.pool_alloc.specs.TableSteps.{reset_in, table_queued}
 use Rattle.pool_driver.specs.Faults.{KeepsFaults, QueuedKeeps, QueueKeeps, LeaseKeeps, StackKeeps}
-use Rattle.pool_driver.proofs.RegionFaults.{reset_keeps, stack_keeps}
+use Rattle.pool_driver.proofs.RegionFaults.{reset_keeps, stack_keeps, table_keeps}
 
 -- what both of two have, the one that is chosen has
 pub by_choice : {X : Type 0} (Q : X → Type 0) (b : Bool) (x y : X) → Q x → Q y → Q (if b then x else y)
@@ -47,12 +47,12 @@ pub zeroed_keeps : (m : Queued) → QueuedKeeps m → QueuedKeeps (zeroed m)
 zeroed_keeps m k = zeroed_by_keeps m.by_hand m k
 
 -- An object is reset into a queue.
-pub memory_reset_keeps : (keep : ℕ) (lease : Lease) (q : Queue) → LeaseKeeps lease → QueueKeeps q → QueueKeeps (reset_into keep (slot_taken lease) (slot_of lease.memory) q)
-memory_reset_keeps keep lease q one k = pushed_each QueuedKeeps (slot_ended keep (slot_taken lease) (slot_of lease.memory)) q.slots k (reset_keeps lease.numbers.faults keep (slot_taken lease) (slot_of lease.memory) one)
+pub memory_reset_keeps : (offered : Bool) (keep : ℕ) (lease : Lease) (q : Queue) → LeaseKeeps lease → QueueKeeps q → QueueKeeps (reset_into offered keep (slot_taken lease) (slot_of lease.memory) q)
+memory_reset_keeps offered keep lease q one k = pushed_each QueuedKeeps (slot_ended offered keep (slot_taken lease) (slot_of lease.memory)) q.slots k (reset_keeps lease.numbers.faults offered keep (slot_taken lease) (slot_of lease.memory) one)
 
-pub table_reset_keeps : (page keep : ℕ) (lease : LeasedTable) (o : Option Told) (q : Queue) → IfSome o (λ region. KeepsFaults lease.numbers.faults region.faults) → QueueKeeps q → QueueKeeps (reset_in page keep lease o q)
-table_reset_keeps page keep lease None q one k = k
-table_reset_keeps page keep lease (Some region) q one k = pushed_each QueuedKeeps (table_queued page keep lease region) q.slots k one
+pub table_reset_keeps : (offered : Bool) (page keep : ℕ) (lease : LeasedTable) (o : Option Told) (q : Queue) → IfSome o (λ region. KeepsFaults lease.numbers.faults region.faults) → QueueKeeps q → QueueKeeps (reset_in offered page keep lease o q)
+table_reset_keeps offered page keep lease None q one k = k
+table_reset_keeps offered page keep lease (Some region) q one k = pushed_each QueuedKeeps (table_queued offered page keep lease region) q.slots k (table_keeps lease.numbers.faults offered page keep lease region one)
 
 pub stack_reset_keeps : (keep : ℕ) (lease : LeasedStack) (q : Queue) → StackKeeps lease → QueueKeeps q → QueueKeeps (stack_reset keep lease q)
 stack_reset_keeps keep lease q one k = pushed_each QueuedKeeps _ q.slots k (stack_keeps lease.numbers.faults lease.stack.zeroing keep lease.stack one)

@@ -1,22 +1,24 @@
 -- Calls on a region raise its count of faults, or leave it.
-use Rattle.std.proofs.Common.{◌≡◌, ℕ, Bool, true, false, List, [], ◌∷◌, map, sym, refl, ap, subst, arith, Option, inl, inr}
+use Rattle.std.proofs.Common.{◌≡◌, ℕ, Bool, true, false, List, [], ◌∷◌, map, sym, refl, ap, subst, arith, Option, None, Some, inl, inr}
 use Rattle.std.proofs.lemmas.Bool.{cases_lt}
 use Rattle.std.specs.List.{AllByRecursion, AllZip}
 use Rattle.pool_types.specs.Rising.{Rose}
-use Rattle.pool_pages.specs.Told.{erasing}
+use Rattle.pool_pages.specs.Told.{Told, erasing}
 use Rattle.pool_types.specs.declared.decommit_behavior.DecommitBehavior.{DecommitBehavior}
 use Rattle.pool_types.specs.declared.decommit_behavior.DecommitBehavior.TheVariants.{Zero, RestoreOriginalMapping}
 use Rattle.pool_images.specs.Images.{Image}
-use Rattle.pool_images.specs.Slots.{Slot, IsLeft, decommitted_all, reset_slot, size_of, wiped, without_image}
+use Rattle.pool_images.specs.Resets.{given_marks, pages_by_hand, reset_by}
+use Rattle.pool_images.specs.Slots.{Slot, IsLeft, decommitted_all, size_of, wiped, without_image}
 use Rattle.pool_images.specs.declared.ranges.ByteRange.{ByteRange}
 use Rattle.pool_images.proofs.Colours.{like_renewed}
+use Rattle.pool_images.proofs.Identity.{like_restored}
 use Rattle.pool_images.proofs.Sizes.{like_without}
 use Rattle.pool_hall.specs.declared.unit_name.SlotKind.{SlotKind}
 use Rattle.pool_hall.specs.declared.unit_name.SlotKind.TheVariants.{Memory as memory_kind, Table as table_kind, Stack as stack_kind, Heap as heap_kind}
 use Rattle.pool_slots.specs.CellOf.{cell_of}
-use Rattle.pool_slots.specs.PlainSlots.{StackState, stack_zeroed}
+use Rattle.pool_slots.specs.PlainSlots.{StackState, stack_zeroed, used_reset}
 use Rattle.pool_slots.specs.RegionCells.{faults_in}
-use Rattle.pool_slots.specs.SlotQueues.{Queued, Queue, IsLeftBy, IsSlotLeft, forgotten_slot, change_at, same_slot, first_slot, is_of, front}
+use Rattle.pool_slots.specs.SlotQueues.{Queued, Queue, IsLeftBy, IsSlotLeft, forgotten_slot, change_at, same_slot, first_slot, is_of, front, plain_slot}
 use Rattle.pool_slots.specs.declared.cells.ImageSlot.{ImageSlot}
 use Rattle.pool_slots.specs.declared.cells.ImageSlot.TheVariants.{Unmapped, Unknown, PreviouslyUsed, Taken}
 use Rattle.pool_slots.specs.declared.slot_name.SlotName.{SlotName}
@@ -24,6 +26,8 @@ use Rattle.pool_alloc.specs.MemorySteps.{slot_ended}
 use Rattle.pool_alloc.specs.PageCallAnswers.{Decommits, DecommitsWhole, Drains, Empties, Forgets, InstantiatesAs, RemovesImage, Resets}
 use Rattle.pool_alloc.specs.Purges.{after_forgetting, known_after}
 use Rattle.pool_alloc.specs.Releases.{after_decommit}
+use Rattle.pool_alloc.specs.TableLeases.{LeasedTable}
+use Rattle.pool_alloc.specs.TableSteps.{bytes_used, table_marks, table_queued}
 use Rattle.pool_alloc.specs.declared.frame.TakenSlot.{TakenSlot}
 use Rattle.pool_alloc.specs.declared.pool_core.Settings.{Settings}
 use Rattle.pool_driver.specs.Faults.{HasFaulted, KeepsFaults, QueueKeeps, QueuedKeeps}
@@ -53,9 +57,15 @@ wiped_same s = (like_renewed (erasing s.base.bytes (size_of s)) s).faults
 without_same : (s : Slot) → (without_image s).region.faults ≡ s.region.faults
 without_same s = (like_without s.image s).faults
 
-reset_same : (behaviour : DecommitBehavior) (keep : ℕ) (s : Slot) → (reset_slot behaviour keep s).region.faults ≡ s.region.faults
-reset_same RestoreOriginalMapping keep s = refl
-reset_same Zero keep s = wiped_same s
+reset_same : (marks : Option (List Bool)) (behaviour : DecommitBehavior) (keep : ℕ) (s : Slot) → (reset_by marks behaviour keep s).region.faults ≡ s.region.faults
+reset_same None RestoreOriginalMapping keep s = refl
+reset_same (Some marks) RestoreOriginalMapping keep s = (like_restored s.base.bytes (pages_by_hand s.region.page keep marks) false s).faults
+reset_same None Zero keep s = wiped_same s
+reset_same (Some marks) Zero keep s = wiped_same s
+
+used_same : (marks : Option (List Bool)) (keep used : ℕ) (s : Slot) → (used_reset marks keep used s).region.faults ≡ s.region.faults
+used_same None keep used s = refl
+used_same (Some marks) keep used s = (like_restored s.base.bytes (pages_by_hand s.region.page keep marks) s.dirty s).faults
 
 decommitted_same : (rs : List ByteRange) (s : Slot) → (decommitted_all rs s).region.faults ≡ s.region.faults
 decommitted_same [] s = refl
@@ -86,14 +96,17 @@ instantiates_keep told false initial hide image old new is k = same_keeps told o
 pub instantiates_faulted : (told initial : ℕ) (hide : Bool) (image : Option Image) (old new : Slot) → InstantiatesAs true initial hide image old new → KeepsFaults told old.region.faults → HasFaulted told new.region.faults
 instantiates_faulted told initial hide image old new is k = left_faulted told old new k is
 
-pub reset_keeps : (told keep : ℕ) (at : TakenSlot) (old : Slot) → KeepsFaults told old.region.faults → KeepsFaults told (slot_ended keep at old).slot.region.faults
-reset_keeps told keep at old k = subst (KeepsFaults told) (sym (reset_same old.region.behaviour keep old)) k
+pub reset_keeps : (told : ℕ) (offered : Bool) (keep : ℕ) (at : TakenSlot) (old : Slot) → KeepsFaults told old.region.faults → KeepsFaults told (slot_ended offered keep at old).slot.region.faults
+reset_keeps told offered keep at old k = subst (KeepsFaults told) (sym (reset_same (given_marks offered old) old.region.behaviour keep old)) k
 
-pub resets_keep : (told keep : ℕ) (at : TakenSlot) (old new : Slot) → Resets true keep at old new → KeepsFaults told old.region.faults → KeepsFaults told new.region.faults
-resets_keep told keep at old new is k = left_keeps told old new k is.1
+pub table_keeps : (told : ℕ) (offered : Bool) (page keep : ℕ) (lease : LeasedTable) (region : Told) → KeepsFaults told region.faults → KeepsFaults told (table_queued offered page keep lease region).slot.region.faults
+table_keeps told offered page keep lease region k = subst (KeepsFaults told) (sym (used_same (table_marks offered page lease region) keep (bytes_used page lease) (plain_slot 0 region))) k
 
-pub resets_faulted : (told keep : ℕ) (at : TakenSlot) (old new : Slot) → Resets true keep at old new → KeepsFaults told old.region.faults → HasFaulted told new.region.faults
-resets_faulted told keep at old new is k = left_faulted told old new k is.1
+pub resets_keep : (told : ℕ) (offered : Bool) (keep : ℕ) (at : TakenSlot) (old new : Slot) → Resets true offered keep at old new → KeepsFaults told old.region.faults → KeepsFaults told new.region.faults
+resets_keep told offered keep at old new is k = left_keeps told old new k is.1
+
+pub resets_faulted : (told : ℕ) (offered : Bool) (keep : ℕ) (at : TakenSlot) (old new : Slot) → Resets true offered keep at old new → KeepsFaults told old.region.faults → HasFaulted told new.region.faults
+resets_faulted told offered keep at old new is k = left_faulted told old new k is.1
 
 pub stack_keeps : (told : ℕ) (zeroing : Bool) (keep : ℕ) (s : StackState) → KeepsFaults told s.slot.region.faults → KeepsFaults told (stack_zeroed zeroing keep s).slot.region.faults
 stack_keeps told zeroing keep s k = subst (KeepsFaults told) (sym (stack_same zeroing keep s)) k

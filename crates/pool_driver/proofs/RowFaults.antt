@@ -365,17 +365,17 @@ module _ {P H : Type 0} (c : PoolCore P H) (f : Frame P H) (hand : HandKeeps f) 
   uncount_object_keeps (object.Stack lease) one = record { hand = hand; turn = one; parts = parts }
 
   -- reset,
-  was_reset_keeps : (slot : Slot) (lease : Lease) (fault : Bool) → Resets fault c.settings.keep_resident.bytes (slot_taken lease) (slot_of lease.memory) slot → LeaseKeeps lease → RowKeeps (rows.was_reset fault slot lease c f)
-  was_reset_keeps slot lease true told one = record { hand = hand; turn = resets_keep lease.numbers.faults c.settings.keep_resident.bytes (slot_taken lease) (slot_of lease.memory) slot told one; parts = parts }
+  was_reset_keeps : (slot : Slot) (lease : Lease) (fault : Bool) → Resets fault c.settings.dirty_pages c.settings.keep_resident.bytes (slot_taken lease) (slot_of lease.memory) slot → LeaseKeeps lease → RowKeeps (rows.was_reset fault slot lease c f)
+  was_reset_keeps slot lease true told one = record { hand = hand; turn = resets_keep lease.numbers.faults c.settings.dirty_pages c.settings.keep_resident.bytes (slot_taken lease) (slot_of lease.memory) slot told one; parts = parts }
   was_reset_keeps slot lease false told one =
-      let local : Queue = reset_into c.settings.keep_resident.bytes (slot_taken lease) (slot_of lease.memory) f.local in
-      record { hand = (hand.0, memory_reset_keeps c.settings.keep_resident.bytes lease f.local one hand.1); turn = turned_keeps P H c.settings.batch local; parts = parts }
+      let local : Queue = reset_into c.settings.dirty_pages c.settings.keep_resident.bytes (slot_taken lease) (slot_of lease.memory) f.local in
+      record { hand = (hand.0, memory_reset_keeps c.settings.dirty_pages c.settings.keep_resident.bytes lease f.local one hand.1); turn = turned_keeps P H c.settings.batch local; parts = parts }
 
   pub reset_row_keeps : (g : StepGiven H) (o : Object P) → ResetTold c.settings g o → ObjectKeeps o → RowKeeps (rows.reset_row g o c f)
   reset_row_keeps g (object.Memory lease) told one = was_reset_keeps g.slot lease g.fault told one
   reset_row_keeps g (object.Table lease) told one =
       let local : Queue = table_reset_into c.settings lease f.local in
-      record { hand = (hand.0, table_reset_keeps c.settings.page c.settings.table_keep_resident.bytes lease lease.table.region f.local one hand.1); turn = turned_keeps P H c.settings.batch local; parts = parts }
+      record { hand = (hand.0, table_reset_keeps c.settings.dirty_pages c.settings.page c.settings.table_keep_resident.bytes lease lease.table.region f.local one hand.1); turn = turned_keeps P H c.settings.batch local; parts = parts }
   reset_row_keeps g (object.Stack lease) told one =
       let local : Queue = stack_reset c.settings.stack_keep_resident.bytes lease f.local in
       record { hand = (hand.0, stack_reset_keeps c.settings.stack_keep_resident.bytes lease f.local one hand.1); turn = turned_keeps P H c.settings.batch local; parts = parts }

@@ -287,16 +287,16 @@ module _ {T P H : Type 0} (about : T → About) (inner : T → PoolPart P H) (Pa
 
     reset_known : (x : Object P) → thing ≡ x → ResetCaused Is Flushing c e given x
     reset_known (object.Memory lease) at = (
-      λ fails. resets_faulted lease.numbers.faults c.settings.keep_resident.bytes (slot_taken lease) (slot_of lease.memory) given.slot
-          (subst (λ (b : Bool). Resets b c.settings.keep_resident.bytes (slot_taken lease) (slot_of lease.memory) given.slot) fails (told (Reset (object.Memory lease)) (is ∙ ap Reset at)))
+      λ fails. resets_faulted lease.numbers.faults c.settings.dirty_pages c.settings.keep_resident.bytes (slot_taken lease) (slot_of lease.memory) given.slot
+          (subst (λ (b : Bool). Resets b c.settings.dirty_pages c.settings.keep_resident.bytes (slot_taken lease) (slot_of lease.memory) given.slot) fails (told (Reset (object.Memory lease)) (is ∙ ap Reset at)))
           (kept (Reset (object.Memory lease)) (is ∙ ap Reset at)),
-      pushed (slot_ended c.settings.keep_resident.bytes (slot_taken lease) (slot_of lease.memory)) (λ kind. refl),
+      pushed (slot_ended c.settings.dirty_pages c.settings.keep_resident.bytes (slot_taken lease) (slot_of lease.memory)) (λ kind. refl),
     )
     reset_known (object.Table lease) at = table_known lease lease.table.region
       where
-        table_known : (lease : LeasedTable) (region : Option Told) → Is → Flushing (reset_in c.settings.page c.settings.table_keep_resident.bytes lease region f.local).slots
+        table_known : (lease : LeasedTable) (region : Option Told) → Is → Flushing (reset_in c.settings.dirty_pages c.settings.page c.settings.table_keep_resident.bytes lease region f.local).slots
         table_known lease None had = into f.local.slots none_queued had
-        table_known lease (Some region) had = pushed (table_queued c.settings.page c.settings.table_keep_resident.bytes lease region) (λ kind. refl) had
+        table_known lease (Some region) had = pushed (table_queued c.settings.dirty_pages c.settings.page c.settings.table_keep_resident.bytes lease region) (λ kind. refl) had
     reset_known (object.Stack lease) at = pushed _ (λ kind. absurd cc)
 
   -- Each row.

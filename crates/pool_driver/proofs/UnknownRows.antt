@@ -163,7 +163,7 @@ module _ {P H : Type 0} (K : Type 0) (F : List Queued → Type 0) where
 
     -- what a reset says, where it fails, and where it leaves a slot in the queue
     abbrev pub ResetCaused : StepGiven H → Object P → Type 0
-    ResetCaused g (object.Memory lease) = (g.fault ≡ true → HasFaulted lease.numbers.faults g.slot.region.faults) × (K → F (reset_into c.settings.keep_resident.bytes (slot_taken lease) (slot_of lease.memory) f.local).slots)
+    ResetCaused g (object.Memory lease) = (g.fault ≡ true → HasFaulted lease.numbers.faults g.slot.region.faults) × (K → F (reset_into c.settings.dirty_pages c.settings.keep_resident.bytes (slot_taken lease) (slot_of lease.memory) f.local).slots)
     ResetCaused g (object.Table lease) = K → F (table_reset_into c.settings lease f.local).slots
     ResetCaused g (object.Stack lease) = K → F (stack_reset c.settings.stack_keep_resident.bytes lease f.local).slots
 
@@ -178,9 +178,9 @@ module _ {P H : Type 0} (K : Type 0) (F : List Queued → Type 0) where
       turned_caused : (local : Queue) → (K → F local.slots) → TurnCaused {P = P} {H = H} K (F local.slots) f.ending (rows.reset_turn c.settings.batch local)
       turned_caused local into = reset_caused P H K (F local.slots) f.ending c.settings.batch local (ending_more K (F local.slots) into f.ending k) k
 
-      was_reset_caused : (fault : Bool) (held : Slot) (lease : Lease) → (fault ≡ true → HasFaulted lease.numbers.faults held.region.faults) → (K → F (reset_into c.settings.keep_resident.bytes (slot_taken lease) (slot_of lease.memory) f.local).slots) → RowCaused (rows.was_reset fault held lease c f)
+      was_reset_caused : (fault : Bool) (held : Slot) (lease : Lease) → (fault ≡ true → HasFaulted lease.numbers.faults held.region.faults) → (K → F (reset_into c.settings.dirty_pages c.settings.keep_resident.bytes (slot_taken lease) (slot_of lease.memory) f.local).slots) → RowCaused (rows.was_reset fault held lease c f)
       was_reset_caused true held lease faulted into = ending_more K (IsBackNext P K (slot_taken lease) held) (λ known. (known, λ unknown. faulted refl)) f.ending k
-      was_reset_caused false held lease faulted into = turned_caused (reset_into c.settings.keep_resident.bytes (slot_taken lease) (slot_of lease.memory) f.local) into
+      was_reset_caused false held lease faulted into = turned_caused (reset_into c.settings.dirty_pages c.settings.keep_resident.bytes (slot_taken lease) (slot_of lease.memory) f.local) into
 
       pub reset_row_caused : (g : StepGiven H) (o : Object P) → ResetCaused g o → RowCaused (rows.reset_row g o c f)
       reset_row_caused g (object.Memory lease) one = was_reset_caused g.fault g.slot lease one.0 one.1

@@ -5,12 +5,11 @@ use Rattle.pool_forms.specs.Forms.{input_form}
 use Rattle.pool_forms.specs.Ranges.{numbers_fit}
 use Rattle.pool_forms.specs.SharedForms.{shared_form, events_fit}
 use Rattle.pool_forms.specs.declared.json_input.InputFault.{InputFault}
-use Rattle.pool_forms.specs.declared.json_input.InputFault.TheVariants.{NotBuilt, Invalid, Memory}
+use Rattle.pool_forms.specs.declared.json_input.InputFault.TheVariants.{Invalid, Memory}
 
--- JSON of a form that is not accepted so far, or an input that asks for what is not built yet; no JSON, or an input that
--- breaks a limit or names what isn't there; or an input that can be run, but for its settings
+-- No JSON, JSON of another form, or an input that breaks a limit or names what isn't there; or an input that can be run, but
+-- for its settings
 pub data Reading (X : Type 0) : Type 0 where
-  not_built : Reading X
   invalid : Reading X
   accepted : X → Reading X
 
@@ -22,15 +21,15 @@ json_of bytes = if is_utf8 bytes then read bytes else None
 abbrev pub reading_of_fit : Input → Reading Input
 reading_of_fit input = if is_valid input then accepted input else invalid
 
--- The reading of an input of the right form: not built, or invalid, or accepted.
+-- The reading of an input of the right form: invalid, or accepted.
 abbrev pub reading_of_input : Bool → Input → Reading Input
 reading_of_input fit input =
     if is_built input then (if fit then reading_of_fit input else invalid)
-    else not_built
+    else invalid
 
--- The reading of a value: not built where it has no form of an input, else by the tests of the input.
+-- The reading of a value: invalid where it has no form of an input, else by the tests of the input.
 abbrev pub reading_of_form : Bool → Option Input → Reading Input
-reading_of_form fit None = not_built
+reading_of_form fit None = invalid
 reading_of_form fit (Some input) = reading_of_input fit input
 
 -- The reading of what may be JSON: invalid where it is none.
@@ -38,7 +37,7 @@ abbrev pub reading_of_json : Option Data → Reading Input
 reading_of_json None = invalid
 reading_of_json (Some value) = reading_of_form (numbers_fit value) (input_form value)
 
--- What the bytes are read as: not built, invalid, or an input.
+-- What the bytes are read as: invalid, or an input.
 abbrev pub reading : List ℕ → Reading Input
 reading bytes = reading_of_json (json_of bytes)
 
@@ -46,9 +45,9 @@ reading bytes = reading_of_json (json_of bytes)
 abbrev pub shared_reading_of_fit : SharedInput → Reading SharedInput
 shared_reading_of_fit input = if is_valid_shared input then accepted input else invalid
 
--- The reading of a value as events: not built where it has no such form, invalid where a number is too great.
+-- The reading of a value as events: invalid where it has no such form, or a number is too great.
 abbrev pub shared_reading_of_form : Bool → Option SharedInput → Reading SharedInput
-shared_reading_of_form fit None = not_built
+shared_reading_of_form fit None = invalid
 shared_reading_of_form fit (Some input) = if fit then shared_reading_of_fit input else invalid
 
 -- The reading of what may be JSON as events: invalid where it is none.
@@ -63,13 +62,11 @@ shared_reading bytes = shared_reading_of_json (json_of bytes)
 -- the value was read, or there is none, unless memory ran out
 abbrev pub IsJson : Option Data → Result Value InputFault → Type 0
 IsJson json (Ok value) = json ≡ Some (view value)
-IsJson json (Err NotBuilt) = ⊥
 IsJson json (Err Invalid) = json ≡ None
 IsJson json (Err Memory) = Unit {0}
 
 -- This is the reading of what was returned, unless memory ran out. Whether an input is valid is left to whoever runs it.
 abbrev pub IsReadAs : {X : Type 0} → (X → Reading X) → Reading X → Result X InputFault → Type 0
 IsReadAs of_fit r (Ok input) = r ≡ of_fit input
-IsReadAs of_fit r (Err NotBuilt) = r ≡ not_built
 IsReadAs of_fit r (Err Invalid) = r ≡ invalid
 IsReadAs of_fit r (Err Memory) = Unit {0}

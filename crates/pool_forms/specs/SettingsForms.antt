@@ -1,4 +1,4 @@
--- The settings that a JSON value is. `None` says that it has another form than those accepted so far.
+-- The settings that a JSON value is. `None` says that it has another form.
 use Rattle.std.specs.Prelude.{ℕ, ◌-◌, ◌^◌, List, [], ◌∷◌, ◌++◌, codes, min, true, false, if◌then◌else◌, Option, Some, None, option_map}
 use Rattle.pool_forms.specs.Imports.{bytes_eq, Data, get, as_bool, as_str, default_config, default_instance_limits, default_offered, default_tunables, Enabled, Auto, Yes, No, PoolingAllocationConfig, InstanceLimits, Fault, FaultKind, Table, Image, Tunables, Offered, DecommitBehavior, Zero, RestoreOriginalMapping}
 use Rattle.pool_pages.specs.declared.fault_plan.FaultKind.TheVariants.{Memory, Stack, OnDemand}
@@ -62,12 +62,13 @@ stacks_form config fields = do
   kept ← optional 0 whole_number (get (codes "async_stack_keep_resident") fields)
   Some (record config { stack_size = size; async_stack_zeroing = zeroing; async_stack_keep_resident = kept })
 
--- beside these settings, those of protection keys
-unfoldable pub keys_form : PoolingAllocationConfig → Data → Option PoolingAllocationConfig
-keys_form config fields = do
+-- beside these settings, what is used of the system: protection keys, and marks of dirty pages
+unfoldable pub system_form : PoolingAllocationConfig → Data → Option PoolingAllocationConfig
+system_form config fields = do
   enabled ← optional No enabled_form (get (codes "memory_protection_keys") fields)
   most ← optional 15 whole_number (get (codes "max_memory_protection_keys") fields)
-  Some (record config { memory_protection_keys = enabled; max_memory_protection_keys = most })
+  scan ← optional No enabled_form (get (codes "pagemap_scan") fields)
+  Some (record config { memory_protection_keys = enabled; max_memory_protection_keys = most; pagemap_scan = scan })
 
 -- beside these settings, how many slots stay warm, how many ranges are decommitted together, and how many bytes of a memory
 -- and of a table a reset keeps resident
@@ -94,16 +95,16 @@ other_fields =
     ∷ codes "decommit_batch_size"
     ∷ codes "stack_size" ∷ codes "async_stack_zeroing" ∷ codes "async_stack_keep_resident"
     ∷ codes "linear_memory_keep_resident" ∷ codes "table_keep_resident"
-    ∷ codes "memory_protection_keys" ∷ codes "max_memory_protection_keys" ∷ []
+    ∷ codes "memory_protection_keys" ∷ codes "max_memory_protection_keys" ∷ codes "pagemap_scan" ∷ []
 
--- The settings of the pool, but for whether dirty pages are used: they aren't, so far.
+-- The settings of the pool.
 unfoldable pub config_form : Data → Option PoolingAllocationConfig
 config_form value = do
   fields ← only (count_fields ++ other_fields) value
   limits ← instance_limits_form fields
   slots ← slots_form (record default_config { limits = limits }) fields
   stacks ← stacks_form slots fields
-  keys_form stacks fields
+  system_form stacks fields
 
 -- beside these settings, whether there is a collector, and those of GC heaps, which are those of memories where they are
 -- left out
@@ -162,13 +163,15 @@ behaviour_named name =
 abbrev pub behaviour_form : Data → Option DecommitBehavior
 behaviour_form value = as_str value >>= behaviour_named
 
--- What the system offers: how many protection keys, and what a decommit does to pages.
+-- What the system offers: how many protection keys, whether it tells which pages are dirty, and what a decommit does to
+-- pages.
 unfoldable pub offered_form : Data → Option Offered
 offered_form value = do
-  fields ← only (codes "keys" ∷ codes "behaviour" ∷ []) value
+  fields ← only (codes "keys" ∷ codes "dirty_pages" ∷ codes "behaviour" ∷ []) value
   keys ← optional 0 count_form (get (codes "keys") fields)
+  marks ← optional false as_bool (get (codes "dirty_pages") fields)
   behaviour ← optional RestoreOriginalMapping behaviour_form (get (codes "behaviour") fields)
-  Some (record default_offered { keys = keys; behaviour = behaviour })
+  Some (record default_offered { keys = keys; dirty_pages = marks; behaviour = behaviour })
 
 -- the kind of fault of this name
 abbrev pub kind_named : List ℕ → Option FaultKind

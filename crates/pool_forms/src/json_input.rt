@@ -19,22 +19,17 @@ use std::alloc::Global;
 /// Why a text isn't read as an input.
 #[derive(Clone, Copy, Debug, PartialEq, Eq)]
 pub enum InputFault {
-    /// It is JSON of a form that is not accepted so far, or an input that asks for what is not built yet.
-    NotBuilt,
-    /// It is no JSON, or an input with a number that the type of its field can't hold.
+    /// It is no JSON, or JSON of another form, or an input with a number that the type of its field can't hold.
     Invalid,
     Memory,
 }
 
-/// Whether the input is built, and then whether it fits: `fit` says whether all numbers fit their types.
+/// Tests whether the input can be run, and whether it fits: `fit` says whether all numbers fit their types.
 fn tested(input: Input, fit: bool) -> Result<Input, InputFault>
     ensures reads { IsReadAs reading_of_fit (reading_of_input fit input) result }
     ensures ready { IfOk result (λ input. is_built input ≡ true) }
 {
-    if !is_built(&input) {
-        return Err(InputFault::NotBuilt);
-    }
-    if !fit {
+    if !is_built(&input) || !fit {
         return Err(InputFault::Invalid);
     }
     Ok(input)
@@ -46,7 +41,7 @@ fn input_of(alloc: Global, value: &Value) -> Result<Input, InputFault>
 {
     match Input::from_json(alloc, value) {
         Ok(input) => tested(input, numbers_fit(value)),
-        Err(FormFault::OtherForm) => Err(InputFault::NotBuilt),
+        Err(FormFault::OtherForm) => Err(InputFault::Invalid),
         Err(FormFault::Memory) => Err(InputFault::Memory),
     }
 }
@@ -62,12 +57,12 @@ fn shared_of(alloc: Global, value: &Value) -> Result<SharedInput, InputFault>
                 Err(InputFault::Invalid)
             }
         }
-        Err(FormFault::OtherForm) => Err(InputFault::NotBuilt),
+        Err(FormFault::OtherForm) => Err(InputFault::Invalid),
         Err(FormFault::Memory) => Err(InputFault::Memory),
     }
 }
 
-/// The value of a text. `NotBuilt` doesn't come.
+/// The value of a text.
 fn value_of_text(alloc: Global, text: &str) -> Result<Value, InputFault>
     ensures { IsJson (read text.now) result }
 {

@@ -4,7 +4,7 @@ ghost use Rattle.pool_types.specs.Config.{default_config, default_offered, defau
 ghost use Rattle.pool_types.specs.declared.config.Enabled.TheVariants.{No};
 ghost use Rattle.pool_types.specs.declared.decommit_behavior.DecommitBehavior.TheVariants.{RestoreOriginalMapping};
 ghost use Rattle.pool_forms.specs.Fields.{optional, required};
-ghost use Rattle.pool_forms.specs.SettingsForms.{count_form, totals_form, shares_form, sizes_form, instance_limits_form, enabled_form, enabled_named, slots_form, stacks_form, keys_form, config_form, memory_tunables_form, heap_tunables_form, tunables_form, behaviour_form, behaviour_named, offered_form, kind_form, kind_named, fault_form};
+ghost use Rattle.pool_forms.specs.SettingsForms.{count_form, totals_form, shares_form, sizes_form, instance_limits_form, enabled_form, enabled_named, slots_form, stacks_form, system_form, config_form, memory_tunables_form, heap_tunables_form, tunables_form, behaviour_form, behaviour_named, offered_form, kind_form, kind_named, fault_form};
 
 use crate::fields::{flag_or, has_only, number, number_or, text};
 use crate::form_fault::FormFault;
@@ -147,15 +147,17 @@ fn with_stacks(config: PoolingAllocationConfig, value: &Value) -> Option<Pooling
 }
 
 /// Beside these settings, those of protection keys.
-#[tactic(auto, unfolding(crate::specs::SettingsForms::keys_form))]
-fn with_keys(config: PoolingAllocationConfig, value: &Value) -> Option<PoolingAllocationConfig>
-    ensures { result ≡ keys_form config (view value.now) }
+#[tactic(auto, unfolding(crate::specs::SettingsForms::system_form))]
+fn with_system(config: PoolingAllocationConfig, value: &Value) -> Option<PoolingAllocationConfig>
+    ensures { result ≡ system_form config (view value.now) }
 {
-    let enabled = enabled(value.get("memory_protection_keys"))?;
+    let keys = enabled(value.get("memory_protection_keys"))?;
     let most = number_or(15, value.get("max_memory_protection_keys"))?;
+    let scan = enabled(value.get("pagemap_scan"))?;
     let mut config = config;
-    config.memory_protection_keys = enabled;
+    config.memory_protection_keys = keys;
     config.max_memory_protection_keys = most as usize;
+    config.pagemap_scan = scan;
     Some(config)
 }
 
@@ -190,6 +192,7 @@ fn config_of(value: &Value) -> Option<PoolingAllocationConfig>
             "table_keep_resident",
             "memory_protection_keys",
             "max_memory_protection_keys",
+            "pagemap_scan",
         ],
     ) {
         return None;
@@ -199,7 +202,7 @@ fn config_of(value: &Value) -> Option<PoolingAllocationConfig>
     config.limits = limits;
     let config = with_slots(config, value)?;
     let config = with_stacks(config, value)?;
-    with_keys(config, value)
+    with_system(config, value)
 }
 
 /// Settings of the pool that may be left out.
@@ -324,13 +327,15 @@ fn behaviour(field: Option<&Value>) -> Option<DecommitBehavior>
 fn offered_of(value: &Value) -> Option<Offered>
     ensures { result ≡ offered_form (view value.now) }
 {
-    if !has_only(value, &["keys", "behaviour"]) {
+    if !has_only(value, &["keys", "dirty_pages", "behaviour"]) {
         return None;
     }
     let keys = count_or(0, value.get("keys"))?;
+    let dirty_pages = flag_or(false, value.get("dirty_pages"))?;
     let behaviour = behaviour(value.get("behaviour"))?;
     let mut offered = Offered::default();
     offered.keys = keys;
+    offered.dirty_pages = dirty_pages;
     offered.behaviour = behaviour;
     Some(offered)
 }

@@ -1,6 +1,7 @@
 -- A slot stays the same one, whatever is called on its region.
-use Rattle.std.proofs.Common.{◌≡◌, Bool, refl, ap, ◌∙◌, Option, Some, None, is_some, option_map}
-use Rattle.pool_images.proofs.Imports.{Contents, Told, PageCall, MayChangePartly}
+use Rattle.std.proofs.Common.{◌≡◌, ℕ, ◌+◌, ◌*◌, Bool, List, [], ◌∷◌, refl, ap, ◌∙◌, Option, Some, None, is_some, option_map}
+use Rattle.pool_images.proofs.Imports.{Contents, Told, PageCall, MayChangePartly, restored}
+use Rattle.pool_images.specs.Resets.{pages_restored}
 use Rattle.pool_images.specs.Slots.{Slot, CallFaulted, identity, called}
 
 pub told_same : (f : Contents → Contents) (o : Option Contents) → is_some (option_map f o) ≡ is_some o
@@ -34,3 +35,12 @@ like_self s = record { same = refl; faults = refl }
 
 pub like_then : (r s t : Slot) → IsLike r s → IsLike s t → IsLike r t
 like_then r s t first second = record { same = second.same ∙ first.same; faults = second.faults ∙ first.faults }
+
+-- pages of it are set by hand
+pub like_restored : (base : ℕ) (ks : List ℕ) (dirty : Bool) (s : Slot) → IsLike s (record s { region = pages_restored base ks s.region; dirty = dirty })
+like_restored base [] dirty s = record { same = refl; faults = refl }
+like_restored base (k ∷ ks) dirty s =
+    let next : Slot = record s { region = restored (base + k * s.region.page) s.region.page s.region } in
+    like_then s next (record next { region = pages_restored base ks next.region; dirty = dirty })
+    (record { same = ap (λ (b : Bool). record (identity s) { tells = b }) (told_same _ s.region.contents); faults = refl })
+    (like_restored base ks dirty next)

@@ -19,6 +19,7 @@ pub mod Pieces
 pub mod PutBacks
 pub mod Queued
 pub mod Ready
+pub mod ResetBounds
 pub mod Resets
 pub mod SameBytes
 pub mod Sizes

@@ -23,14 +23,14 @@ lone_cover page k (j ∷ ks) (inl is) =
     inl (omega (arith, same), omega (arith, same))
 lone_cover page k (j ∷ ks) (inr has) = inr (lone_cover page k ks has)
 
-lone_below : (base page lo end n : ℕ) (ks : List ℕ) → base + end * page ≤ n → RiseIn lo end ks → Below base (lone_pages page ks) n
+pub lone_below : (base page lo end n : ℕ) (ks : List ℕ) → base + end * page ≤ n → RiseIn lo end ks → Below base (lone_pages page ks) n
 lone_below base page lo end n [] fits rise = tt
 lone_below base page lo end n (k ∷ ks) fits rise =
     let next : (k + 1) * page ≡ k * page + page = omega (arith, add-mul k 1 page) in
     let less : (k + 1) * page ≤ end * page = mul-le-mul_right page (omega (arith, rise.1)) in
     (omega (arith, fits, next, less), lone_below base page (k + 1) end n ks fits rise.2)
 
-few_rise : (lo end : ℕ) (ks : List ℕ) → RiseIn lo end ks → length ks ≤ end - lo
+pub few_rise : (lo end : ℕ) (ks : List ℕ) → RiseIn lo end ks → length ks ≤ end - lo
 few_rise lo end [] rise = omega arith
 few_rise lo end (k ∷ ks) rise = omega (arith, rise.0, rise.1, few_rise (k + 1) end ks rise.2)
 
@@ -189,7 +189,7 @@ module _ (s : Slot) (keep : ℕ) (fits : IsSlot s) (marked : TellsMarks s.region
         joined : (t u v : Told) → u ≡ record t { contents = u.contents; marks = u.marks; made = u.made; calls = u.calls } → v ≡ record u { contents = v.contents; marks = v.marks; made = v.made; calls = v.calls } → v ≡ record t { contents = v.contents; marks = v.marks; made = v.made; calls = v.calls }
         joined t u v first second = second ∙ ap (λ (w : Told). record w { contents = v.contents; marks = v.marks; made = v.made; calls = v.calls }) first
 
-  started : (o u : Option Contents) → IfSome o (IsSound s.region.page s.region.len s.base.bytes (size_of s)) → IfSome o (λ c. c.dirty ≡ s.region.marks) → IfSome o (IsReady s) → Backed s.base.bytes (lone_pages s.region.page by_hand ++ left) o u → IfSome u (IsStarted s)
+  pub started : (o u : Option Contents) → IfSome o (IsSound s.region.page s.region.len s.base.bytes (size_of s)) → IfSome o (λ c. c.dirty ≡ s.region.marks) → IfSome o (IsReady s) → Backed s.base.bytes (lone_pages s.region.page by_hand ++ left) o u → IfSome u (IsStarted s)
   started None None sound same ready backed = sound
   started None (Some d) sound same ready backed = absurd backed
   started (Some c) None sound same ready backed = absurd backed
@@ -220,7 +220,7 @@ module _ (s : Slot) (keep : ℕ) (fits : IsSlot s) (marked : TellsMarks s.region
   pub marks_clean_now : s.accessible.bytes ≤ keep → s.region.behaviour ≡ RestoreOriginalMapping → IfSome s.region.contents (IsReady s) → IsClean done
   marks_clean_now from restores ready = subst (λ rs. IsClean (decommitted_all rs done)) (none_left from) (marks_clean restores ready)
 
-backed_sound : (page len base size at : ℕ) (rs : List ByteRange) (o u : Option Contents) → IfSome o (IsSound page len base size) → IfSome u (IsShaped page len) → Backed at rs o u → IfSome u (IsSound page len base size)
+pub backed_sound : (page len base size at : ℕ) (rs : List ByteRange) (o u : Option Contents) → IfSome o (IsSound page len base size) → IfSome u (IsShaped page len) → Backed at rs o u → IfSome u (IsSound page len base size)
 backed_sound page len base size at rs None None sound shaped backed = shaped
 backed_sound page len base size at rs None (Some d) sound shaped backed = absurd backed
 backed_sound page len base size at rs (Some c) None sound shaped backed = absurd backed
@@ -261,12 +261,11 @@ hand_is s keep most b p ms u is base count page marks =
     ∙ ap (λ n. pages_restored s.base.bytes (take n (marked_pages ms)) s.region) first
     ∙ ap (λ l. pages_restored s.base.bytes (take (keep / s.region.page) (marked_pages l)) s.region) marks
 
-pub left_is : (s : Slot) (keep most n p next : ℕ) (ms ns : List Bool) (rs : List ByteRange) → rs ≡ at_most_eight (n * p) (runs_of p (marked_from next ns)) → marked_from next ns ≡ drop most (marked_pages ms) → n * p ≡ s.accessible.bytes → most ≡ keep / p → p ≡ s.region.page → ms ≡ marks_of s → rs ≡ at_most_eight s.accessible.bytes (runs_of s.region.page (pages_left s.region.page keep (marks_of s)))
-left_is s keep most n p next ms ns rs is rest size count page marks =
+pub left_is : (s : Slot) (keep most n p : ℕ) (ms : List Bool) (rs : List ByteRange) → rs ≡ at_most_eight (n * p) (runs_of p (drop most (marked_pages ms))) → n * p ≡ s.accessible.bytes → most ≡ keep / p → p ≡ s.region.page → ms ≡ marks_of s → rs ≡ at_most_eight s.accessible.bytes (runs_of s.region.page (pages_left s.region.page keep (marks_of s)))
+left_is s keep most n p ms rs is size count page marks =
     let first : most ≡ keep / s.region.page = count ∙ ap (λ m. keep / m) page in
     is
-    ∙ ap (λ m. at_most_eight m (runs_of p (marked_from next ns))) size
-    ∙ ap (λ m. at_most_eight s.accessible.bytes (runs_of m (marked_from next ns))) page
-    ∙ ap (λ ks. at_most_eight s.accessible.bytes (runs_of s.region.page ks)) rest
+    ∙ ap (λ m. at_most_eight m (runs_of p (drop most (marked_pages ms)))) size
+    ∙ ap (λ m. at_most_eight s.accessible.bytes (runs_of m (drop most (marked_pages ms)))) page
     ∙ ap (λ m. at_most_eight s.accessible.bytes (runs_of s.region.page (drop m (marked_pages ms)))) first
     ∙ ap (λ l. at_most_eight s.accessible.bytes (runs_of s.region.page (drop (keep / s.region.page) (marked_pages l)))) marks

@@ -160,7 +160,7 @@ module _ (s : Slot) (keep : ℕ) (fits : IsSlot s) (marked : TellsMarks s.region
   room : s.base.bytes + s.accessible.bytes ≤ s.region.len
   room = omega (arith, fits.sizes.inside, fits.sizes.within)
 
-  by : (b : DecommitBehavior) (v : Bool) → bytes_of (decommitted_all (left_by (if v then Some (marks_of s) else None) b keep s) (reset_by (if v then Some (marks_of s) else None) b keep s)) ≡ bytes_of (decommitted_all (left_by None b 0 s) (reset_by None b 0 s))
+  pub by : (b : DecommitBehavior) (v : Bool) → bytes_of (decommitted_all (left_by (if v then Some (marks_of s) else None) b keep s) (reset_by (if v then Some (marks_of s) else None) b keep s)) ≡ bytes_of (decommitted_all (left_by None b 0 s) (reset_by None b 0 s))
   by Zero true = refl
   by Zero false = refl
   by RestoreOriginalMapping true =

@@ -3,7 +3,7 @@ ghost use Rattle.pool_pages.specs.Told.{exposing, hiding, mapping, remapping, er
 ghost use Rattle.pool_images.specs.Orders.{Follows, colouring};
 ghost use Rattle.pool_images.specs.Slots.{size_of, IsRangeOf, CallFaulted, IsLeft, IsFresh, IsReady, IsClean, IsSlot, FitsInto, called, coloured, written_at};
 
-mod dirty_pages;
+pub(crate) mod dirty_pages;
 mod instantiate;
 mod limit;
 mod mapping;

@@ -25,6 +25,7 @@ mod memory_image;
 mod ranges;
 mod reset_laws;
 
+pub use image_slot::dirty_pages::{PageSpan, reset_dirty};
 pub use image_slot::{ImageName, MemoryImageSlot};
 pub use memory_image::{ImageError, MemoryImage, ModuleMemoryImages};
 pub use ranges::{ByteRange, MAX_RANGES, Ranges};

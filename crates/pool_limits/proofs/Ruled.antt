@@ -1,14 +1,14 @@
 -- Each way that a growth can go by its rule.
 use Rattle.std.proofs.Common.{◌≡◌, ℕ, Bool, true, false, Option, Some, None, Result, Ok, Err, refl, subst}
 use Rattle.pool_limits.specs.Growth.{GrowthRule, always, limited_by, answer_by, failure_by}
-use Rattle.pool_limits.specs.LimiterTold.{LimiterTold, after_answer, after_report}
-use Rattle.pool_limits.specs.Exchanges.{GrowthQuestion, Exchange, has_failed, told_after}
-use Rattle.pool_limits.specs.Growing.{GrowthGiven, IsRuled, IsAllowed, allowed_exchanges, is_want_of_memory, report_result, report_seen}
+use Rattle.pool_limits.specs.LimiterTold.{LimiterTold, after_answer}
+use Rattle.pool_limits.specs.Exchanges.{GrowthQuestion, Exchange, told_after}
+use Rattle.pool_limits.specs.Growing.{GrowthGiven, IsRuled, IsAllowed, IsReported, allowed_exchanges}
 use Rattle.pool_limits.specs.declared.growing.Growable.{Growable}
 use Rattle.pool_limits.specs.declared.growing.Growable.TheVariants.{Memory, Table}
 use Rattle.pool_limits.specs.declared.errors.LimiterError.{LimiterError}
 use Rattle.pool_limits.specs.declared.errors.GrowError.{GrowError}
-use Rattle.pool_limits.specs.declared.errors.GrowError.TheVariants.{MaximumExceeded}
+use Rattle.pool_limits.specs.declared.errors.GrowError.TheVariants.{TypeLimit, MaximumExceeded}
 use Rattle.pool_limits.specs.declared.errors.GrowFault.{GrowFault}
 use Rattle.pool_limits.specs.declared.errors.GrowFault.TheVariants as fault
 
@@ -47,13 +47,13 @@ ruled_nothing q p r x t = record {
 }
 
 -- past what the type allows
-pub ruled_past_type : {X : Type 0} (q : GrowthQuestion) (r : Bool) (x : X) (t u : LimiterTold) (result : Result (Option X) GrowFault) → report_seen result ≡ failure_by q.what t.rule (report_seen result) → result ≡ report_result false (report_seen result) → u ≡ after_report (report_seen result) t
-    → IsRuled q (record { nothing = false; past_type = true; past_room = r }) (record (unasked q t) { report = report_seen result }) x t u result
-ruled_past_type q r x t u result report replies limiter = record {
-  answer = answer_fits q.what t.rule q.desired q.maximum;
-  report = report;
-  replies = replies;
-  limiter = limiter;
+pub ruled_past_type : {R X : Type 0} (told : R → LimiterTold) (leads : R → Exchange → R → Type 0) (q : GrowthQuestion) (r : Bool) (x : X) (before after : R) (result : Result (Option X) GrowFault) → (reported : IsReported told leads q.what TypeLimit before after result)
+    → IsRuled q (record { nothing = false; past_type = true; past_room = r }) (record (unasked q (told before)) { report = reported.report }) x (told before) (told after) result
+ruled_past_type told leads q r x before after result reported = record {
+  answer = answer_fits q.what (told before).rule q.desired q.maximum;
+  report = reported.answer;
+  replies = reported.replies;
+  limiter = reported.limiter;
 }
 
 -- where the limiter refuses with an error
@@ -104,29 +104,27 @@ allowed_grown told leads what x Same Grown Ungrown l grown = record {
 }
 
 -- there was no room, which was reported
-pub allowed_past : {R X : Type 0} (told : R → LimiterTold) (leads : R → Exchange → R → Type 0) (what : Growable) (x : X) (Same Grown : Type 0) (Ungrown : GrowError → Type 0) (before after : R) (result : Result (Option X) GrowFault)
-    → report_seen result ≡ failure_by what (told before).rule (report_seen result) → result ≡ report_result false (report_seen result) → told after ≡ after_report (report_seen result) (told before) → leads before (has_failed what MaximumExceeded (report_seen result)) after → Same
+pub allowed_past : {R X : Type 0} (told : R → LimiterTold) (leads : R → Exchange → R → Type 0) (what : Growable) (x : X) (Same Grown : Type 0) (Ungrown : GrowError → Type 0) (before after : R) (result : Result (Option X) GrowFault) → IsReported told leads what MaximumExceeded before after result → Same
     → IsAllowed told leads what true x Same Grown Ungrown before after result
-allowed_past told leads what x Same Grown Ungrown before after result answer replies limiter exchange same = record {
+allowed_past told leads what x Same Grown Ungrown before after result reported same = record {
   failure = None;
-  report = report_seen result;
-  answer = answer;
-  replies = replies;
-  limiter = limiter;
-  exchanged = (after, (exchange, refl));
+  report = reported.report;
+  answer = reported.answer;
+  replies = reported.replies;
+  limiter = reported.limiter;
+  exchanged = (after, (reported.exchange, refl));
   makes = same;
 }
 
 -- the pages didn't give it, which was reported
-pub allowed_failed : {R X : Type 0} (told : R → LimiterTold) (leads : R → Exchange → R → Type 0) (what : Growable) (x : X) (Same Grown : Type 0) (Ungrown : GrowError → Type 0) (before after : R) (e : GrowError) (result : Result (Option X) GrowFault)
-    → report_seen result ≡ failure_by what (told before).rule (report_seen result) → result ≡ report_result (is_want_of_memory e) (report_seen result) → told after ≡ after_report (report_seen result) (told before) → leads before (has_failed what e (report_seen result)) after → Ungrown e
+pub allowed_failed : {R X : Type 0} (told : R → LimiterTold) (leads : R → Exchange → R → Type 0) (what : Growable) (x : X) (Same Grown : Type 0) (Ungrown : GrowError → Type 0) (before after : R) (e : GrowError) (result : Result (Option X) GrowFault) → IsReported told leads what e before after result → Ungrown e
     → IsAllowed told leads what false x Same Grown Ungrown before after result
-allowed_failed told leads what x Same Grown Ungrown before after e result answer replies limiter exchange ungrown = record {
+allowed_failed told leads what x Same Grown Ungrown before after e result reported ungrown = record {
   failure = Some e;
-  report = report_seen result;
-  answer = answer;
-  replies = replies;
-  limiter = limiter;
-  exchanged = (after, (exchange, refl));
+  report = reported.report;
+  answer = reported.answer;
+  replies = reported.replies;
+  limiter = reported.limiter;
+  exchanged = (after, (reported.exchange, refl));
   makes = ungrown;
 }

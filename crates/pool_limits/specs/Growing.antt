@@ -1,7 +1,7 @@
 -- How a memory or a table grows: what a limiter is asked in which order, what the growth answers, and what is left.
 use Rattle.std.specs.Prelude.{◌≡◌, Bool, true, false, List, [], ◌∷◌, Option, Some, None, Result, Ok, Err}
 use Rattle.pool_limits.specs.Growth.{answer_by, failure_by}
-use Rattle.pool_limits.specs.LimiterTold.{LimiterTold}
+use Rattle.pool_limits.specs.LimiterTold.{LimiterTold, after_report}
 use Rattle.pool_limits.specs.Exchanges.{GrowthQuestion, Exchange, may_grow, has_failed, Exchanged, told_after}
 use Rattle.pool_limits.specs.declared.growing.Growable.{Growable}
 use Rattle.pool_limits.specs.declared.errors.LimiterError.{LimiterError}
@@ -59,10 +59,11 @@ is_want_of_memory PageFault = false
 is_want_of_memory Memory = true
 is_want_of_memory Overflow = false
 
--- the result after a failure was reported: none, or an error where the limiter makes one of it, or memory was wanting
+-- The result after a failure was reported: where memory was wanting it says so, whatever the limiter answered; else none,
+-- or the limiter's error.
 abbrev pub report_result : {X : Type 0} → Bool → Result (Unit {0}) LimiterError → Result (Option X) GrowFault
-report_result wanting (Err e) = Err (fault.LimiterFault e)
-report_result true (Ok u) = Err fault.Memory
+report_result true report = Err fault.Memory
+report_result false (Err e) = Err (fault.LimiterFault e)
 report_result false (Ok u) = Ok None
 
 -- The result once the pages were asked: what was to be answered, or what the failure of the pages makes of it.
@@ -136,8 +137,11 @@ pub record IsAllowed {R X : Type 0} (told : R → LimiterTold) (leads : R → Ex
   pub exchanged : Exchanged leads (allowed_exchanges what past failure report) before after
   pub makes : AllowedMakes Same Grown Ungrown past failure
 
--- what a result tells of the answer to the report of a failure
-abbrev pub report_seen : {X : Type 0} → Result (Option X) GrowFault → Result (Unit {0}) LimiterError
-report_seen (Ok o) = Ok tt
-report_seen (Err fault.Memory) = Ok tt
-report_seen (Err (fault.LimiterFault e)) = Err e
+-- A growth that failed with this error was reported to the limiter, which answered by its rule. The report and its answer
+-- led it from one state to the other, and the result follows from the error and the answer.
+pub record IsReported {R X : Type 0} (told : R → LimiterTold) (leads : R → Exchange → R → Type 0) (what : Growable) (e : GrowError) (before after : R) (result : Result (Option X) GrowFault) : Type 0 where
+  pub report : Result (Unit {0}) LimiterError
+  pub answer : report ≡ failure_by what (told before).rule report
+  pub replies : result ≡ report_result (is_want_of_memory e) report
+  pub limiter : told after ≡ after_report report (told before)
+  pub exchange : leads before (has_failed what e report) after

@@ -1,6 +1,6 @@
 -- Each way that a growth of a memory can go.
 use Rattle.std.proofs.Common.{◌≡◌, ◌≢◌, ℕ, Bool, true, false, refl, sym, ap, ◌∙◌, subst, arith, Option, Some, None, Result, Ok, Err, ◌==◌, not}
-use Rattle.pool_memory.proofs.Imports.{eq-eqb, nat_tests, MakerTold, allow_growth_to, memory_answer, memory_failure, LimiterTold, after_answer, after_report, GrowthQuestion, Exchange, may_grow, has_failed, Exchanged, Obstacles, GrowthGiven, growth_exchanges, AllowedMakes, IsRuled, result_by, answer_result, allowed_result, report_result, is_want_of_memory, report_seen, Memory, LimiterError, GrowError, GrowFault, unasked, ruled_nothing, ruled_past_type, ruled_error, ruled_no, ruled_yes, allowed_grown, allowed_past, allowed_failed}
+use Rattle.pool_memory.proofs.Imports.{eq-eqb, nat_tests, MakerTold, allow_growth_to, memory_answer, LimiterTold, after_answer, GrowthQuestion, Exchange, may_grow, Exchanged, Obstacles, GrowthGiven, growth_exchanges, AllowedMakes, IsReported, IsRuled, result_by, answer_result, allowed_result, report_result, Memory, LimiterError, GrowError, GrowFault, unasked, ruled_nothing, ruled_past_type, ruled_error, ruled_no, ruled_yes, allowed_grown, allowed_past, allowed_failed}
 use Rattle.pool_limits.specs.declared.errors.GrowError.TheVariants as failed
 use Rattle.pool_limits.specs.declared.errors.GrowFault.TheVariants as fault
 use Rattle.pool_memory.specs.Linear.{Linear}
@@ -59,13 +59,13 @@ module _ {R X : Type 0} (told : R → LimiterTold) (leads : R → Exchange → R
       (ruled_nothing question past room x (told l)) refl refl refl refl
 
   -- past what the type allows
-  pub grown_past_type : (before after : R) (r : Result (Option X) GrowFault) → pages ≢ 0 → allow_growth_to old.ty (grown_size pages old) ≡ false → report_seen r ≡ memory_failure (told before).rule (report_seen r) → r ≡ report_result false (report_seen r) → told after ≡ after_report (report_seen r) (told before) → leads before (has_failed Memory failed.TypeLimit (report_seen r)) after → Grows old maker before after r
-  grown_past_type before after r some past report replies limiter exchange =
+  pub grown_past_type : (before after : R) (r : Result (Option X) GrowFault) → pages ≢ 0 → allow_growth_to old.ty (grown_size pages old) ≡ false → (reported : IsReported told leads Memory failed.TypeLimit before after r) → Grows old maker before after r
+  grown_past_type before after r some past reported =
       let room : Bool = past_room (grown_size pages old) old in
       growth_of old maker before after r (record { nothing = false; past_type = true; past_room = room })
-      (record (unasked question (told before)) { report = report_seen r })
+      (record (unasked question (told before)) { report = reported.report })
       (seen pages old false true (some_pages pages some) past refl)
-      (ruled_past_type question room x (told before) (told after) r report replies limiter) refl refl refl (after, (exchange, refl))
+      (ruled_past_type told leads question room x before after r reported) refl refl refl (after, (reported.exchange, refl))
 
   -- where the limiter refuses it with an error
   pub grown_error : (before after : R) (e : LimiterError) → pages ≢ 0 → allow_growth_to old.ty (grown_size pages old) ≡ true → Err e ≡ memory_answer (told before).rule (Err e) (grown_size pages old) (maximum_asked old.ty) → told after ≡ after_answer (Err e) (told before) → leads before (may_grow question (Err e)) after → Grows old maker before after (Err (fault.LimiterFault e))
@@ -120,25 +120,23 @@ module _ {R X : Type 0} (told : R → LimiterTold) (leads : R → Exchange → R
   pages_ok false l asked = allowed_grown told leads Memory x Same Grown Ungrown l asked
 
   -- they didn't, which was reported
-  pages_err : (past : Bool) (before after : R) (e : GrowError) (r : Result (Option X) GrowFault) → AskedPages past size old new maker left (Err e) → report_seen r ≡ memory_failure (told before).rule (report_seen r) → r ≡ report_result (is_want_of_memory e) (report_seen r) → told after ≡ after_report (report_seen r) (told before) → leads before (has_failed Memory e (report_seen r)) after → Allowed past before after r
-  pages_err true before after e r asked answer replies limiter exchange =
+  pages_err : (past : Bool) (before after : R) (e : GrowError) (r : Result (Option X) GrowFault) → AskedPages past size old new maker left (Err e) → IsReported told leads Memory e before after r → Allowed past before after r
+  pages_err true before after e r asked reported =
       let is : is_err_of e ≡ is_err_of failed.MaximumExceeded = asked.0 in
       let same : e ≡ failed.MaximumExceeded = cc in
-      let P : GrowError → Type 0 = λ k. r ≡ report_result (is_want_of_memory k) (report_seen r) in
-      let E : GrowError → Type 0 = λ k. leads before (has_failed Memory k (report_seen r)) after in
-      allowed_past told leads Memory x Same Grown Ungrown before after r answer (subst P same replies) limiter (subst E same exchange) asked.1
-  pages_err false before after e r asked answer replies limiter exchange =
-      allowed_failed told leads Memory x Same Grown Ungrown before after e r answer replies limiter exchange asked
+      let P : GrowError → Type 0 = λ k. IsReported told leads Memory k before after r in
+      allowed_past told leads Memory x Same Grown Ungrown before after r (subst P same reported) asked.1
+  pages_err false before after e r asked reported = allowed_failed told leads Memory x Same Grown Ungrown before after e r reported asked
 
   pub allowed_ok : (past : Bool) (l : R) (result : Result (Unit {0}) GrowError) (u : Unit {0}) → result ≡ Ok u → AskedPages past size old new maker left result → Allowed past l l (Ok (Some x))
   allowed_ok past l result u is asked =
       let P : Result (Unit {0}) GrowError → Type 0 = λ k. AskedPages past size old new maker left k in
       pages_ok past l (subst P is asked)
 
-  pub allowed_err : (past : Bool) (before after : R) (result : Result (Unit {0}) GrowError) (e : GrowError) (r : Result (Option X) GrowFault) → result ≡ Err e → AskedPages past size old new maker left result → report_seen r ≡ memory_failure (told before).rule (report_seen r) → r ≡ report_result (is_want_of_memory e) (report_seen r) → told after ≡ after_report (report_seen r) (told before) → leads before (has_failed Memory e (report_seen r)) after → Allowed past before after r
-  allowed_err past before after result e r is asked answer replies limiter exchange =
+  pub allowed_err : (past : Bool) (before after : R) (result : Result (Unit {0}) GrowError) (e : GrowError) (r : Result (Option X) GrowFault) → result ≡ Err e → AskedPages past size old new maker left result → IsReported told leads Memory e before after r → Allowed past before after r
+  allowed_err past before after result e r is asked reported =
       let P : Result (Unit {0}) GrowError → Type 0 = λ k. AskedPages past size old new maker left k in
-      pages_err past before after e r (subst P is asked) answer replies limiter exchange
+      pages_err past before after e r (subst P is asked) reported
 
 first_report : (report : Result (Unit {0}) LimiterError) → first_of (report_result {X = ℕ × ℕ} false report) ≡ report_result {X = ℕ} false report
 first_report (Err e) = refl
@@ -147,12 +145,11 @@ first_report (Ok u) = refl
 first_allowed : (x : ℕ × ℕ) (past : Bool) (failure : Option GrowError) (report : Result (Unit {0}) LimiterError) → first_of (allowed_result x past failure report) ≡ allowed_result x.0 past failure report
 first_allowed x true failure report = first_report report
 first_allowed x false None report = refl
-first_allowed x false (Some e) (Err f) = refl
-first_allowed x false (Some failed.TypeLimit) (Ok u) = refl
-first_allowed x false (Some failed.MaximumExceeded) (Ok u) = refl
-first_allowed x false (Some failed.PageFault) (Ok u) = refl
-first_allowed x false (Some failed.Memory) (Ok u) = refl
-first_allowed x false (Some failed.Overflow) (Ok u) = refl
+first_allowed x false (Some failed.TypeLimit) report = first_report report
+first_allowed x false (Some failed.MaximumExceeded) report = first_report report
+first_allowed x false (Some failed.PageFault) report = first_report report
+first_allowed x false (Some failed.Memory) report = refl
+first_allowed x false (Some failed.Overflow) report = first_report report
 
 first_answer : (x : ℕ × ℕ) (past : Bool) (answer : Result Bool LimiterError) (failure : Option GrowError) (report : Result (Unit {0}) LimiterError) → first_of (answer_result x past answer failure report) ≡ answer_result x.0 past answer failure report
 first_answer x past (Err e) failure report = refl

@@ -17,10 +17,10 @@ pub use Rattle.pool_images.proofs.Sizes.{rounded_up_more}
 pub use Rattle.pool_images.specs.Images.{Image, start}
 pub use Rattle.pool_images.specs.Slots.{HasColour, IsBegun, IsClean, IsReady, IsSized, IsSlot, IsSound, OnlyExposed, Slot, SlotIdentity, called, identity, limited, name_of, raised, resized, size_of, written_at}
 pub use Rattle.pool_limits.proofs.Ruled.{allowed_failed, allowed_grown, allowed_past, ruled_error, ruled_no, ruled_nothing, ruled_past_type, ruled_yes, unasked}
-pub use Rattle.pool_limits.specs.Exchanges.{Exchange, Exchanged, GrowthQuestion, has_failed, may_grow, question_of}
-pub use Rattle.pool_limits.specs.Growing.{AllowedMakes, GrowthGiven, IsRuled, Obstacles, allowed_result, answer_result, growth_exchanges, is_want_of_memory, report_result, report_seen, result_by}
-pub use Rattle.pool_limits.specs.Growth.{memory_answer, memory_failure}
-pub use Rattle.pool_limits.specs.LimiterTold.{LimiterTold, after_answer, after_report}
+pub use Rattle.pool_limits.specs.Exchanges.{Exchange, Exchanged, GrowthQuestion, may_grow, question_of}
+pub use Rattle.pool_limits.specs.Growing.{AllowedMakes, GrowthGiven, IsReported, IsRuled, Obstacles, allowed_result, answer_result, growth_exchanges, report_result, result_by}
+pub use Rattle.pool_limits.specs.Growth.{memory_answer}
+pub use Rattle.pool_limits.specs.LimiterTold.{LimiterTold, after_answer}
 pub use Rattle.pool_limits.specs.declared.errors.GrowError.{GrowError}
 pub use Rattle.pool_limits.specs.declared.errors.GrowFault.{GrowFault}
 pub use Rattle.pool_limits.specs.declared.errors.LimiterError.{LimiterError}

@@ -1,11 +1,11 @@
--- What an input that can be run so far has: modules of memories whose sizes can be computed.
+-- What an input that can be run has: modules of memories whose sizes can be computed.
 use Rattle.std.proofs.Common.{◌≡◌, ◌≤◌, true}
-use Rattle.pool_run.proofs.Imports.{list_all, leb-true, second_true, MemoryDecl, ModuleInfo}
-use Rattle.pool_run.specs.Built.{is_built, is_built_offer, is_built_memory, is_built_module}
+use Rattle.pool_run.proofs.Imports.{list_all, leb-true, MemoryDecl, ModuleInfo}
+use Rattle.pool_run.specs.Built.{is_built, is_built_memory, is_built_module}
 use Rattle.pool_run.specs.declared.input.Input.{Input}
 
 pub built_modules : (input : Input) → is_built input ≡ true → list_all is_built_module input.modules ≡ true
-built_modules input built = second_true (is_built_offer input.offered) _ built
+built_modules input built = built
 
 pub built_memories : (m : ModuleInfo) → is_built_module m ≡ true → list_all is_built_memory m.memories ≡ true
 built_memories m built = built

@@ -20,7 +20,7 @@ use Rattle.pool_run.proofs.Stepped.{IsStepped, stepped}
 use Rattle.pool_alloc.proofs.StripesKept.{step_stripe}
 use Rattle.pool_run.proofs.Turning.{SeesTurn}
 
-no_keys : (s : Stage) → is_drawing s ≡ false → s ≡ keys → ⊥
+pub no_keys : (s : Stage) → is_drawing s ≡ false → s ≡ keys → ⊥
 no_keys s settled key = let wrong : true ≡ false = sym (ap is_drawing key) ∙ settled in absurd cc
 
 module _ {P : Type 0} where
@@ -142,7 +142,7 @@ module _ {P : Type 0} (maker : MakerTold) (c : PoolCore P PlainHeap) (p : Runnin
         | inr none ↦ let idle : is_idle p.frame.phase ≡ true = ap is_idle (fresh none).1 in not_both (is_idle p.frame.phase) idle busy
       ]
 
-  opens_keyed : (b : Bool) (modules : List ModuleAsked) (commands : List Command) (o : Opening P) → is_idle p.frame.phase ≡ b → OpensAt b modules commands p o → IsKeyed p o
+  pub opens_keyed : (b : Bool) (modules : List ModuleAsked) (commands : List Command) (o : Opening P) → is_idle p.frame.phase ≡ b → OpensAt b modules commands p o → IsKeyed p o
   opens_keyed true modules commands o idle opens = next_keyed modules (slice_get commands p.done) p.keyed o refl opens
   opens_keyed false modules commands o busy opens = subst (IsKeyed p) (sym opens) (drawn ∙ sym (ap not (busy_keyed busy)))
 

@@ -90,11 +90,12 @@ pub use Rattle.pool_alloc.specs.declared.leases.element.Element.{Element}
 pub use Rattle.pool_hall.specs.declared.unit_name.SlotKind.{SlotKind}
 pub use Rattle.pool_hall.specs.declared.unit_name.SlotKind.TheVariants.{Heap as heap_kind, Memory as memory_kind, Stack as stack_kind, Table as table_kind}
 pub use Rattle.pool_images.proofs.Begun.{rounded_up_above}
-pub use Rattle.pool_images.proofs.Identity.{same_called, same_faulted, told_same}
+pub use Rattle.pool_images.proofs.Identity.{like_restored, same_called, same_faulted, told_same}
 pub use Rattle.pool_images.proofs.PageSizes.{rounded_is_whole}
 pub use Rattle.pool_images.proofs.Sizes.{rounded_up_more}
 pub use Rattle.pool_images.specs.Images.{Image, ends_in_minimum, first_misplaced, image_of, images_from, makes_listed_images, padded, start}
-pub use Rattle.pool_images.specs.Orders.{failed as call_failed, outcome, removing, replacing, resetting, resizing, set_by_hand, wiping}
+pub use Rattle.pool_images.specs.Orders.{failed as call_failed, outcome, removing, replacing, resetting, resizing, wiping}
+pub use Rattle.pool_images.specs.Resets.{given_marks, pages_by_hand, told_by_hand}
 pub use Rattle.pool_images.specs.Slots.{CallFaulted, FitsInto, HasImage, IsBegun, IsLeft, IsSound, Slot, SlotIdentity, coloured, forgotten, hides, identity, image_bytes, limited, name_of, raised, raising, replaced, reused, size_of}
 pub use Rattle.pool_images.specs.declared.image_slot.ImageName.{ImageName}
 pub use Rattle.pool_images.specs.declared.memory_image.ImageError.{ImageError}

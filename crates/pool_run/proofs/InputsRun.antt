@@ -13,7 +13,8 @@ use Rattle.pool_run.specs.PartyRules.{host_for}
 use Rattle.pool_run.specs.Private.{IsPrivateRun}
 use Rattle.pool_run.specs.PrivateTables.{Host}
 use Rattle.pool_run.specs.Turns.{host_of_party}
-use Rattle.pool_run.specs.Rooms.{World, world_at, IsPooledRun}
+use Rattle.pool_run.specs.Exact.{IsExactRun}
+use Rattle.pool_run.specs.Rooms.{World, world_at}
 use Rattle.pool_run.specs.Progress.{IsRunOf}
 use Rattle.pool_run.specs.Runs.{AreInTime, Performs, IsToldBy, IsMadeRun, IsRun, world_of, world_seen, stripe_of, HoldsFromStart}
 use Rattle.pool_run.specs.RunsMade.{Background, commands_in, party_made, party_made_for, parties_made, nothing_told, places_in}
@@ -30,10 +31,11 @@ use Rattle.pool_run.specs.declared.output.RunOutput.{RunOutput}
 use Rattle.pool_run.specs.declared.reply.Reply.{Reply}
 use Rattle.pool_run.specs.declared.running_party.RunningParty.{RunningParty}
 use Rattle.pool_run.proofs.Ended.{folds_count, run_count, all_replied}
-use Rattle.pool_run.proofs.Folding.{folds_on, folds_under_way, run_under_way, replies_pooled, replies_private}
+use Rattle.pool_run.proofs.Folding.{folds_on, folds_under_way, run_under_way, replies_private}
 use Rattle.pool_run.proofs.InTime.{Within, StepTo, folds_step, come_in_time}
 use Rattle.pool_run.proofs.RunMade.{are_made}
 use Rattle.pool_run.proofs.Started.{run_started}
+use Rattle.pool_run.proofs.StripesOfRuns.{AreInStripes, folds_in_stripes, new_in_stripes, told_exactly}
 use Rattle.pool_run.proofs.Valid.{valid_parties, valid_home, few_commands, valid_commands, valid_entry}
 use Rattle.pool_run.proofs.BuiltInputs.{built_modules}
 use Rattle.pool_run.proofs.MadeRuns.{core_sound}
@@ -147,6 +149,11 @@ module _ {P : Type 0} where
   performed_under_way true w modules inputs schedule s end way runs = (run_under_way w modules inputs schedule s end way runs, run_count modules inputs schedule s end runs)
   performed_under_way false w modules inputs schedule s end way folds = (folds_under_way w modules inputs schedule s end way folds, folds_count modules inputs schedule s end folds)
 
+  -- Its parties are in their stripes at its end.
+  performed_in_stripes : (finish : Bool) (w : World) (modules : List ModuleAsked) (inputs : List (List Command)) (schedule : List ℕ) (s end : RunState P) → AreInStripes w modules inputs s → Performs finish modules inputs schedule s end → AreInStripes w modules inputs end
+  performed_in_stripes true w modules inputs schedule s end are runs = folds_in_stripes w modules inputs (party_by_party 0 runs.finishes.counts) runs.scheduled end (folds_in_stripes w modules inputs schedule s runs.scheduled are runs.folds) runs.finishes.folds
+  performed_in_stripes false w modules inputs schedule s end are folds = folds_in_stripes w modules inputs schedule s end are folds
+
   -- what holds of the stripe of party i
   at_stripe : (Q : ℕ → Type 0) (parties : List (RunningParty P)) (i : ℕ) (d : RunningParty P) → i < length parties → Q (slice_index_or parties i d).frame.stripe → Q (stripe_of (slice_get parties i))
   at_stripe Q parties i d inside is = subst Q (sym (ap stripe_of (slice_get-get_or parties i d inside))) is
@@ -167,6 +174,12 @@ module _ {P : Type 0} where
       let nobody : Party = record { home = 0; limits = None; gc_faults = []; heap_faults = []; commands = [] } in
       let one : slice_index_or (parties_made s given) i d ≡ party_made_for s (slice_index_or given i nobody) = get_or-map (party_made_for {P = P} s) given i nobody d below in
       ap (λ (ps : List (RunningParty P)). is_idle (slice_index_or ps i d).frame.phase) made ∙ ap (λ (p : RunningParty P). is_idle p.frame.phase) one
+
+  made_keyless : (s : Settings) (given : List Party) (parties : List (RunningParty P)) (i : ℕ) (d : RunningParty P) → parties ≡ parties_made s given → i < length given → (slice_index_or parties i d).keyed ≡ false
+  made_keyless s given parties i d made below =
+      let nobody : Party = record { home = 0; limits = None; gc_faults = []; heap_faults = []; commands = [] } in
+      let one : slice_index_or (parties_made s given) i d ≡ party_made_for s (slice_index_or given i nobody) = get_or-map (party_made_for {P = P} s) given i nobody d below in
+      ap (λ (ps : List (RunningParty P)). (slice_index_or ps i d).keyed) made ∙ ap (λ (p : RunningParty P). p.keyed) one
 
   -- From its start on, whatever turns come first and whatever turns come then: each party has its replies in time in those.
   pub replies_in_time : (input : Input) (maker : MakerTold) → IsRunnable input maker → (run : RunParts P) → IsMadeRun input maker run → (first turns : List ℕ) (s end : RunState P) → Folds run.modules (commands_in input.parties) first (told_state run (nothing_told input.parties)) s → Folds run.modules (commands_in input.parties) turns s end → AreInTime input run.core turns s.replies end.replies
@@ -212,12 +225,15 @@ module _ {P : Type 0} where
             let Told : List (List Reply) → Type 0 = λ rs. IsToldBy input.finish (world_seen input maker end.parties i).terms (commands_of (commands_in input.parties) i) (replies_to i rs) in
             subst Told (sym replies) (told_by input.finish w run.modules (commands_in input.parties) (turns_of input.schedule) (told_state run (nothing_told input.parties)) end i (party_made 0 None [] [] run.core.settings 0) (made_under_way input maker run runnable made) performed (omega (arith, below, made_count input maker run made)));
         room = λ i below.
-            let ended = performed_under_way input.finish w run.modules (commands_in input.parties) (turns_of input.schedule) (told_state run (nothing_told input.parties)) end (made_under_way input maker run runnable made) performed in
-            let Told : List (List Reply) → Type 0 = λ rs. IsPooledRun (world_seen input maker end.parties i) (commands_of (commands_in input.parties) i) (replies_to i rs) in
-            let inside : i < length end.parties = omega (arith, below, made_count input maker run made, ended.1) in
+            let start : RunState P = told_state run (nothing_told input.parties) in
+            let d : RunningParty P = party_made 0 None [] [] run.core.settings 0 in
+            let are : AreInStripes w run.modules (commands_in input.parties) end =
+            performed_in_stripes input.finish w run.modules (commands_in input.parties) (turns_of input.schedule) start end (new_in_stripes w run.modules (commands_in input.parties) start (made_under_way input maker run runnable made) (λ k x inside. made_keyless run.core.settings input.parties run.parties k x made.parties (omega (arith, inside, made_count input maker run made)))) performed in
+            let Told : List (List Reply) → Type 0 = λ rs. IsExactRun (world_seen input maker end.parties i) (commands_of (commands_in input.parties) i) (replies_to i rs) in
+            let inside : i < length end.parties = omega (arith, below, made_count input maker run made, (performed_under_way input.finish w run.modules (commands_in input.parties) (turns_of input.schedule) start end (made_under_way input maker run runnable made) performed).1) in
             subst Told (sym replies)
-            (at_stripe (λ n. IsPooledRun (world_at w i n) (commands_of (commands_in input.parties) i) (replies_to i end.replies)) end.parties i (party_made 0 None [] [] run.core.settings 0) inside
-            (replies_pooled w run.modules (commands_in input.parties) end i (party_made 0 None [] [] run.core.settings 0) ended.0 inside));
+            (at_stripe (λ n. IsExactRun (world_at w i n) (commands_of (commands_in input.parties) i) (replies_to i end.replies)) end.parties i d inside
+            (told_exactly w run.modules (commands_in input.parties) end i d refl are inside));
         in_time = subst (AreInTime input run.core (turns_of input.schedule) (nothing_told input.parties)) (sym replies) (performed_in_time input.finish input maker run end runnable made performed);
         metrics = metrics;
         calls_made = numbers;

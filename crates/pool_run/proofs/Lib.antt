@@ -11,6 +11,7 @@ pub mod Cleared
 pub mod Counters
 pub mod Drawn
 pub mod Ended
+pub mod ExactRooms
 pub mod Exhausted
 pub mod Finishing
 pub mod Folding
@@ -38,8 +39,10 @@ pub mod Opened
 pub mod Operations
 pub mod OtherReplies
 pub mod OwnRefusals
+pub mod OwnStripes
 pub mod Parties
 pub mod Pending
+pub mod PlacedSlots
 pub mod Placing
 pub mod Requests
 pub mod Reserving
@@ -57,6 +60,7 @@ pub mod SameTables
 pub mod SameTurns
 pub mod ServedReplies
 pub mod SlotKinds
+pub mod SlotWeights
 pub mod SlotsBelow
 pub mod SlotsMade
 pub mod Sounds
@@ -67,6 +71,7 @@ pub mod StepsLeft
 pub mod Started
 pub mod Stepped
 pub mod StripeSlots
+pub mod StripesOfRuns
 pub mod TableChanges
 pub mod TableKept
 pub mod TablesBegun

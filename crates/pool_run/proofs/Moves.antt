@@ -1,6 +1,6 @@
 -- What a move makes of a memory is what it makes of the private one, and the memory stays in its slot.
 use Rattle.std.proofs.Common.{◌≡◌, ℕ, ◌+◌, ◌<◌, ◌≤◌, Bool, true, false, List, length, Option, refl, sym, ap, ◌∙◌, subst, inl, inr, nat_le, nat_lt, if◌then◌else◌, IfSome}
-use Rattle.pool_run.proofs.Imports.{leb-true, leb-false, written, rounded_up, MakerTold, plan_for, memory_region, OnDemand, Slot, SlotIdentity, identity, raising, raised, limited, GrowthRule, GrowError, MemoryOutOfBounds, InPlace, FailsInPlace, grown_size, Storage, in_slot, stored, slot_in, storage_written, Linear, MemoryState, bytes_of, slot_of, state_written, Lease, IsLeaseOf, IsPoolSlot, Plan, Settings, told_same, same_called, same_faulted, IsOneSlot, slot_of_one, memory_slots}
+use Rattle.pool_run.proofs.Imports.{static_capacity, maximum_asked, MemoryType, leb-true, leb-false, written, rounded_up, MakerTold, plan_for, memory_region, OnDemand, Slot, SlotIdentity, identity, raising, raised, limited, GrowthRule, GrowError, MemoryOutOfBounds, InPlace, FailsInPlace, grown_size, Storage, in_slot, stored, slot_in, storage_written, Linear, MemoryState, bytes_of, slot_of, state_written, Lease, IsLeaseOf, IsPoolSlot, Plan, Settings, told_same, same_called, same_faulted, IsOneSlot, slot_of_one, memory_slots}
 use Rattle.pool_limits.specs.declared.errors.GrowError.TheVariants.{PageFault}
 use Rattle.pool_run.specs.Private.{PrivateMemory, Writes, GrowthEnd, as_it_was, could_not, has_grown, growth, left_of, grown_by}
 use Rattle.pool_run.specs.Turns.{seen_as, private_memory, MemoryWrites, GrowthLeaves, MemoryGrows, MovesLease}
@@ -10,9 +10,15 @@ use Rattle.pool_run.proofs.Bytes.{written_seen}
 use Rattle.pool_run.proofs.Growths.{growth_decided}
 use Rattle.pool_alloc.proofs.HeldSlots.{held_name, held_plan}
 
--- a move leaves the memory in its slot
+-- The memory is still in the lease's slot, may have as many bytes as before, and is of the same type.
+pub record StaysIn (maker : MakerTold) (s : Settings) (l : Lease) (new : MemoryState) : Type 0 where
+  pub slot : IsPoolSlot maker s l.index (slot_of new)
+  pub capacity : new.linear.capacity ≡ l.memory.linear.capacity
+  pub ty : new.ty ≡ l.memory.ty
+
+-- a move leaves the memory so
 abbrev pub KeepsSlot : MakerTold → Settings → Plan → (MemoryState → MemoryState → Reply → Type 0) → Type 0
-KeepsSlot maker s plan Moves = (l : Lease) (new : MemoryState) (reply : Reply) → IsLeaseOf maker s plan l → Moves l.memory new reply → IsPoolSlot maker s l.index (slot_of new)
+KeepsSlot maker s plan Moves = (l : Lease) (new : MemoryState) (reply : Reply) → IsLeaseOf maker s plan l → Moves l.memory new reply → StaysIn maker s l new
 
 -- and is one of the private memory
 abbrev pub IsSeen : MakerTold → Settings → Plan → (MemoryState → MemoryState → Reply → Type 0) → (PrivateMemory → PrivateMemory → Reply → Type 0) → Type 0
@@ -24,7 +30,14 @@ lease_still maker s plan Moves l new reply keeps of moves =
     let S : ℕ → Type 0 = λ k. IsPoolSlot maker s k (slot_of new.memory) in
     let Inside : ℕ → Type 0 = λ k. k < memory_slots plan in
     let index : new.index ≡ l.index = ap (λ (x : Lease). x.index) moves.same in
-    record { inside = subst Inside (sym index) of.inside; slot = subst S (sym index) (keeps l new.memory reply of moves.move); memory = moves.memory }
+    let stays : StaysIn maker s l new.memory = keeps l new.memory reply of moves.move in
+    let Room : ℕ → MemoryType → Type 0 = λ n ty. n ≤ static_capacity s.max_memory_size (maximum_asked ty) in
+    record {
+      inside = subst Inside (sym index) of.inside;
+      slot = subst S (sym index) stays.slot;
+      memory = moves.memory;
+      room = subst (λ (n : ℕ). Room n new.memory.ty) (sym stays.capacity) (subst (Room l.memory.linear.capacity) (sym stays.ty) of.room);
+    }
 
 -- a write leaves the slot
 written_still : (i : ℕ) (new : List ℕ) (st : Storage) → IsOneSlot (slot_in st) (slot_in (storage_written i new st))
@@ -32,17 +45,17 @@ written_still i new (stored len bytes) = refl
 written_still i new (in_slot s) = ap (λ (b : Bool). record (identity s) { tells = b }) (told_same (written (s.base.bytes + i) new) s.region.contents)
 
 writes_by : (maker : MakerTold) (settings : Settings) (i : ℕ) (bytes : List ℕ) (l : Lease) (new : MemoryState) (reply : Reply) (b : Bool) → IsPoolSlot maker settings l.index (slot_of l.memory) → nat_le (i + length bytes) l.memory.linear.size ≡ b → ◌≡◌ {A = MemoryState × Reply} (new, reply) (if b then (state_written i bytes l.memory, Done) else (l.memory, Trap MemoryOutOfBounds))
-    → IsPoolSlot maker settings l.index (slot_of new) × Writes i bytes (private_memory l) (seen_as l.index new) reply
+    → StaysIn maker settings l new × Writes i bytes (private_memory l) (seen_as l.index new) reply
 writes_by maker settings i bytes l new reply true of fits is =
-    let W : MemoryState × Reply → Type 0 = λ p. IsPoolSlot maker settings l.index (slot_of p.0) × Writes i bytes (private_memory l) (seen_as l.index p.0) p.1 in
+    let W : MemoryState × Reply → Type 0 = λ p. StaysIn maker settings l p.0 × Writes i bytes (private_memory l) (seen_as l.index p.0) p.1 in
     let within : i + length bytes ≤ l.memory.linear.size = leb-true (i + length bytes) l.memory.linear.size fits in
     subst W (sym is) (
-      slot_of_one maker settings l.index (slot_of l.memory) (slot_of (state_written i bytes l.memory)) (written_still i bytes l.memory.linear.storage) of,
+      record { slot = slot_of_one maker settings l.index (slot_of l.memory) (slot_of (state_written i bytes l.memory)) (written_still i bytes l.memory.linear.storage) of; capacity = refl; ty = refl },
       (within, written_seen i bytes l (ap (λ (z : SlotIdentity). z.base.bytes) of.same) within),
     )
 writes_by maker settings i bytes l new reply false of past is =
-    let W : MemoryState × Reply → Type 0 = λ p. IsPoolSlot maker settings l.index (slot_of p.0) × Writes i bytes (private_memory l) (seen_as l.index p.0) p.1 in
-    subst W (sym is) (of, (refl, leb-false (i + length bytes) l.memory.linear.size past, refl))
+    let W : MemoryState × Reply → Type 0 = λ p. StaysIn maker settings l p.0 × Writes i bytes (private_memory l) (seen_as l.index p.0) p.1 in
+    subst W (sym is) (record { slot = of; capacity = refl; ty = refl }, (refl, leb-false (i + length bytes) l.memory.linear.size past, refl))
 
 pub writes_stay : (maker : MakerTold) (s : Settings) (plan : Plan) (i : ℕ) (bytes : List ℕ) → KeepsSlot maker s plan (MemoryWrites i bytes)
 writes_stay maker s plan i bytes l new reply of is = (writes_by maker s i bytes l new reply (nat_le (i + length bytes) l.memory.linear.size) of.slot refl is).0
@@ -102,8 +115,22 @@ module _ (maker : MakerTold) (settings : Settings) (size : ℕ) (l : Lease) (of 
         may = λ wrong. absurd cc;
       }
 
+-- a growth changes neither the capacity nor the type
+left_same : (end : GrowthEnd) (size : ℕ) (m : PrivateMemory) → ((left_of end size m).capacity ≡ m.capacity) × ((left_of end size m).ty ≡ m.ty)
+left_same as_it_was size m = (refl, refl)
+left_same could_not size m = (refl, refl)
+left_same has_grown size m = (refl, refl)
+
 pub grows_stay : (maker : MakerTold) (s : Settings) (plan : Plan) (rule : GrowthRule) (pages : ℕ) → KeepsSlot maker s plan (MemoryGrows rule pages)
-grows_stay maker s plan rule pages l new reply of is = (left_seen maker s (grown_size pages l.memory) l of.slot (growth rule is.0 pages (seen_as 0 l.memory)).0 new is.2).still
+grows_stay maker s plan rule pages l new reply of is =
+    let end : GrowthEnd = (growth rule is.0 pages (seen_as 0 l.memory)).0 in
+    let left = left_seen maker s (grown_size pages l.memory) l of.slot end new is.2 in
+    let same = left_same end (grown_size pages l.memory) (private_memory l) in
+    record {
+      slot = left.still;
+      capacity = ap (λ (m : PrivateMemory). m.capacity) left.seen ∙ same.0;
+      ty = ap (λ (m : PrivateMemory). m.ty) left.seen ∙ same.1;
+    }
 
 -- a growth as it is seen, in which a call fails only where the plan of the slot's region lists one
 abbrev pub GrowsSeen : MakerTold → GrowthRule → ℕ → PrivateMemory → PrivateMemory → Reply → Type 0

@@ -1,7 +1,7 @@
 -- A step of a call has one outcome, where the maker tells what its regions hold and which of their calls fail, and there is
 -- memory for what is asked.
 use Rattle.std.proofs.Common.{◌≡◌, ℕ, ◌<◌, Bool, true, false, List, [], ◌∷◌, length, Option, Some, None, IsSome, Result, inl, inr, refl, sym, ap, ◌∙◌, subst, arith, is_some, ◌||◌, if◌then◌else◌, IfSome, not, slice_get}
-use Rattle.pool_run.proofs.Imports.{kept_of, list_any, is_there, rounded_up, MakerTold, minimum_byte_size, DecommitBehavior, Zero, RestoreOriginalMapping, Image, wiping, resizing, replacing, resetting, removing, set_by_hand, Slot, hides, reused, replaced, forgotten, GrowthRule, HeapsTold, HeapMakeFault, ListedHeaps, PartyTold, MakesHeap, LimiterError, minimum_asked, maximum_asked, slot_of, Queue, is_to_zero, QueuedRange, MakesOf, Empties, Resets, InstantiatesAs, InstantiatesFor, FollowsPlan, FollowsPlanFor, FollowsReset, AsksForMemory, FlushTold, FlushPlanned, MayBeTold, IsPlanned, AsksOf, RemovesImage, DecommitsWhole, Forgets, FollowsForget, Drains, FollowsDrain, Lease, slot_taken, FlushStep, run, zero_by_hand, put, free, flush_step, kind_settled, settled_step, some_queued, paged, make_memory_row, make_table_row, make_heap_row, was_reset, flush_row, row_of, IsFrame, IsShapedAt, HasSlot, MayHold, IsDraining, CanStep, StepGiven, memories_wanted, tables_wanted, image_wanted, AsksForTable, type_maximum, SlotKind, memory_kind, FreedSlot, After, Row, goes, failing, stepped, Frame, Phase, Idle, Validate, TestHeap, MakeHeap, Empty, Instantiate, MakeMemory, MakeTable, PutBack, Reset, Flush, Purge, Release, TakenSlot, SlotName, cell_of, Cell, unknown, previously_used, All-get_or, ReleaseCursor, ImageSlot, PlainHeap, known_after, after_forgetting, after_decommit, Settings, decommitting, PoolCore}
+use Rattle.pool_run.proofs.Imports.{kept_of, list_any, is_there, rounded_up, MakerTold, minimum_byte_size, DecommitBehavior, Zero, RestoreOriginalMapping, Image, wiping, resizing, replacing, resetting, removing, told_by_hand, given_marks, pages_by_hand, like_restored, Slot, SlotIdentity, hides, reused, replaced, forgotten, GrowthRule, HeapsTold, HeapMakeFault, ListedHeaps, PartyTold, MakesHeap, LimiterError, minimum_asked, maximum_asked, slot_of, Queue, is_to_zero, QueuedRange, MakesOf, Empties, Resets, InstantiatesAs, InstantiatesFor, FollowsPlan, FollowsPlanFor, FollowsReset, AsksForMemory, FlushTold, FlushPlanned, MayBeTold, IsPlanned, AsksOf, RemovesImage, DecommitsWhole, Forgets, FollowsForget, Drains, FollowsDrain, Lease, slot_taken, FlushStep, run, zero_by_hand, put, free, flush_step, kind_settled, settled_step, some_queued, paged, make_memory_row, make_table_row, make_heap_row, was_reset, flush_row, row_of, IsFrame, IsShapedAt, HasSlot, MayHold, IsDraining, CanStep, StepGiven, memories_wanted, tables_wanted, image_wanted, AsksForTable, type_maximum, SlotKind, memory_kind, FreedSlot, After, Row, goes, failing, stepped, Frame, Phase, Idle, Validate, TestHeap, MakeHeap, Empty, Instantiate, MakeMemory, MakeTable, PutBack, Reset, Flush, Purge, Release, TakenSlot, SlotName, cell_of, Cell, unknown, previously_used, All-get_or, ReleaseCursor, ImageSlot, PlainHeap, known_after, after_forgetting, after_decommit, Settings, decommitting, PoolCore}
 use Rattle.pool_images.specs.Orders.{Follows}
 use Rattle.pool_slots.specs.declared.errors.AllocError.TheVariants as refusal
 use Rattle.pool_alloc.specs.declared.frame.Object.TheVariants as object
@@ -73,21 +73,24 @@ module _ (initial : ℕ) (hide : Bool) (image : Option Image) (old : Slot) (tell
       instantiated_by a b new other (not_same a b both.0) both.1 one two
 
 -- and one that is reset
-set_planned : (behaviour : DecommitBehavior) (keep : ℕ) (s : Slot) → IsSome s.region.plan → IsSome (set_by_hand behaviour keep s).plan
-set_planned RestoreOriginalMapping keep s planned = planned
-set_planned Zero keep s planned = planned
+set_planned : (marks : Option (List Bool)) (behaviour : DecommitBehavior) (keep : ℕ) (s : Slot) → IsSome s.region.plan → IsSome (told_by_hand marks behaviour keep s).plan
+set_planned None RestoreOriginalMapping keep s planned = planned
+set_planned (Some marks) RestoreOriginalMapping keep s planned =
+    subst (λ (x : SlotIdentity). IsSome x.plan) (sym (like_restored s.base.bytes (pages_by_hand s.region.page keep marks) false s).same) planned
+set_planned None Zero keep s planned = planned
+set_planned (Some marks) Zero keep s planned = planned
 
-reset_by : (a b : Bool) (keep : ℕ) (at : TakenSlot) (old new other : Slot) → a ≡ b → new.region ≡ other.region → Resets a keep at old new → Resets b keep at old other → IsSameSlot a b new other
-reset_by true true keep at old new other same region one two = record { fault = refl; left = λ e. forgotten_same old new other one.1 two.1 region; is = λ e. absurd cc }
-reset_by false false keep at old new other same region one two = record { fault = refl; left = λ e. absurd cc; is = λ e. one.0 ∙ sym two.0 }
-reset_by true false keep at old new other same region one two = absurd cc
-reset_by false true keep at old new other same region one two = absurd cc
+reset_alike : (a b offered : Bool) (keep : ℕ) (at : TakenSlot) (old new other : Slot) → a ≡ b → new.region ≡ other.region → Resets a offered keep at old new → Resets b offered keep at old other → IsSameSlot a b new other
+reset_alike true true offered keep at old new other same region one two = record { fault = refl; left = λ e. forgotten_same old new other one.1 two.1 region; is = λ e. absurd cc }
+reset_alike false false offered keep at old new other same region one two = record { fault = refl; left = λ e. absurd cc; is = λ e. one.0 ∙ sym two.0 }
+reset_alike true false offered keep at old new other same region one two = absurd cc
+reset_alike false true offered keep at old new other same region one two = absurd cc
 
-reset_same : (a b : Bool) (keep : ℕ) (at : TakenSlot) (old new other : Slot) → IsSome old.region.plan → Resets a keep at old new → Resets b keep at old other → FollowsReset keep a old new → FollowsReset keep b old other → IsSameSlot a b new other
-reset_same a b keep at old new other planned one two way also =
+reset_same : (a b offered : Bool) (keep : ℕ) (at : TakenSlot) (old new other : Slot) → IsSome old.region.plan → Resets a offered keep at old new → Resets b offered keep at old other → FollowsReset offered keep a old new → FollowsReset offered keep b old other → IsSameSlot a b new other
+reset_same a b offered keep at old new other planned one two way also =
     let by : DecommitBehavior = old.region.behaviour in
-    let both = follow_same (resetting by old) (not a) (not b) (set_by_hand by keep old) new.region other.region (set_planned by keep old planned) way also in
-    reset_by a b keep at old new other (not_same a b both.0) both.1 one two
+    let both = follow_same (resetting by old) (not a) (not b) (told_by_hand (given_marks offered old) by keep old) new.region other.region (set_planned (given_marks offered old) by keep old planned) way also in
+    reset_alike a b offered keep at old new other (not_same a b both.0) both.1 one two
 
 -- a queue has ranges where they are decommitted
 abbrev is_run : FlushStep → Bool
@@ -264,7 +267,7 @@ module _ {P : Type 0} (maker : MakerTold) (tells : maker.tells ≡ true) (planne
       ap (λ (r : Result Bool LimiterError). make_table_row r at region c bare) same)
   row_same g h (Reset (object.Memory lease)) test shape one two =
       was_reset_same c bare g.fault h.fault lease g.slot h.slot
-      (reset_same g.fault h.fault c.settings.keep_resident.bytes (slot_taken lease) (slot_of lease.memory) g.slot h.slot (slot_planned maker c.settings lease.index (slot_of lease.memory) planned shape.2.slot) one.told two.told one.plan two.plan)
+      (reset_same g.fault h.fault c.settings.dirty_pages c.settings.keep_resident.bytes (slot_taken lease) (slot_of lease.memory) g.slot h.slot (slot_planned maker c.settings lease.index (slot_of lease.memory) planned shape.2.slot) one.told two.told one.plan two.plan)
   row_same g h Flush test shape one two = flushed_same (flush_step f.local f.freed.items) g h refl one.told two.told one.plan two.plan
   row_same g h (Purge p (purging.Forget at held)) test shape one two =
       ap (λ (x : ImageSlot P). record { part = c; frame = bare; turn = goes (Purge p (purging.PutRegion at x)) })

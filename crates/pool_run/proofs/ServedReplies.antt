@@ -1,9 +1,10 @@
 -- What a party's private run says of a request that may be granted and isn't refused for room: it is served.
-use Rattle.std.proofs.Common.{◌≡◌, ℕ, zero, suc, ◌+◌, ◌==◌, Bool, true, false, List, [], ◌∷◌, Option, Some, None, refl, sym, ap, ◌∙◌, subst, inl, inr, arith, if◌then◌else◌, slice_get}
+use Rattle.std.proofs.Common.{◌≡◌, ℕ, zero, suc, ◌+◌, ◌==◌, true, false, List, [], ◌∷◌, Option, Some, None, refl, sym, ap, ◌∙◌, subst, inl, inr, arith, if◌then◌else◌, slice_get}
 use Rattle.pool_slots.specs.declared.errors.AllocError.TheVariants as alloc
 use Rattle.pool_alloc.specs.UnhinderedRequests.{is_for_room}
 use Rattle.pool_run.proofs.Imports.{nat_tests, AllocError, ComponentInfo, Fibers, Limits, MemoryType, Unsupported, Want, component_refused, new_memory, new_table, no_component_left}
 use Rattle.pool_run.specs.Acts.{Act, requests, act_of, Wanted, an_instance, a_component, a_stack, a_heap, heap_type}
+pub use Rattle.pool_run.specs.Exact.{refuses_for_room}
 use Rattle.pool_run.specs.Private.{Grants, Terms, GivenRefusal, no_memory, no_instance, no_slot, page_fault, IsRefused, IsHeapRefused, HeapRefusal, RefusesHeap, Instantiates, AsksForComponent, AsksForStack, AsksForHeap, Requests, Moves, PrivateState, StepsBy, IsComponentRefused, first_refusal, heap_barred, heap_memory, heap_refusal, limit_for, no_heap_left, refused_as, request_of, wants_of}
 use Rattle.pool_run.specs.Rooms as rooms
 use Rattle.pool_run.specs.Rooms.{World, PooledStep, TellsOfPool, SomeMayFault}
@@ -12,11 +13,6 @@ use Rattle.pool_run.specs.declared.command.Command.{Command}
 use Rattle.pool_run.specs.declared.reply.Reply.{Reply}
 use Rattle.pool_run.specs.declared.reply.Reply.TheVariants.{Instance, Component, Stack, Heap, Refused}
 use Rattle.pool_run.specs.declared.reply.Refusal.TheVariants.{Alloc}
-
--- The reply is a refusal for room.
-abbrev pub refuses_for_room : Reply → Bool
-refuses_for_room (Refused (Alloc e)) = is_for_room e
-refuses_for_room _ = false
 
 -- What a party's run says of a request that may be granted and isn't refused for room: it is served.
 module _ (u : World) where

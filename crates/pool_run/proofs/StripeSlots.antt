@@ -24,7 +24,7 @@ is_one : (a : Allocator) (k : ℕ) → has_number a k ≡ true → has_one k a �
 is_one a k has = rw has refl
 
 -- a share that is rounded up has each place before what it shares
-below_share : (n k j : ℕ) → 0 < k → j * k < n → j < div_ceil n k
+pub below_share : (n k j : ℕ) → 0 < k → j * k < n → j < div_ceil n k
 below_share n k j some before =
     elim (cases_lt j (div_ceil n k)) [
       | inl inside ↦ inside

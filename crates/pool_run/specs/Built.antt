@@ -1,6 +1,6 @@
--- The inputs that can be run so far, and the rule that their settings break.
-use Rattle.std.specs.Prelude.{◌&&◌, not, nat_le, Bool, Option}
-use Rattle.pool_run.specs.Imports.{list_all, first_broken_rule, BadConfig, MemoryDecl, ModuleInfo, Offered}
+-- The inputs that can be run, and the rule that their settings break.
+use Rattle.std.specs.Prelude.{nat_le, Bool, Option}
+use Rattle.pool_run.specs.Imports.{list_all, first_broken_rule, BadConfig, MemoryDecl, ModuleInfo}
 use Rattle.pool_run.specs.declared.input.Input.{Input}
 
 -- a memory whose own pages are of 64 KiB at most
@@ -11,13 +11,9 @@ is_built_memory decl = nat_le decl.ty.page_size_log2 16
 abbrev pub is_built_module : ModuleInfo → Bool
 is_built_module m = list_all is_built_memory m.memories
 
--- no marks of dirty pages are offered
-abbrev pub is_built_offer : Offered → Bool
-is_built_offer offered = not offered.dirty_pages
-
--- such an offer, and such modules
+-- its modules are such
 abbrev pub is_built : Input → Bool
-is_built input = is_built_offer input.offered && list_all is_built_module input.modules
+is_built input = list_all is_built_module input.modules
 
 -- the first of the rules of its settings that is broken
 abbrev pub broken_rule : Input → Option BadConfig

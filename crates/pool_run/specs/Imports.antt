@@ -69,7 +69,7 @@ pub use Rattle.pool_slots.specs.SlotNames.{of_kind}
 pub use Rattle.pool_slots.specs.declared.errors.AllocError.{AllocError}
 pub use Rattle.pool_slots.specs.declared.errors.AllocError.TheVariants.{HeapFault}
 pub use Rattle.pool_slots.specs.declared.errors.ConcurrencyKind.{ConcurrencyKind}
-pub use Rattle.pool_slots.specs.declared.errors.ConcurrencyKind.TheVariants.{CoreInstances, Fibers, GcHeaps, MemoryStripe, Tables}
+pub use Rattle.pool_slots.specs.declared.errors.ConcurrencyKind.TheVariants.{ComponentInstances, CoreInstances, Fibers, GcHeaps, MemoryStripe, Tables}
 pub use Rattle.pool_slots.specs.declared.listed_heaps.ListedHeaps.{ListedHeaps}
 pub use Rattle.pool_slots.specs.declared.listed_heaps.PlainHeap.{PlainHeap}
 pub use Rattle.pool_slots.specs.declared.plan.Plan.{Plan}

@@ -3,6 +3,7 @@ pub mod Agreeing
 pub mod AtOnce
 pub mod Bounds
 pub mod Built
+pub mod Exact
 pub mod FirstTurns
 pub mod Folds
 pub mod GrowthEnds
@@ -11,6 +12,7 @@ mod Imports
 pub mod InTime
 pub mod Limits
 pub mod Made
+pub mod Needs
 pub mod Numbers
 pub mod Objects
 pub mod PartyRules

@@ -3,13 +3,14 @@
 use Rattle.std.specs.Prelude.{◌++◌, ◌≡◌, ℕ, ◌<◌, ◌&&◌, ◌||◌, ◌==◌, List, [], ◌∷◌, ◌+◌, length, map, slice_get, nat_lt, if◌then◌else◌, ◌⊎◌, Bool, true, false, Option, Some, None, IfSome}
 use Rattle.pool_run.specs.Imports.{Any, list_any, range_with_len, rounded_up, failing_maker, planned_faults, MakerTold, Planned, calls_of, fails_making, plan_for, slab_stripes, Told, Rose, BrokenRule, RegionName, memory_region, table_region, stack_region, ModuleInfo, Tunables, makes_listed_images, IsMadeCore, settings_of, metrics_of, ModuleAsked, PlainHeap, PoolCore, sizes_of}
 use Rattle.pool_run.specs.Bounds.{IsInTime, own_turns}
+use Rattle.pool_run.specs.Exact.{IsExactRun}
 use Rattle.pool_run.specs.Folds.{RunParts, RunState, HoldsThroughout, Folds, Runs, commands_of, replies_to, told_state}
 use Rattle.pool_run.specs.Made.{calls_made}
 use Rattle.pool_run.specs.Numbers.{calls_of_run}
 use Rattle.pool_run.specs.PartyRules.{host_for}
 use Rattle.pool_run.specs.PrivateTables.{Host}
 use Rattle.pool_run.specs.Private.{Terms, has_images, IsPrivateRun, IsWholeRun}
-use Rattle.pool_run.specs.Rooms.{World, open_host, world_at, IsPooledRun}
+use Rattle.pool_run.specs.Rooms.{World, open_host, world_at}
 use Rattle.pool_run.specs.RunsMade.{commands_in, nothing_told, parties_made}
 use Rattle.pool_run.specs.Schedules.{turns_of}
 use Rattle.pool_run.specs.declared.command.Command.{Command}
@@ -132,7 +133,8 @@ AreInTime input c turns before after =
     (i : ℕ) → i < length input.parties → IsInTime (sizes_of c.settings c.plan) input.modules (commands_of (commands_in input.parties) i) (own_turns i turns) (replies_to i before) (replies_to i after)
 
 -- The output is that of a run of the input: the turns lead from the run as it is made to an end, of which the output
--- gives the replies and the numbers. The turns that the schedule has for a party bring it their replies in time.
+-- gives the replies and the numbers. The replies to each party tell exactly where there was room. The turns that the schedule has
+-- for a party bring it their replies in time.
 pub record IsRun (P : Type 0) (input : Input) (maker : MakerTold) (output : RunOutput) : Type 0 where
   pub start : RunParts P
   pub made : IsMadeRun input maker start
@@ -140,7 +142,7 @@ pub record IsRun (P : Type 0) (input : Input) (maker : MakerTold) (output : RunO
   pub performed : Performs input.finish start.modules (commands_in input.parties) (turns_of input.schedule) (told_state start (nothing_told input.parties)) end
   pub replies : output.replies ≡ end.replies
   pub told : (i : ℕ) → i < length input.parties → IsToldBy input.finish (world_seen input maker end.parties i).terms (commands_of (commands_in input.parties) i) (replies_to i output.replies)
-  pub room : (i : ℕ) → i < length input.parties → IsPooledRun (world_seen input maker end.parties i) (commands_of (commands_in input.parties) i) (replies_to i output.replies)
+  pub room : (i : ℕ) → i < length input.parties → IsExactRun (world_seen input maker end.parties i) (commands_of (commands_in input.parties) i) (replies_to i output.replies)
   pub in_time : AreInTime input start.core (turns_of input.schedule) (nothing_told input.parties) output.replies
   pub metrics : output.metrics ≡ metrics_of end.core
   pub calls_made : output.calls ≡ calls_of_run end.core end.parties

@@ -1,11 +1,12 @@
 -- Requests that nothing hinders: in which states a request of a party is one, and how it is answered then.
-use Rattle.std.specs.Prelude.{◌≡◌, ℕ, ◌+◌, ◌%◌, ◌==◌, ◌<◌, ◌≤◌, List, length, replicate, slice_get, slice_index_or, sum_by, true, Option, Some, None, IfSome}
-use Rattle.pool_run.specs.Imports.{one_if, component_refused, MakerTold, ModuleInfo, no_module, IsIdle}
+use Rattle.std.specs.Prelude.{◌≡◌, ℕ, ◌+◌, ◌<◌, ◌≤◌, List, length, replicate, slice_get, sum_by, true, Some, IfSome}
+use Rattle.pool_run.specs.Imports.{MakerTold, IsIdle}
 use Rattle.pool_slots.specs.declared.errors.AllocError.TheVariants as alloc
-use Rattle.pool_run.specs.Acts.{Wanted, an_instance, a_component, a_stack, a_heap, heap_type, requests, act_at}
+use Rattle.pool_run.specs.Acts.{Wanted, requests, act_at}
 use Rattle.pool_run.specs.Agreeing.{IsRunnable}
 use Rattle.pool_run.specs.Folds.{RunParts, RunState, Folds, commands_of, replies_to, told_state}
-use Rattle.pool_run.specs.Private.{PrivateGrant, Grants, Terms, memories_in_grant, stripe_slots, request_of, wants_of, first_refusal, heap_barred, heap_refusal}
+pub use Rattle.pool_run.specs.Needs.{in_one_stripe, stripe_count, memories_needed, tables_needed, stacks_needed, heaps_needed, instances_needed, components_needed, MayBeGranted}
+use Rattle.pool_run.specs.Private.{Grants, stripe_slots}
 use Rattle.pool_run.specs.Rooms.{World, SomeMayFault, table_count, stack_count, heap_count, instance_count, component_count}
 use Rattle.pool_run.specs.Runs.{IsMadeRun, world_seen}
 use Rattle.pool_run.specs.RunsMade.{commands_in, nothing_told}
@@ -16,53 +17,6 @@ use Rattle.pool_run.specs.declared.reply.Reply.{Reply}
 use Rattle.pool_run.specs.declared.reply.Reply.TheVariants.{Refused}
 use Rattle.pool_run.specs.declared.reply.Refusal.TheVariants.{Alloc}
 use Rattle.pool_run.specs.declared.running_party.RunningParty.{RunningParty}
-
--- How many memories of a live grant lie in this stripe, of so many: their slots are dealt out to the stripes in turn.
-abbrev pub in_one_stripe : ℕ → ℕ → Option PrivateGrant → ℕ
-in_one_stripe stripes stripe None = 0
-in_one_stripe stripes stripe (Some g) = sum_by (λ m. one_if (m.slot % stripes == stripe)) (memories_in_grant g)
-
--- How many memories of a party's live grants lie in this stripe.
-abbrev pub stripe_count : ℕ → ℕ → Grants → ℕ
-stripe_count stripes stripe grants = sum_by (in_one_stripe stripes stripe) grants
-
--- How many slots for memories a request needs: one for each memory of the module, or one for its heap.
-abbrev pub memories_needed : List ModuleInfo → Wanted → ℕ
-memories_needed modules (an_instance number) = length (slice_index_or modules number no_module).memories
-memories_needed modules (a_heap limits) = 1
-memories_needed modules _ = 0
-
--- How many slots for tables a request needs: one for each table of the module.
-abbrev pub tables_needed : List ModuleInfo → Wanted → ℕ
-tables_needed modules (an_instance number) = length (slice_index_or modules number no_module).tables
-tables_needed modules _ = 0
-
--- How many stacks a request needs.
-abbrev pub stacks_needed : Wanted → ℕ
-stacks_needed a_stack = 1
-stacks_needed _ = 0
-
--- How many slots for heaps a request needs.
-abbrev pub heaps_needed : Wanted → ℕ
-heaps_needed (a_heap limits) = 1
-heaps_needed _ = 0
-
--- How many instances a request needs.
-abbrev pub instances_needed : Wanted → ℕ
-instances_needed (an_instance number) = 1
-instances_needed _ = 0
-
--- How many components a request needs.
-abbrev pub components_needed : Wanted → ℕ
-components_needed (a_component info) = 1
-components_needed _ = 0
-
--- The request breaks no rule, its kind is enabled, and the party's limiter denies none of its objects.
-abbrev pub MayBeGranted : Terms → Wanted → Type 0
-MayBeGranted t (an_instance number) = ((request_of t number).broken ≡ None) × (first_refusal t (wants_of (request_of t number)) ≡ None)
-MayBeGranted t (a_component info) = component_refused t.settings info ≡ None
-MayBeGranted t a_stack = 0 < t.stacks.size
-MayBeGranted t (a_heap limits) = (heap_barred t (heap_type limits) ≡ None) × (heap_refusal t (heap_type limits) ≡ None)
 
 -- A request is granted; or there was no memory for it; or a page call failed, which the plan of some region lists, or the making of
 -- a heap did.

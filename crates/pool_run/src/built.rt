@@ -1,22 +1,16 @@
 ghost use Rattle.std.specs.Prelude.{◌≡◌};
 ghost use Rattle.std.specs.List.{list_all};
-ghost use Rattle.pool_run.specs.Built.{is_built, is_built_offer, is_built_module, is_built_memory};
+ghost use Rattle.pool_run.specs.Built.{is_built, is_built_module, is_built_memory};
 
 use crate::input::Input;
-use pool_types::{MemoryDecl, ModuleInfo, Offered};
+use pool_types::{MemoryDecl, ModuleInfo};
 
-/// Whether the input is of those that can be run so far: the system that it offers doesn't tell which pages are dirty, as no
-/// reset reads such marks yet, and the memories of its modules have pages of at most 64 KiB.
+/// Whether the input is of those that can be run: the memories of its modules have pages of at most 64 KiB. Each that is read
+/// from a text is.
 pub fn is_built(input: &Input) -> bool
     ensures { result ≡ is_built input.now }
 {
-    is_built_offer(&input.offered) && are_built_modules(input.modules.as_slice())
-}
-
-fn is_built_offer(offered: &Offered) -> bool
-    ensures { result ≡ is_built_offer offered.now }
-{
-    !offered.dirty_pages
+    are_built_modules(input.modules.as_slice())
 }
 
 fn are_built_modules(modules: &[ModuleInfo]) -> bool

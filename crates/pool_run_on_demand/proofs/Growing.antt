@@ -3,7 +3,7 @@
 use Rattle.std.proofs.Common.{◌≡◌, ℕ, ◌+◌, ◌-◌, ◌^◌, ◌<◌, ◌≤◌, Bool, true, false, List, [], ◌∷◌, length, min, Option, Some, None, Result, Ok, Err, inl, inr, refl, sym, ap, ◌∙◌, subst, arith, nat_lt, nat_le, if◌then◌else◌, ◌==◌, ◌||◌, ◌&&◌, not, IfSome, OnOk, OnErr, count_by}
 use Rattle.pool_run_on_demand.proofs.Imports.{list_all, list_any, and_parts, or_from, cases_lt, lt-ltb, nat_tests, one_at_most, MakerTold, Planned, calls_of, part_of, plan_for, fails_making, rounded_up, Told, PageCall, passes, risen, allow_growth_to, minimum_byte_size, MemoryType, RegionName, rounded_up_above, Slot, raised, raising, limited, one_if, GrowthRule, GrowthGiven, is_want_of_memory, report_result, result_by, pages_result, answer_result, AnswerMakes, MakesBy, GrowError, GrowFault, LimiterError, Trap, asked_same, OnlyWritten, IsBetween, InPlace, IsCallPlanned, GrowsTo, IsFailureOf, FailsInPlace, IsUngrown, moved_room, grown_size, past_room, PagesLeave, AnswerLeaves, LeavesBy, Layout, layout_len, layout_of, first_room, first_layout, moved_layout, Storage, in_slot, stored, is_listed, storage_written, Linear, MemoryState, memory_written, next_name, region_for, slot_of_region, slot_for, first_call, IsAsked, IsMadeFor, MakingFails, FirstCallFails, PlaceLeaves, CallLeaves, MakerLeft, grows, growth_reply, PrivateMemory, GrowthEnd, growth, Reply, ended_by, ended_by_rule}
 use Rattle.pool_limits.specs.declared.errors.GrowError.TheVariants as failed
-use Rattle.pool_run_on_demand.specs.Faults.{listed_from, ends_before_last, moved_len, has_region, is_free, is_none}
+use Rattle.pool_run_on_demand.specs.Faults.{listed_from, ends_before_last, moved_len, has_region, is_free, is_report}
 use Rattle.pool_run_on_demand.specs.Left.{calls_left, place_left, memory_left, Laying, EndBeforeLast, LaidIn, IsLaid, Spends, MemorySpends}
 use Rattle.pool_run_on_demand.specs.OnDemand.{most_between}
 use Rattle.pool_run_on_demand.specs.Seen.{layout_in, seen_made, IsHeld, GrowsByRule}
@@ -294,9 +294,8 @@ none_counts true = refl
 none_counts false = refl
 
 -- want of memory is told
-want_told : (report : Result (Unit {0}) LimiterError) → is_none (growth_reply (report_result {X = ℕ} true report)) ≡ false
-want_told (Ok u) = refl
-want_told (Err e) = refl
+want_told : (report : Result (Unit {0}) LimiterError) → is_report (growth_reply (report_result {X = ℕ} true report)) ≡ false
+want_told report = refl
 
 -- A memory after a growth: by how it would end without a fault, and the reply.
 module _ (y : Laying) (size : ℕ) (m : MemoryState) (new : Linear) (before after : MakerTold) (same : y.plan ≡ before.plan) (laid : IsLaid y m) where
@@ -304,7 +303,7 @@ module _ (y : Laying) (size : ℕ) (m : MemoryState) (new : Linear) (before afte
   fits = has_region y.page y.tunables m.ty size
 
   abbrev Spent : Bool → Reply → Type 0
-  Spent free reply = LaidIn y m.ty new.extra new.capacity new.storage × Spends before after (one_if (is_none reply && (free && fits))) (place_left m.linear.storage) (place_left new.storage)
+  Spent free reply = LaidIn y m.ty new.extra new.capacity new.storage × Spends before after (one_if (is_report reply && (free && fits))) (place_left m.linear.storage) (place_left new.storage)
 
   abbrev Leaves : ℕ → ℕ → Type 0
   Leaves extra met = LaidIn y m.ty extra new.capacity new.storage × Spends before after met (place_left m.linear.storage) (place_left new.storage)
@@ -314,12 +313,12 @@ module _ (y : Laying) (size : ℕ) (m : MemoryState) (new : Linear) (before afte
       let still : after ≡ before = cc in
       let At : Linear → Type 0 = λ l. LaidIn y m.ty l.extra l.capacity l.storage × Spends before after 0 (place_left m.linear.storage) (place_left l.storage) in
       let left : Leaves new.extra 0 = subst At (sym is) (laid, still_spends before after (place_left m.linear.storage) still) in
-      subst (Leaves new.extra) (sym (none_counts (is_none reply))) left
+      subst (Leaves new.extra) (sym (none_counts (is_report reply))) left
 
   asked : (failure : Option GrowError) (report : Result (Unit {0}) LimiterError) → PagesLeave failure size m.linear new → MakerLeft failure size m.linear new (Some before) (Some after) → Spent true (growth_reply (pages_result m.linear.size failure report))
   asked None report is left = subst (λ (n : ℕ). Leaves n 0) (sym is.extra) (grown_comes y m.ty size m.linear.extra before after same m.linear new laid refl is left)
   asked (Some e) report is left =
-      let Told : GrowError → Bool = λ x. is_none (growth_reply (report_result {X = ℕ} (is_want_of_memory x) report)) in
+      let Told : GrowError → Bool = λ x. is_report (growth_reply (report_result {X = ℕ} (is_want_of_memory x) report)) in
       let met : ℕ = one_if (Told e && (true && fits)) in
       let want : e ≡ failed.Memory → met ≡ 0 = λ wants. ap (λ (x : GrowError). one_if (Told x && (true && fits))) wants ∙ ap (λ (b : Bool). one_if (b && (true && fits))) (want_told report) in
       let first : ℕ = (first_layout y.page y.tunables (minimum_byte_size m.ty)).capacity in
@@ -357,7 +356,7 @@ module _ (y : Laying) (size : ℕ) (m : MemoryState) (new : Linear) (before afte
   fewer_free false true past sees answer report reply is spent = spent
   fewer_free false false past sees (Err e) report reply is spent = spent
   fewer_free false false past sees (Ok false) report reply is spent = spent
-  fewer_free false false past true (Ok true) report reply is spent = (spent.0, fewer_spends before after (one_if (is_none reply && (free false false past (Ok true) report && fits))) (one_if (is_none reply && (false && fits))) (place_left m.linear.storage) (place_left new.storage) (omega (arith, none_counts (is_none reply))) spent.1)
+  fewer_free false false past true (Ok true) report reply is spent = (spent.0, fewer_spends before after (one_if (is_report reply && (free false false past (Ok true) report && fits))) (one_if (is_report reply && (false && fits))) (place_left m.linear.storage) (place_left new.storage) (omega (arith, none_counts (is_report reply))) spent.1)
   fewer_free false false true false (Ok true) report reply is spent = absurd (cc (is refl))
   fewer_free false false false false (Ok true) report reply is spent = spent
 
@@ -381,7 +380,7 @@ grows_spends tells rule pages m new before after answer held is y same laid =
     let ends : is_free (ended_by m.linear.size nothing past_type sees g.answer g.report false).0 ≡ is_free (growth rule false pages was).0 = ap (λ (p : GrowthEnd × Reply). is_free p.0) (ended_by_rule rule is.1.rule pages was g.answer g.report false is.3 growth_is.ruled.answer growth_is.ruled.report) in
     let replies : growth_reply answer ≡ growth_reply (result_by m.linear.size nothing past_type past g) = ap growth_reply growth_is.ruled.replies in
     let Spent : MemoryType → Bool → Reply → Type 0 =
-    λ ty free reply. LaidIn y ty new.linear.extra new.linear.capacity new.linear.storage × Spends before after (one_if (is_none reply && (free && has_region y.page y.tunables m.ty size))) (memory_left m) (memory_left new) in
+    λ ty free reply. LaidIn y ty new.linear.extra new.linear.capacity new.linear.storage × Spends before after (one_if (is_report reply && (free && has_region y.page y.tunables m.ty size))) (memory_left m) (memory_left new) in
     let ty : new.ty ≡ m.ty = ap (λ (x : MemoryState). x.ty) growth_is.memory in
     subst (λ (t : MemoryType). Spent t (is_free (growth rule false pages was).0) (growth_reply answer)) (sym ty) (subst (Spent m.ty (is_free (growth rule false pages was).0)) (sym replies) (subst (λ (b : Bool). Spent m.ty b (growth_reply (result_by m.linear.size nothing past_type past g))) ends spent))
 

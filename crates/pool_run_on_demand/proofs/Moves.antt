@@ -149,8 +149,7 @@ module _ (tells : Bool) (size : ℕ) (m : MemoryState) (new : Linear) (held : Is
 
   reported_end : (wanting : Bool) (e : GrowError) (report : Result (Unit {0}) LimiterError) → IsUngrown e size m.linear new → EndsMade (growth_reply (report_result {X = ℕ} wanting report)) (tried report)
   reported_end false e report is = (inl (true, ap (λ (p : PrivateMemory). (p, growth_reply (report_result {X = ℕ} false report))) (ungrown_seen e is) ∙ ap (λ (r : Reply). (was, r)) (reported_seen report)), ungrown_held e is)
-  reported_end true e (Ok u) is = (inr (refl, (refl, ungrown_seen e is)), ungrown_held e is)
-  reported_end true e (Err f) is = (inl (true, ap (λ (p : PrivateMemory). (p, Refused (Alloc (alloc.LimiterFault f)))) (ungrown_seen e is)), ungrown_held e is)
+  reported_end true e report is = (inr (refl, (refl, ungrown_seen e is)), ungrown_held e is)
 
   module _ (before after : MakerTold) (same : tells ≡ before.tells) (within : m.may_move ≡ false → size ≤ m.linear.capacity) (more : m.linear.size ≤ size) (room : size + page_size m.ty ≤ 2 ^ 64) where
     abbrev zeros : List ℕ → List ℕ

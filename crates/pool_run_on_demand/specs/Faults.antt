@@ -3,6 +3,7 @@
 use Rattle.std.specs.Prelude.{◌≡◌, ℕ, ◌+◌, ◌-◌, ◌^◌, ◌≤◌, ◌==◌, ◌⊎◌, List, [], ◌∷◌, filter, count_by, nat_le, nat_lt, ◌&&◌, ◌||◌, if◌then◌else◌, Bool, true, false, Option, None, slice_get}
 use Rattle.pool_run_on_demand.specs.Imports.{list_all, list_any, option_map_or, Fault, FaultKind, MakerTold, Planned, on_region, on_images, same_name, minimum_byte_size, MemoryTunables, GcHeap, MemoryType, OnDemand, one_if, GrowthRule, layout_len, first_layout, moved_layout, maximum_asked, extra_on_growth, PageFault, MemoryOp, grows, Act, requests, on_memory, act_of, GrowthEnd, has_grown, PrivateMemory, PrivateGrant, heap_grant, memories_named_in, PrivateState, Grants, grant_at, growth, size_wanted, Terms, with_grants, no_grants, Command, Reply, Grown, Refused, Alloc}
 use Rattle.pool_pages.specs.declared.fault_plan.FaultKind.TheVariants as as_kind
+use Rattle.pool_slots.specs.declared.errors.AllocError.TheVariants as alloc
 use Rattle.pool_run_on_demand.specs.OnDemand.{StepOnDemand}
 
 -- the entry lists the making of a region on demand, or a call on one, whose number is this or a later one
@@ -67,16 +68,16 @@ abbrev pub is_free : GrowthEnd → Bool
 is_free has_grown = true
 is_free _ = false
 
--- The reply tells that a growth didn't happen.
-abbrev pub is_none : Reply → Bool
-is_none (Grown None) = true
-is_none _ = false
+-- The reply is that to a growth that failed and was reported: none, or the limiter's error.
+abbrev pub is_report : Reply → Bool
+is_report (Grown None) = true
+is_report (Refused (Alloc (alloc.LimiterFault e))) = true
+is_report _ = false
 
 -- A growth by so many pages met a fault: nothing stood in its way, there can be a region for it, and yet the memory hasn't
--- grown, which isn't for want of memory. Under a limiter that makes an error of each failure want of memory is answered with
--- that error too, so there a fault can't be told.
+-- grown, which isn't for want of memory.
 abbrev pub growth_met : ℕ → MemoryTunables → GrowthRule → ℕ → PrivateMemory → Reply → Bool
-growth_met page tunables rule pages m reply = is_none reply && (is_free (growth rule false pages m).0 && has_region page tunables m.ty (size_wanted pages m))
+growth_met page tunables rule pages m reply = is_report reply && (is_free (growth rule false pages m).0 && has_region page tunables m.ty (size_wanted pages m))
 
 -- how many faults an operation on a memory met
 abbrev pub met_by : ℕ → MemoryTunables → GrowthRule → MemoryOp → PrivateMemory → Reply → ℕ

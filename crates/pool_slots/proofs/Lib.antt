@@ -1,6 +1,7 @@
 mod Imports
 pub mod Lists
 pub mod Coverings
+pub mod MarkedTables
 pub mod Resets
 pub mod Plans
 pub mod Fresh

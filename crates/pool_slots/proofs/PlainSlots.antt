@@ -1,7 +1,7 @@
 -- A plain slot is written, and reset.
 use Rattle.std.proofs.Common.{◌≡◌, ℕ, ◌+◌, ◌-◌, ◌%◌, ◌<◌, ◌≤◌, Bool, true, false, List, [], ◌∷◌, length, get_or, refl, sym, ap, ◌∙◌, subst, inl, inr, arith, min, replicate, slice_range, Option, None, Some, IfSome, option_map, nat_lt, All, if◌then◌else◌}
 use Rattle.pool_slots.proofs.Imports.{cases_lt, ltb-true, ltb-false, All-cons, All-nil, zero-mod, sub_whole, length-replicate, get_or-replicate, same_lists, Contents, IsShaped, put, written, decommitted, DecommitBehavior, length-put, get_or-put_in, range-put_above, range_joined, same_range, same_at, length-range, get_or-range, written_shaped, ImageName, ByteRange, Slot, IsSlot, IsSound, IsReady, IsClean, IsPart, Holds, restored_image, placed, size_of, reset_ranges, decommitted_all, back_here, back_there, written_ready, next, fits_next, lifted, followed, paired, size_whole}
-use Rattle.pool_slots.specs.PlainSlots.{IsPlain, IsUnusedFrom, plain_written, top_kept, top_reset, bottom_reset, below_top, above_bottom, CleanSlotsReadZeros}
+use Rattle.pool_slots.specs.PlainSlots.{IsPlain, IsUnusedFrom, plain_written, top_kept, top_reset, bottom_reset, below_top, CleanSlotsReadZeros}
 use Rattle.pool_slots.proofs.ByHand.{ready_after}
 
 module _ (at : ℕ) (new : List ℕ) (s : Slot) where
@@ -30,9 +30,9 @@ module _ (at : ℕ) (new : List ℕ) (s : Slot) where
   }
 
 -- what is told of a plain slot without image
-record IsBlankTold (s : Slot) (c : Contents) : Type 0 where
-  sound : IsSound s.region.page s.region.len s.base.bytes (size_of s) c
-  zeros : c.origin ≡ replicate (length c.origin) 0
+pub record IsBlankTold (s : Slot) (c : Contents) : Type 0 where
+  pub sound : IsSound s.region.page s.region.len s.base.bytes (size_of s) c
+  pub zeros : c.origin ≡ replicate (length c.origin) 0
 
 blank_of : (s : Slot) (o : Option Contents) → s.image ≡ None → IfSome o (IsSound s.region.page s.region.len s.base.bytes (size_of s)) → IfSome o (IsReady s) → IfSome o (IsBlankTold s)
 blank_of s None none sound ready = sound
@@ -40,7 +40,7 @@ blank_of s (Some c) none sound ready =
     let Z : Option ImageName → Type 0 = λ o. c.origin ≡ placed s.base.bytes (restored_image o s.region.behaviour) c.origin in
     record { sound = sound; zeros = subst Z none ready.origin }
 
-blank : (s : Slot) → IsPlain s → IfSome s.region.contents (IsBlankTold s)
+pub blank : (s : Slot) → IsPlain s → IfSome s.region.contents (IsBlankTold s)
 blank s p = blank_of s s.region.contents p.image p.fits.told p.ready
 
 -- zeros that are written are what the bytes go back to
@@ -98,7 +98,7 @@ half_of from to s (Some c) sound ready below above = record { sound = sound; rea
 origin_none : (b : DecommitBehavior) → None ≡ restored_image None b
 origin_none b = refl
 
-no_image : (s : Slot) → s.image ≡ None → s.image ≡ restored_image s.image s.region.behaviour
+pub no_image : (s : Slot) → s.image ≡ None → s.image ≡ restored_image s.image s.region.behaviour
 no_image s none = let I : Option ImageName → Type 0 = λ o. o ≡ restored_image o s.region.behaviour in subst I (sym none) (origin_none s.region.behaviour)
 
 shape_next : (r : ByteRange) (s : Slot) (c : Contents) → IsSlot (next r s) → s.region.contents ≡ Some c → IsShaped s.region.page s.region.len (decommitted (s.base.bytes + r.start) r.len c)
@@ -135,7 +135,7 @@ clean_between from to s p order within part below above =
 part_between : (page size from to : ℕ) → from % page ≡ 0 → to % page ≡ 0 → from ≤ to → to ≤ size → IsPart page size (record { start = from; len = to - from })
 part_between page size from to a b order within = record { start = a; len = sub_whole to from page b a; inside = omega arith }
 
-told_held : (at n from to : ℕ) (s : Slot) → IsPlain s → at + n ≤ from → at + n ≤ size_of s → to ≤ size_of s → IfSome s.region.contents (Holds s from to) → IfSome (plain_written at (replicate n 0) s).region.contents (Holds s from to)
+pub told_held : (at n from to : ℕ) (s : Slot) → IsPlain s → at + n ≤ from → at + n ≤ size_of s → to ≤ size_of s → IfSome s.region.contents (Holds s from to) → IfSome (plain_written at (replicate n 0) s).region.contents (Holds s from to)
 told_held at n from to s p behind inside within holds =
     let Sound : Contents → Type 0 = IsSound s.region.page s.region.len s.base.bytes (size_of s) in
     lifted (λ c. Sound c × Holds s from to c) (Holds s from to) (written (s.base.bytes + at) (replicate n 0)) s.region.contents
@@ -148,7 +148,7 @@ pub empty_held : (s : Slot) (at : ℕ) (o : Option Contents) → IfSome o (IsSou
 empty_held s at None sound fits within = sound
 empty_held s at (Some c) sound fits within = same_range c.bytes c.origin (s.base.bytes + at) (s.base.bytes + at) (omega (arith, sound.shaped.bytes, fits.sizes.inside)) (omega (arith, sound.shaped.origin, fits.sizes.inside)) (λ j x over below. absurd (omega arith))
 
-written_size : (at n : ℕ) (s : Slot) → IsPlain s → at + n ≤ s.static_size → at + length (replicate {A = ℕ} n 0) ≤ s.accessible.bytes
+pub written_size : (at n : ℕ) (s : Slot) → IsPlain s → at + n ≤ s.static_size → at + length (replicate {A = ℕ} n 0) ≤ s.accessible.bytes
 written_size at n s p within = omega (arith, length-replicate {A = ℕ} n 0, p.all)
 
 -- The top of a stack is zeroed by hand, and the rest decommitted.
@@ -237,13 +237,6 @@ top_done keep s new ranges p whole is left =
     let one : ByteRange = record { start = 0; len = s.static_size - top_kept keep s } in
     let done : D (top_reset keep s) (below_top keep s) = (All-cons (IsPart s.region.page (size_of s)) one [] (top_parts keep s p whole) (All-nil (IsPart s.region.page (size_of s))), top_clean keep s p whole) in
     subst (λ x. D x ranges) (sym is) (subst (D (top_reset keep s)) (sym left) done)
-
-pub bottom_done : (keep used : ℕ) (s new : Slot) (ranges : List ByteRange) → IsPlain s → used ≤ s.static_size → keep % s.region.page ≡ 0 → used % s.region.page ≡ 0 → IsUnusedFrom used s → new ≡ bottom_reset keep used s → ranges ≡ above_bottom keep used → All (IsPart new.region.page (size_of new)) ranges × IsClean (decommitted_all ranges new) × IsUnusedFrom used new
-bottom_done keep used s new ranges p within a b unused is left =
-    let D : Slot → List ByteRange → Type 0 = λ x l. All (IsPart x.region.page (size_of x)) l × IsClean (decommitted_all l x) × IsUnusedFrom used x in
-    let both = bottom_reset_done keep used s p within a b unused in
-    let done : D (bottom_reset keep used s) (above_bottom keep used) = (both.0, both.1, bottom_unused keep used s p within a b unused) in
-    subst (λ x. D x ranges) (sym is) (subst (D (bottom_reset keep used s)) (sym left) done)
 
 -- zeros in what a region goes back to
 zeros_read : (s : Slot) (n : ℕ) (c : Contents) → IsSlot s → n ≤ size_of s → IsBlankTold s c → Holds s 0 (size_of s) c → slice_range c.bytes s.base.bytes (s.base.bytes + n) ≡ replicate n 0

@@ -1,6 +1,13 @@
 -- The region of a table or a stack as a slot without image: what is written to it, and how it is reset.
-use Rattle.std.specs.Prelude.{◌≡◌, ℕ, ◌+◌, ◌-◌, List, [], ◌∷◌, min, replicate, Bool, true, false, None, IfSome}
-use Rattle.pool_slots.specs.Imports.{overwritten, ByteRange, Slot, IsSlot, IsReady, IsClean, Holds, Reads, size_of, reset_ranges}
+use Rattle.std.specs.Prelude.{◌≡◌, ℕ, ◌+◌, ◌-◌, ◌*◌, ◌%◌, ◌≤◌, List, [], ◌∷◌, All, min, replicate, Bool, true, false, Option, None, Some, IfSome}
+use Rattle.pool_types.specs.Count.{count}
+use Rattle.pool_types.specs.declared.decommit_behavior.DecommitBehavior.TheVariants.{RestoreOriginalMapping}
+use Rattle.pool_pages.specs.Contents.{CanReach}
+use Rattle.pool_pages.specs.Told.{TellsMarks, TellsShaped}
+use Rattle.pool_images.specs.ResetLaws.{bytes_of}
+use Rattle.pool_images.specs.Resets.{IsSpan, given_marks, kept_by, left_by, marks_of, pages_by_hand, pages_restored, span_marks}
+use Rattle.pool_images.specs.declared.image_slot.dirty_pages.PageSpan.{PageSpan}
+use Rattle.pool_slots.specs.Imports.{overwritten, ByteRange, Slot, IsSlot, IsReady, IsClean, IsPart, Holds, Reads, size_of, reset_ranges, decommitted_all}
 use Rattle.pool_slots.specs.SlotQueues.{CanBeZeroed, zeroed_slot}
 
 -- It can be used: it is whole pages without image, all of which can be reached and go back to zeros.
@@ -39,6 +46,59 @@ above_bottom keep used = reset_ranges keep used
 -- of what the slot holds, the bytes from one place on are what they go back to
 abbrev pub IsUnusedFrom : ℕ → Slot → Type 0
 IsUnusedFrom used s = IfSome s.region.contents (Holds s used (size_of s))
+
+-- what a table used of its region, as what can be reached of a slot
+abbrev pub used_part : ℕ → Slot → Slot
+used_part used s = record s { accessible = count s.region.page used }
+
+-- The dirty marks that a table's reset is given, as a memory's is: none, unless they are offered and the table used more than
+-- one page. Below, where it is given none, it is the plain reset.
+abbrev pub used_marks : Bool → ℕ → Slot → Option (List Bool)
+used_marks offered used s = given_marks offered (used_part used s)
+
+-- How many bytes a table keeps resident.
+abbrev pub used_kept : Option (List Bool) → ℕ → ℕ → Slot → ℕ
+used_kept marks keep used s = kept_by marks RestoreOriginalMapping keep (used_part used s)
+
+-- What a table leaves to be decommitted.
+abbrev pub used_left : Option (List Bool) → ℕ → ℕ → Slot → List ByteRange
+used_left marks keep used s = left_by marks RestoreOriginalMapping keep (used_part used s)
+
+-- A table's region once the bytes that it keeps resident were zeroed by hand: its first ones, or those of its first dirty
+-- pages.
+abbrev pub used_reset : Option (List Bool) → ℕ → ℕ → Slot → Slot
+used_reset None keep used s = bottom_reset keep used s
+used_reset (Some marks) keep used s = record s { region = pages_restored s.base.bytes (pages_by_hand s.region.page keep marks) s.region }
+
+-- the bytes of its region once such a reset is done, and the decommits that it leaves are done too
+abbrev pub used_after : Option (List Bool) → ℕ → ℕ → Slot → Option (List ℕ)
+used_after marks keep used s = bytes_of (decommitted_all (used_left marks keep used s) (used_reset marks keep used s))
+
+-- A table's region was reset, by these marks or none, with this answer and these ranges left: it is clean once they are
+-- decommitted.
+pub record IsTableReset (marks : Option (List Bool)) (keep used : ℕ) (old new : Slot) (answer : ℕ) (listed : List ByteRange) : Type 0 where
+  pub resident : answer ≡ used_kept marks keep used old
+  pub ranges : listed ≡ used_left marks keep used old
+  pub value : new ≡ used_reset marks keep used old
+  pub parts : All (IsPart new.region.page (size_of new)) listed
+  pub clean_after : IsClean (decommitted_all listed new)
+  pub unused : IsUnusedFrom used new
+  pub plain : IsPlain new
+  pub most : answer ≤ used
+
+-- These are the pages that a table used, and their marks are told.
+pub record IsUsedSpan (used : ℕ) (s : Slot) (pages : PageSpan) : Type 0 where
+  pub span : IsSpan pages s.region
+  pub base : pages.base ≡ s.base.bytes
+  pub page : pages.page ≡ s.region.page
+  pub bytes : pages.pages * pages.page ≡ used
+  pub marks : span_marks pages s.region ≡ marks_of (used_part used s)
+  pub reach : IfSome s.region.contents (CanReach pages.base (pages.pages * pages.page))
+  pub shaped : TellsShaped s.region
+  pub told : TellsMarks s.region
+  pub whole : used % s.region.page ≡ 0
+  pub within : used ≤ s.static_size
+  pub plain : IsPlain s
 
 -- A stack: its number, the slot that its usable bytes are, and whether it is given back zeroed.
 pub record StackState : Type 0 where

@@ -1,9 +1,12 @@
-ghost use Rattle.std.specs.Prelude.{◌≡◌, ◌+◌, ◌%◌, ◌≤◌, [], length, min, replicate, slice_range, All, IfSome};
+ghost use Rattle.std.specs.Prelude.{◌≡◌, ◌+◌, ◌%◌, ◌≤◌, [], None, Some, length, replicate, slice_range, All, IfSome};
+ghost use Rattle.pool_pages.specs.Told.{TellsMarks};
+ghost use Rattle.pool_images.specs.ResetLaws.{bytes_of};
+ghost use Rattle.pool_images.specs.Resets.{marks_of};
 ghost use Rattle.pool_images.specs.Slots.{IsPart, IsClean, size_of, decommitted_all};
-ghost use Rattle.pool_slots.specs.PlainSlots.{IsPlain, IsUnusedFrom, plain_written, top_kept, top_reset, below_top, bottom_reset, above_bottom, CleanSlotsReadZeros, ZeroedSlotsAreClean};
+ghost use Rattle.pool_slots.specs.PlainSlots.{IsPlain, IsTableReset, IsUnusedFrom, IsUsedSpan, plain_written, top_kept, top_reset, below_top, above_bottom, used_after, used_kept, used_left, used_marks, used_part, used_reset, CleanSlotsReadZeros, ZeroedSlotsAreClean};
 ghost use Rattle.pool_slots.specs.SlotQueues.{plain_slot};
 
-use pool_images::{ByteRange, Ranges};
+use pool_images::{ByteRange, PageSpan, Ranges, reset_dirty};
 use pool_pages::{PageCalls, PageRegion, Pages};
 use pool_types::HostAlignedByteCount;
 use std::marker::Model;
@@ -106,10 +109,95 @@ impl<P: Pages> PlainSlot<P> {
         kept
     }
 
-    /// Resets the slot as a table that used its first `used` bytes, whole pages: so many of these, or all where they are
-    /// fewer, are zeroed by hand, and the others are left in `ranges`, unless there are none. `ranges` must be empty.
-    /// Answers how many bytes are zeroed.
-    pub fn reset_used(
+    /// Resets the slot as a table that used its first `used` bytes, whole pages. So many of these, or all where they are fewer,
+    /// are zeroed by hand, and the others are left in `ranges`, unless there are none. Where `dirty_pages` is true and the
+    /// table used more than one page, only pages that the region marks as dirty are zeroed or left, as by the reset of a
+    /// memory's slot. `ranges` must be empty. Answers how many bytes are zeroed.
+    pub fn reset_pages(
+        &mut self,
+        dirty_pages: bool,
+        used: HostAlignedByteCount,
+        keep_resident: HostAlignedByteCount,
+        ranges: &mut Ranges,
+    ) -> usize
+        requires used_page { used.page ≡ self.old.region.page }
+        requires page { keep_resident.page ≡ self.old.region.page }
+        requires within { used.bytes ≤ self.old.static_size }
+        requires unused { IsUnusedFrom used.bytes self.old }
+        requires empty { ranges.old ≡ [] }
+        ensures resident { result ≡ used_kept (used_marks dirty_pages used.bytes self.old) keep_resident.bytes used.bytes self.old }
+        ensures ranges { ranges.new ≡ used_left (used_marks dirty_pages used.bytes self.old) keep_resident.bytes used.bytes self.old }
+        ensures value { self.new ≡ used_reset (used_marks dirty_pages used.bytes self.old) keep_resident.bytes used.bytes self.old }
+        ensures parts { All (IsPart self.new.region.page (size_of self.new)) ranges.new }
+        ensures clean_after { IsClean (decommitted_all ranges.new self.new) }
+        ensures unused { IsUnusedFrom used.bytes self.new }
+        ensures most { result ≤ used.bytes }
+        ensures alike { bytes_of (decommitted_all ranges.new self.new) ≡ used_after None 0 used.bytes self.old }
+        ensures marks { TellsMarks self.old.region }
+    {
+        let _pages = self.used_pages(used);
+        self.reset_either(dirty_pages, used, keep_resident, ranges)
+    }
+
+    // The reset by dirty marks where they are offered and are of use, or the plain one.
+    fn reset_either(
+        &mut self,
+        dirty_pages: bool,
+        used: HostAlignedByteCount,
+        keep_resident: HostAlignedByteCount,
+        ranges: &mut Ranges,
+    ) -> usize
+        requires used_page { used.page ≡ self.old.region.page }
+        requires page { keep_resident.page ≡ self.old.region.page }
+        requires within { used.bytes ≤ self.old.static_size }
+        requires unused { IsUnusedFrom used.bytes self.old }
+        requires empty { ranges.old ≡ [] }
+        ensures { IsTableReset (used_marks dirty_pages used.bytes self.old) keep_resident.bytes used.bytes self.old self.new result ranges.new }
+    {
+        if dirty_pages && used.byte_count() > self.region.page().get() {
+            self.reset_marked(used, keep_resident, ranges)
+        } else {
+            self.reset_used(used, keep_resident, ranges)
+        }
+    }
+
+    // The reset by dirty marks.
+    fn reset_marked(
+        &mut self,
+        used: HostAlignedByteCount,
+        keep_resident: HostAlignedByteCount,
+        ranges: &mut Ranges,
+    ) -> usize
+        requires used_page { used.page ≡ self.old.region.page }
+        requires within { used.bytes ≤ self.old.static_size }
+        requires unused { IsUnusedFrom used.bytes self.old }
+        requires empty { ranges.old ≡ [] }
+        ensures { IsTableReset (Some (marks_of (used_part used.bytes self.old))) keep_resident.bytes used.bytes self.old self.new result ranges.new }
+    {
+        let span = self.used_pages(used);
+        let most = keep_resident.byte_count() / span.page;
+        reset_dirty(&mut self.region, span, most, ranges)
+    }
+
+    // The pages that a table used.
+    fn used_pages(&self, used: HostAlignedByteCount) -> PageSpan
+        requires used_page { used.page ≡ self.now.region.page }
+        requires within { used.bytes ≤ self.now.static_size }
+        ensures { IsUsedSpan used.bytes self.now result }
+    {
+        let _len = self.region.len();
+        let page = self.region.page().get();
+        let base = self.base.byte_count();
+        PageSpan {
+            page,
+            base,
+            first: base / page,
+            pages: used.byte_count() / page,
+        }
+    }
+
+    // The plain reset, which asks no marks.
+    fn reset_used(
         &mut self,
         used: HostAlignedByteCount,
         keep_resident: HostAlignedByteCount,
@@ -120,12 +208,7 @@ impl<P: Pages> PlainSlot<P> {
         requires within { used.bytes ≤ self.old.static_size }
         requires unused { IsUnusedFrom used.bytes self.old }
         requires empty { ranges.old ≡ [] }
-        ensures resident { result ≡ min keep_resident.bytes used.bytes }
-        ensures ranges { ranges.new ≡ above_bottom keep_resident.bytes used.bytes }
-        ensures value { self.new ≡ bottom_reset keep_resident.bytes used.bytes self.old }
-        ensures parts { All (IsPart self.new.region.page (size_of self.new)) ranges.new }
-        ensures clean_after { IsClean (decommitted_all ranges.new self.new) }
-        ensures unused { IsUnusedFrom used.bytes self.new }
+        ensures { IsTableReset None keep_resident.bytes used.bytes self.old self.new result ranges.new }
     {
         let _plain = self.len();
         let keep = keep_resident.byte_count();

@@ -1,6 +1,6 @@
 -- Each way that a growth of a table can go.
 use Rattle.std.proofs.Common.{◌≡◌, ◌≢◌, ℕ, ◌+◌, ◌-◌, ◌*◌, ◌^◌, ◌<◌, ◌≤◌, ◌==◌, ◌++◌, nat_lt, Bool, true, false, List, replicate, refl, sym, ap, ◌∙◌, subst, arith, inl, inr, Option, Some, None, Result, Ok, Err, IfSome, option_map}
-use Rattle.pool_table.proofs.Imports.{mul-le-mul_right, eq-eqb, lt-ltb, nat_tests, zeros_within, Contents, table_answer, table_failure, LimiterTold, after_answer, after_report, GrowthQuestion, Exchange, may_grow, has_failed, Exchanged, Obstacles, GrowthGiven, growth_exchanges, IsRuled, IsAllowed, GrowthMakes, report_result, report_seen, LimiterError, TypeLimit, GrowFault, unasked, ruled_nothing, ruled_past_type, ruled_error, ruled_no, ruled_yes}
+use Rattle.pool_table.proofs.Imports.{mul-le-mul_right, eq-eqb, lt-ltb, nat_tests, zeros_within, Contents, table_answer, LimiterTold, after_answer, GrowthQuestion, Exchange, may_grow, Exchanged, Obstacles, GrowthGiven, growth_exchanges, IsRuled, IsAllowed, IsReported, GrowthMakes, LimiterError, TypeLimit, GrowFault, unasked, ruled_nothing, ruled_past_type, ruled_error, ruled_no, ruled_yes}
 use Rattle.pool_limits.specs.declared.growing.Growable.TheVariants.{Table}
 use Rattle.pool_limits.specs.declared.errors.GrowFault.TheVariants as fault
 use Rattle.pool_table.specs.Elements.{ElementKind, Element, width, empty}
@@ -53,12 +53,12 @@ module _ {R : Type 0} (told : R → LimiterTold) (leads : R → Exchange → R �
       (ruled_nothing question past past_room old.size (told l)) refl refl
 
   -- past what a size can be
-  pub grown_past_type : (before after : R) (r : Result (Option ℕ) GrowFault) → delta ≢ 0 → 2 ^ 64 ≤ old.size + delta → report_seen r ≡ table_failure (told before).rule (report_seen r) → r ≡ report_result false (report_seen r) → told after ≡ after_report (report_seen r) (told before) → leads before (has_failed Table TypeLimit (report_seen r)) after → Grows old before after r
-  grown_past_type before after r some past report replies limiter exchange =
+  pub grown_past_type : (before after : R) (r : Result (Option ℕ) GrowFault) → delta ≢ 0 → 2 ^ 64 ≤ old.size + delta → (reported : IsReported told leads Table TypeLimit before after r) → Grows old before after r
+  grown_past_type before after r some past reported =
       growth_of old before after r (record { nothing = false; past_type = true; past_room = past_room })
-      (record (unasked question (told before)) { report = report_seen r })
+      (record (unasked question (told before)) { report = reported.report })
       (seen false true (some_delta some) (lt-ltb (2 ^ 64 - 1) (old.size + delta) (omega (arith, past))))
-      (ruled_past_type question past_room old.size (told before) (told after) r report replies limiter) refl (after, (exchange, refl))
+      (ruled_past_type told leads question past_room old.size before after r reported) refl (after, (reported.exchange, refl))
 
   -- where the limiter refuses it with an error
   pub grown_error : (before after : R) (e : LimiterError) → delta ≢ 0 → old.size + delta < 2 ^ 64 → Err e ≡ table_answer (told before).rule (Err e) (old.size + delta) (Some old.maximum) → told after ≡ after_answer (Err e) (told before) → leads before (may_grow question (Err e)) after → Grows old before after (Err (fault.LimiterFault e))

@@ -13,11 +13,11 @@ pub use Rattle.std.proofs.lemmas.Option.{slice_get-get_or}
 pub use Rattle.std.specs.Int.{from_le_bytes, to_le_bytes, w64}
 pub use Rattle.std.specs.List.{concat, list_any}
 pub use Rattle.std.specs.List.Sorted.{IsNonDecreasing}
-pub use Rattle.pool_limits.proofs.Ruled.{allowed_grown, ruled_error, ruled_no, ruled_nothing, ruled_past_type, ruled_yes, unasked}
-pub use Rattle.pool_limits.specs.Exchanges.{Exchange, Exchanged, GrowthQuestion, has_failed, may_grow, question_of}
-pub use Rattle.pool_limits.specs.Growing.{GrowthGiven, GrowthMakes, IsAllowed, IsRuled, Obstacles, growth_exchanges, report_result, report_seen}
-pub use Rattle.pool_limits.specs.Growth.{table_answer, table_failure}
-pub use Rattle.pool_limits.specs.LimiterTold.{LimiterTold, after_answer, after_report}
+pub use Rattle.pool_limits.proofs.Ruled.{allowed_grown, allowed_past, ruled_error, ruled_no, ruled_nothing, ruled_past_type, ruled_yes, unasked}
+pub use Rattle.pool_limits.specs.Exchanges.{Exchange, Exchanged, GrowthQuestion, may_grow, question_of}
+pub use Rattle.pool_limits.specs.Growing.{GrowthGiven, GrowthMakes, IsAllowed, IsReported, IsRuled, Obstacles, growth_exchanges}
+pub use Rattle.pool_limits.specs.Growth.{table_answer}
+pub use Rattle.pool_limits.specs.LimiterTold.{LimiterTold, after_answer}
 pub use Rattle.pool_limits.specs.declared.errors.GrowError.TheVariants.{TypeLimit}
 pub use Rattle.pool_limits.specs.declared.errors.GrowFault.{GrowFault}
 pub use Rattle.pool_limits.specs.declared.errors.LimiterError.{LimiterError}

@@ -1,7 +1,7 @@
 -- What is found in the bytes of an input.
 use Rattle.std.specs.Prelude.{◌≡◌, ℕ, List, true, Option, Some, None, Result, Ok, Err}
 use Rattle.pool_types.specs.declared.bad_config.BadConfig.{BadConfig}
-use Rattle.pool_forms.specs.Reading.{Reading, not_built, invalid, accepted, reading, shared_reading}
+use Rattle.pool_forms.specs.Reading.{Reading, invalid, accepted, reading, shared_reading}
 use Rattle.pool_run.specs.Built.{broken_rule, is_built}
 use Rattle.pool_run.specs.declared.input.Input.{Input}
 use Rattle.pool_run_shared.specs.Runs.{broken_page}
@@ -10,7 +10,7 @@ use Rattle.pool_view.specs.declared.reading.Refusal.TheVariants as refusal
 use Rattle.pool_view.specs.declared.status.Status.{Status}
 use Rattle.pool_view.specs.declared.status.Status.TheVariants.{Ok as Success, BadInput, BadConfig as BadSettings}
 
--- an input that can be run; none, or one that isn't valid or asks for what isn't built; or one whose settings break a rule
+-- an input that can be run; none, or one that isn't valid; or one whose settings break a rule
 pub data Finding : Type 0 where
   can_run : Finding
   no_input : Finding
@@ -23,7 +23,6 @@ finding_of_rules (Some error) = breaks_rule
 
 -- What bytes are found to be, by how they are read.
 abbrev pub finding_of : {X : Type 0} → (X → Option BadConfig) → Reading X → Finding
-finding_of broken not_built = no_input
 finding_of broken invalid = no_input
 finding_of broken (accepted input) = finding_of_rules (broken input)
 
@@ -54,7 +53,7 @@ status_of can_run = Success
 status_of no_input = BadInput
 status_of breaks_rule = BadSettings
 
--- What is known of an input that was read from these bytes: it is the one that they are, and it asks for what is built.
+-- What is known of an input that was read from these bytes: it is the one that they are, and it can be run.
 pub record IsInputOf (bytes : List ℕ) (input : Input) : Type 0 where
   pub read : reading bytes ≡ accepted input
   pub built : is_built input ≡ true

@@ -39,6 +39,7 @@ fn advice_of(rule: BadConfig) -> &'static str {
         BadConfig::TableArithmetic => "; lower it or config.total_tables",
         BadConfig::CollectorPair { .. } => "; leave it out, and it is the same",
         BadConfig::StackArithmetic => "; lower it or config.total_stacks",
+        BadConfig::DirtyPagesNotOffered => "; set offered.dirty_pages, or write \"auto\"",
         BadConfig::Regions { .. } => {
             "; lower total_memories, max_memory_size, total_tables, table_elements, total_stacks or stack_size"
         }

@@ -22,8 +22,6 @@ pub enum Kind<'a> {
     Object,
     List,
     Any,
-    /// What isn't accepted yet.
-    NotYet,
 }
 
 /// Any whole number.
@@ -184,7 +182,7 @@ fn wanted(kind: &Kind<'_>) -> &'static str {
         Kind::Bytes => "a text of hexadecimal digits",
         Kind::Object => "an object",
         Kind::List => "a list",
-        Kind::Any | Kind::NotYet => "a value",
+        Kind::Any => "a value",
     }
 }
 
@@ -202,6 +200,5 @@ pub fn cause_of_kind(
         Kind::Choice(choices) => cause_of_choice(alloc, value, choices),
         Kind::Bytes => cause_of_bytes(alloc, value),
         Kind::Object | Kind::List | Kind::Any => Ok(None),
-        Kind::NotYet => Ok(Some(String::from_str(alloc, "not accepted yet; leave it out")?)),
     }
 }

@@ -4,12 +4,14 @@ use crate::shapes::{Shape, optional, required, walk_object};
 use serde_json::Value;
 use std::alloc::Global;
 
+// Whether something is used.
+const ENABLED: &[&str] = &["auto", "yes", "no"];
+
 /// The settings of a pool.
 pub struct ConfigShape;
 
 impl Shape for ConfigShape {
     fn walk(alloc: Global, value: &Value) -> Walk {
-        let enabled = Kind::Choice(&["auto", "yes", "no"]);
         walk_object(
             alloc,
             value,
@@ -36,9 +38,9 @@ impl Shape for ConfigShape {
                 optional("async_stack_keep_resident", NUMBER),
                 optional("linear_memory_keep_resident", NUMBER),
                 optional("table_keep_resident", NUMBER),
-                optional("memory_protection_keys", enabled),
+                optional("memory_protection_keys", Kind::Choice(ENABLED)),
                 optional("max_memory_protection_keys", NUMBER),
-                optional("pagemap_scan", Kind::NotYet),
+                optional("pagemap_scan", Kind::Choice(ENABLED)),
             ],
         )
     }
@@ -81,8 +83,8 @@ impl Shape for OfferedShape {
             value,
             &[
                 optional("keys", COUNT),
+                optional("dirty_pages", Kind::Flag),
                 optional("behaviour", Kind::Choice(&["restore", "zero"])),
-                optional("dirty_pages", Kind::NotYet),
             ],
         )
     }

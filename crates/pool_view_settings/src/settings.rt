@@ -200,6 +200,7 @@ fn push_reuse(
                 "max_memory_protection_keys",
                 config.max_memory_protection_keys,
             ),
+            word("pagemap_scan", enabled_name(config.pagemap_scan)),
         ],
     )
 }
@@ -265,6 +266,7 @@ fn push_offered(
         "offered.",
         &[
             count("keys", offered.keys),
+            flag("dirty_pages", offered.dirty_pages),
             word("behaviour", behaviour_name(offered.behaviour)),
         ],
     )

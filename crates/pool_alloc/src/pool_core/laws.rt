@@ -15,9 +15,11 @@ ghost use Rattle.pool_alloc.specs.CallStages.{keys, stage_of};
 ghost use Rattle.pool_alloc.specs.PartyTold.{PartyTold};
 ghost use Rattle.pool_alloc.specs.StepReads.{stripe_allocator};
 ghost use Rattle.pool_alloc.specs.StripesOfGrants.{KeepsToItsStripe, right_outside};
-ghost use Rattle.pool_alloc.specs.UnhinderedRequests.{is_for_room, IsForGrant, HasAllItNeeds};
+ghost use Rattle.pool_alloc.specs.GrantedRequests.{AllGoWell, BreaksNoRule, CanBeMade, IsGranted};
+ghost use Rattle.pool_alloc.specs.UnhinderedRequests.{asked_by, is_for_room, IsForGrant, HasAllItNeeds};
 ghost use Rattle.pool_alloc.specs.UninterruptedCalls.{IsAsking, AreSteps, HasSameCounts};
 ghost use Rattle.pool_alloc.specs.declared.frame.Call.{Call};
+ghost use Rattle.pool_alloc.specs.declared.frame.Outcome.{Outcome};
 ghost use Rattle.pool_alloc.specs.declared.frame.Outcome.TheVariants.{Refused};
 
 use crate::frame::Frame;
@@ -54,6 +56,12 @@ impl<P: Pages, H: GcHeap> PoolCore<P, H> {
     /// history, with all resets still queued.
     pub fn unhindered_requests_find_room(&self, frame: &Frame<P, H>)
         ensures { (maker : MakerTold) (asks : Call P H) (before : List (After P H)) (a : After P H) (e : AllocError) → IsForGrant asks → CanStep maker self.now frame.now → MayBegin maker self.now.settings self.now.plan asks frame.now → HasAllItNeeds self.now frame.now.stripe asks → AreSteps self.now (begun_call asks frame.now) before a → a.outcome ≡ Some (Refused e) → is_for_room e ≡ false }
+    {}
+    /// A law, which does nothing: a request that has all it needs, as above, is granted, or there is no memory for it, if it breaks no rule
+    /// and nothing that its steps ask for fails: its limiter lets each object be made, and no call on the pages that it begins with fails,
+    /// nor the making of its heap.
+    pub fn unhindered_requests_are_granted(&self, frame: &Frame<P, H>)
+        ensures { (maker : MakerTold) (asks : Call P H) (before : List (After P H)) (a : After P H) (o : Outcome P H) → IsForGrant asks → CanStep maker self.now frame.now → MayBegin maker self.now.settings self.now.plan asks frame.now → HasAllItNeeds self.now frame.now.stripe asks → BreaksNoRule self.now asks → CanBeMade self.now.settings (asked_by asks) → AllGoWell self.now (begun_call asks frame.now) before a → a.outcome ≡ Some o → IsGranted o }
     {}
     /// A law, which does nothing: a call has its memories from its party's stripe, and so they are where it is granted them. No step but
     /// that for a party's key changes the stripe.

@@ -1,8 +1,8 @@
 //! A pool is made, and the frames of its callers.
-ghost use Rattle.std.specs.Prelude.{◌≡◌, ◌+◌, ◌^◌, ◌≤◌, false, None, IfOk, IfErr, IfSome, OnOk, MatchResult};
+ghost use Rattle.std.specs.Prelude.{◌≡◌, ◌+◌, ◌^◌, ◌≤◌, ◌&&◌, false, None, IfOk, IfErr, IfSome, OnOk, MatchResult};
 ghost use Rattle.pool_types.specs.Count.{count, rounded_up};
 ghost use Rattle.pool_pages.specs.MakerTold.{MakerTold};
-ghost use Rattle.pool_types.specs.SettingsRules.{first_broken_rule, slab_stripes, IsWithinRules};
+ghost use Rattle.pool_types.specs.SettingsRules.{first_broken_rule, may_use, slab_stripes, IsWithinRules};
 ghost use Rattle.pool_slots.specs.Colourings.{RaisesUnlessGivenUp, RaisesBehindUnlessGivenUp};
 ghost use Rattle.pool_slots.specs.Makings.{IsListedPoolFault};
 ghost use Rattle.pool_alloc.specs.BetweenSteps.{queue_room, IsCore, IsFrame};
@@ -22,7 +22,7 @@ use pool_slots::{
     make_striped_plan,
 };
 use pool_types::{
-    HostAlignedByteCount, MemoryKind, MemoryTunables, Offered, PageSize, PoolingAllocationConfig,
+    Enabled, HostAlignedByteCount, MemoryKind, MemoryTunables, Offered, PageSize, PoolingAllocationConfig,
     Tunables,
 };
 use std::alloc::{AllocError, Global};
@@ -202,6 +202,7 @@ fn settings_of(
             limits.max_memory_size,
         ).byte_count(),
         keep_resident: HostAlignedByteCount::rounded_up_unchecked(page, keep),
+        dirty_pages: uses_dirty_pages(config, offered),
         batch: config.decommit_batch_size,
         max_core_instances: limits.total_core_instances as u64,
         max_component_instances: limits.total_component_instances as u64,
@@ -231,6 +232,16 @@ fn settings_of(
             config.async_stack_keep_resident,
         ),
         tunables: MemoryTunables::new(tunables, MemoryKind::LinearMemory),
+    }
+}
+
+// Whether resets go by the dirty marks of pages: where the system offers them, unless they are refused.
+fn uses_dirty_pages(config: &PoolingAllocationConfig, offered: &Offered) -> bool
+    ensures { result ≡ may_use config.now.pagemap_scan && offered.now.dirty_pages }
+{
+    match config.pagemap_scan {
+        Enabled::No => false,
+        Enabled::Auto | Enabled::Yes => offered.dirty_pages,
     }
 }
 

@@ -24,8 +24,31 @@ pub struct DoneByHand {
     pub next: usize,
 }
 
+/// Resets pages by their dirty marks: at most so many dirty ones, from the first one on, are set by hand to what they go back
+/// to, and the others are left in `ranges`, which must be empty. Answers how many bytes are set by hand.
+pub fn reset_dirty<P: Pages>(
+    region: &mut PageRegion<P>,
+    span: PageSpan,
+    most: usize,
+    ranges: &mut Ranges,
+) -> usize
+    requires span { IsSpan span region.old }
+    requires reachable { IfSome region.old.contents (CanReach span.base (span.pages * span.page)) }
+    requires shaped { TellsShaped region.old }
+    requires empty { ranges.old ≡ [] }
+    ensures region { region.new ≡ pages_restored span.base (take most (marked_pages (span_marks span region.old))) region.old }
+    ensures ranges { ranges.new ≡ at_most_eight (span.pages * span.page) (runs_of span.page (drop most (marked_pages (span_marks span region.old)))) }
+    ensures resident { result ≡ length (take most (marked_pages (span_marks span region.old))) * span.page }
+    ensures span { IsSpan span region.new }
+    ensures shaped { TellsShaped region.new }
+{
+    let done = restore_dirty(region, span, most);
+    leave_dirty(region, span, done.next, ranges);
+    done.count * span.page
+}
+
 // Sets at most so many dirty pages by hand to what they go back to, from the first one on.
-pub(super) fn restore_dirty<P: Pages>(
+fn restore_dirty<P: Pages>(
     region: &mut PageRegion<P>,
     span: PageSpan,
     most: usize,
@@ -52,7 +75,7 @@ pub(super) fn restore_dirty<P: Pages>(
 
 // The dirty pages from one on as ranges, each as long as it can be, at most eight: the eighth reaches to the end where
 // there are more.
-pub(super) fn leave_dirty<P: Pages>(
+fn leave_dirty<P: Pages>(
     region: &PageRegion<P>,
     span: PageSpan,
     from: usize,

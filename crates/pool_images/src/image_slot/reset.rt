@@ -7,7 +7,7 @@ ghost use Rattle.pool_images.specs.Resets.{IsSpan, given_marks, kept_by, left_by
 ghost use Rattle.pool_images.specs.Slots.{size_of, IsSlot, IsReady, IsClean, IsLeft, IsShut, IsPart, forgotten, wiped, cleared, reset_ranges, decommitted_all};
 
 use crate::image_slot::MemoryImageSlot;
-use crate::image_slot::dirty_pages::{PageSpan, leave_dirty, restore_dirty};
+use crate::image_slot::dirty_pages::{PageSpan, reset_dirty};
 use crate::ranges::{ByteRange, Ranges};
 use pool_pages::{PageFault, PageRegion, Pages};
 use pool_types::{DecommitBehavior, HostAlignedByteCount};
@@ -100,10 +100,9 @@ impl<P: Pages> MemoryImageSlot<P> {
         self.fits();
         let span = self.span();
         let most = keep_resident.byte_count() / span.page;
-        let done = restore_dirty(&mut self.region, span, most);
+        let kept = reset_dirty(&mut self.region, span, most, ranges);
         self.dirty = false;
-        leave_dirty(&self.region, span, done.next, ranges);
-        done.count * span.page
+        kept
     }
 
     // The accessible pages of the slot.

@@ -16,4 +16,4 @@ pub returns-in-Err-clause-growth : goal.returns-in-Err-clause-growth
 returns-in-Err-clause-growth g c =
     let old = c.args.self.now in
     allowed_err g.R.ResourceLimiter.told g.R.ResourceLimiter.leads c.args.size (old.linear.size, c.args.size) old.linear c.grow_pages.new.self.linear (g.L.RuntimeLinearMemory.maker_told c.args.maker.now) (g.L.RuntimeLinearMemory.maker_told c.grow_pages.new.maker) (past_room c.args.size old) c.args.limiter.now c.report_failure.new.limiter c.grow_pages.result c.in-Err.error c.report_failure.result
-    c.in-Err.is c.grow_pages.ensures.asked c.report_failure.ensures.answer c.report_failure.ensures.result c.report_failure.ensures.limiter c.report_failure.ensures.exchange
+    c.in-Err.is c.grow_pages.ensures.asked c.report_failure.ensures

@@ -52,7 +52,7 @@ returns-then-not-allow_growth_to-clause-growth g c =
     grown_past_type g.R.ResourceLimiter.told g.R.ResourceLimiter.leads c.args.delta_pages (old.linear.size, grown_size c.args.delta_pages old) old (g.L.RuntimeLinearMemory.maker_told c.args.maker.now) c.args.limiter.now c.report_failure.new.limiter c.report_failure.result
     c.if-delta_pages-eq0.false
     (allowed_at c.ty.result.now old.ty c.grown_size-size.result (grown_size c.args.delta_pages old) false c.allow_growth_to.result c.ty.ensures.value c.grown_size-size.ensures.value c.allow_growth_to.ensures c.if-not-allow_growth_to.true)
-    c.report_failure.ensures.answer c.report_failure.ensures.result c.report_failure.ensures.limiter c.report_failure.ensures.exchange
+    c.report_failure.ensures
 
 pub returns-in-Err-clause-growth : goal.returns-in-Err-clause-growth
 returns-in-Err-clause-growth g c =

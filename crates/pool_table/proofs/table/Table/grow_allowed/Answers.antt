@@ -1,5 +1,5 @@
-use Rattle.std.proofs.Common.{◌≡◌, ◌-◌, ◌≤◌, ℕ, Bool, false, nat_lt, Ok, Some, refl, sym, subst, arith, inl, inr}
-use Rattle.pool_table.proofs.Imports.{nat_tests, IsAllowed, allowed_grown}
+use Rattle.std.proofs.Common.{◌≡◌, ◌-◌, ◌≤◌, ◌<◌, ℕ, Bool, true, false, nat_lt, Ok, Some, refl, sym, subst, arith, inl, inr}
+use Rattle.pool_table.proofs.Imports.{nat_tests, lt-ltb, IsAllowed, allowed_grown, allowed_past}
 use Rattle.pool_limits.specs.declared.growing.Growable.TheVariants.{Table}
 use Rattle.pool_table.specs.Views.{TableView, GrowsTable}
 use Rattle.pool_table.specs.TableStates.{table_view}
@@ -7,6 +7,15 @@ use Rattle.pool_table.proofs.table.Table.grow_allowed.Goals as goal
 
 within : (size most : ℕ) → size ≤ most → nat_lt most size ≡ false
 within size most below = grind (arith, nat_tests)
+
+pub returns-then-size-maximum-clause-growth : goal.returns-then-size-maximum-clause-growth
+returns-then-size-maximum-clause-growth g c =
+    let old : TableView = table_view c.args.self.now in
+    let told = g.R.ResourceLimiter.told in
+    let leads = g.R.ResourceLimiter.leads in
+    let above : old.maximum < c.args.size = rw (sym c.maximum.ensures) c.if-size-maximum.true in
+    let P : Bool → Type 0 = λ b. IsAllowed told leads Table b old.size (old ≡ old) (GrowsTable (c.args.size - old.size) old old) (λ e. ⊥) c.args.limiter.now c.report_failure.new.limiter c.report_failure.result in
+    inl (subst P (sym (lt-ltb old.maximum c.args.size above)) (allowed_past told leads Table old.size (old ≡ old) (GrowsTable (c.args.size - old.size) old old) (λ e. ⊥) c.args.limiter.now c.report_failure.new.limiter c.report_failure.result c.report_failure.ensures refl))
 
 pub returns-in-Ok-clause-growth : goal.returns-in-Ok-clause-growth
 returns-in-Ok-clause-growth g c =

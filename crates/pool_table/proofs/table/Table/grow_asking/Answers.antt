@@ -19,5 +19,4 @@ returns-in-None-clause-growth g c =
     let old : TableView = table_view c.args.self.now in
     let no : c.size-old.result + c.args.delta < 2 ^ 64 → ⊥ = c.in-None.ensures in
     let past : 2 ^ 64 ≤ old.size + c.args.delta = omega (arith, c.size-old.ensures.value, no) in
-    inl (grown_past_type g.R.ResourceLimiter.told g.R.ResourceLimiter.leads c.args.delta old c.args.limiter.now c.report_failure.new.limiter c.report_failure.result c.if-delta-eq0.false past
-    c.report_failure.ensures.answer c.report_failure.ensures.result c.report_failure.ensures.limiter c.report_failure.ensures.exchange)
+    inl (grown_past_type g.R.ResourceLimiter.told g.R.ResourceLimiter.leads c.args.delta old c.args.limiter.now c.report_failure.new.limiter c.report_failure.result c.if-delta-eq0.false past c.report_failure.ensures)
