@@ -2,6 +2,7 @@ pub mod Beside
 pub mod Driving
 pub mod Grounding
 pub mod Joined
+pub mod JoinedAll
 pub mod JoinedOne
 pub mod JoinedViews
 pub mod Limits
