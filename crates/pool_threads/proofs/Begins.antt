@@ -313,7 +313,7 @@ module _ {P : Type 0} (p : RunningParty P) where
   not_steps : (frame : Frame P PlainHeap) (live : List (Option (Grant P PlainHeap))) → rests ≡ makes_step frame live → ⊥
   not_steps frame live is = cc
 
-  not_replies : (reply : Reply) (live : List (Option (Grant P PlainHeap))) (store : ListedStore) → rests {P = P} ≡ replies reply live store → ⊥
+  not_replies : (reply : Reply) (live : List (Option (Grant P PlainHeap))) (store : ListedStore) → ◌≡◌ {A = Opening P} rests (replies reply live store) → ⊥
   not_replies reply live store is = cc
 
   drop_opens : (of : ℕ) (x : Option (Grant P PlainHeap)) → rests ≡ drop_opening x of p → ⊥
@@ -344,7 +344,7 @@ module _ {P : Type 0} (p : RunningParty P) where
 
   next_opens : (modules : List ModuleAsked) (next : Option Command) (keyed : Bool) → OpensNext modules next keyed p rests → next ≡ None
   next_opens modules None keyed opens = refl
-  next_opens modules (Some command) false opens = absurd (let no : rests {P = P} ≡ makes_step _ _ = opens in cc)
+  next_opens modules (Some command) false opens = absurd (not_steps (begun_call call.Key p.frame) p.live opens)
   next_opens modules (Some command) true opens = absurd (act_opens modules (act_of command) opens)
 
   none_by : (modules : List ModuleAsked) (next : Option Command) (keyed : Bool) (o : Opening P) → OpensNext modules next keyed p o → (q : RunningParty P) (left : Begun) → Begins o p q left → left ≡ Rests → next ≡ None

@@ -12,6 +12,7 @@ ghost use Rattle.pool_run.specs.Rooms.{IsPooledRun, in_stripe, under};
 ghost use Rattle.pool_run.specs.RunsMade.{is_drawing, party_made_for};
 ghost use Rattle.pool_run.specs.Ties.{IsReserved};
 ghost use Rattle.pool_run.specs.Turns.{host_of_party, with_reply};
+ghost use Rattle.pool_run.specs.Validity.{is_valid};
 ghost use Rattle.pool_run.specs.Worlds.{AreCallsFor, NameModules};
 ghost use Rattle.pool_run.specs.declared.command.Command.{Command};
 ghost use Rattle.pool_run.specs.declared.reply.Reply.{Reply};
@@ -361,6 +362,54 @@ pub fn party_at(input: &Input, party: usize) -> &Party
     &input.parties.as_slice()[party]
 }
 
+// `run_party`, of a job that is known.
+fn run_numbered<P: Pages, M: PageMaker, R: Wait, G: Gate>(
+    rt: &R,
+    alloc: Global,
+    pool: &SharedPool<PoolHall<P, PlainHeap, M>>,
+    seat: &mut PoolSeat<P, PlainHeap, M>,
+    input: &Input,
+    modules: &[ModuleCall],
+    number: usize,
+    party: &mut RunningParty<P>,
+    gate: &G,
+) -> Result<ReplyList, AllocError>
+    ghost job: { Job }
+    requires pool { IsSharedOf M.told (about_job job) pool.now }
+    requires job { IsJob P job }
+    requires calls { AreCallsFor job.world.terms job.settings modules.now }
+    requires valid { is_valid input.now ≡ true }
+    requires count { length modules.now ≡ length input.now.modules }
+    requires inside { number < length input.now.parties }
+    requires own { IsSeatOf pool.now.hall seat.old }
+    requires free { IsFree seat.old }
+    requires made { party.old ≡ party_made_for job.settings (party_in input.now number) }
+    requires nothing { IsDriven (length (made_with pool.now.hall)) (alone_of (about_job job)) (view seat.old) party.old.frame None }
+    ensures own { IsSeatOf pool.now.hall seat.new }
+    ensures free { IsFree seat.new }
+    ensures told { IfOk result (λ replies. IsPooledRun (party_world job (party_in input.now number) party.new.frame.stripe) (party_in input.now number).commands replies) }
+    ensures all { IfOk result (λ replies. length replies ≡ length (party_in input.now number).commands) }
+    ensures named { IfOk result (λ replies. NamesLive replies party.new.live) }
+    ensures notes { IfOk result (λ replies. NotesOf job.plan modules.now (party_in input.now number) party.new.frame.stripe replies (view seat.old) (view seat.new)) }
+    ensures work { IfOk result (λ _. IsAtWork job (length (made_with pool.now.hall)) (view seat.new) party.new) }
+    ensures idle { IfOk result (λ _. IsIdle party.new.frame) }
+    ensures seat { OnErr result (seat.new ≡ seat.old) }
+    ensures same { OnErr result (party.new ≡ party.old) }
+{
+    let given = party_at(input, number);
+    run_given(
+        rt,
+        alloc,
+        pool,
+        seat,
+        modules,
+        given,
+        party,
+        number as u32,
+        gate,
+    )
+}
+
 /// Makes all commands of a party of the input, one after the other, over a pool that others use at the same time. The running party is as
 /// it is made, and its seat has nothing; afterwards the seat has what the party's live grants are of. It may wait for others, each time
 /// while they hold one part of the pool. Takes memory for the replies first: for want of it nothing is done. The gate is told before and
@@ -393,16 +442,5 @@ pub fn run_party<P: Pages, M: PageMaker, R: Wait, G: Gate>(
     ensures seat { OnErr result (seat.new ≡ seat.old) }
     ensures same { OnErr result (running.new ≡ running.old) }
 {
-    let given = party_at(input, party);
-    run_given(
-        rt,
-        alloc,
-        pool,
-        seat,
-        modules,
-        given,
-        running,
-        party as u32,
-        gate,
-    )
+    run_numbered(rt, alloc, pool, seat, input, modules, party, running, gate)
 }

@@ -24,26 +24,6 @@ loop-at-init g c =
       reserved = search rules;
     }
 
-pub run_command-requires-clause-keyed : goal.run_command-requires-clause-keyed
-run_command-requires-clause-keyed g c =
-    let below : c.loop-at.at < length c.args.commands.now = search rules in
-    c.loop-at.invariant.drawn (omega (arith, below))
-
-pub run_command-requires-clause-room : goal.run_command-requires-clause-room
-run_command-requires-clause-room g c =
-    c.loop-at.invariant.told.room
-
-pub run_command-requires-clause-next : goal.run_command-requires-clause-next
-run_command-requires-clause-next g c =
-    let below : c.loop-at.at < length c.args.commands.now = search rules in
-    omega (arith, below, c.loop-at.invariant.told.private.count, c.loop-at.invariant.done)
-
-pub run_command-requires-clause-small : goal.run_command-requires-clause-small
-run_command-requires-clause-small g c =
-    let below : c.loop-at.at < length c.args.commands.now = search rules in
-    let few : length c.args.commands.now < 4294967296 = search rules in
-    omega (arith, below, few, c.loop-at.invariant.told.private.count, c.loop-at.invariant.done)
-
 pub push_reserved-requires : goal.push_reserved-requires
 push_reserved-requires g c =
     let below : c.loop-at.at < length c.args.commands.now = search rules in
@@ -57,7 +37,7 @@ loop-at-preserved g c =
       own = c.run_command-reply.ensures.own;
       free = c.run_command-reply.ensures.free;
       work = c.run_command-reply.ensures.work;
-      told = search rules;
+      told = subst (λ (rs : List Reply). IsToldSoFar g.job c.args.commands.now rs c.run_command-reply.new.party) (search rules) (c.run_command-reply.ensures.told c.loop-at.replies.items c.loop-at.invariant.told);
       idle = c.run_command-reply.ensures.idle;
       drawn = λ some'. c.run_command-reply.ensures.keyed;
       host = c.run_command-reply.ensures.stays.host ∙ c.loop-at.invariant.host;

@@ -1,6 +1,7 @@
 use Rattle.std.proofs.Common.{◌≡◌, true, length, is_some, None, refl, rules, sym, subst, ◌∙◌}
 use Rattle.pool_hall.specs.Seat.{made_with, view}
 use Rattle.pool_driver.specs.Driving.{Given, IsDriven}
+use Rattle.pool_driver.specs.Pools.{IsSharedOf}
 use Rattle.pool_threads.specs.Working.{IsJob, StandsSomewhere}
 use Rattle.pool_threads.proofs.Adds.{grows_still}
 use Rattle.pool_threads.proofs.CallEnds.{same_on}
@@ -8,13 +9,13 @@ use Rattle.pool_threads.proofs.Performs.{none_is}
 use Rattle.pool_threads.proofs.StepMade.{made_ended, made_goes, made_grows, made_left, made_memories, made_notes, made_place, made_reserved, made_tables, made_went}
 use Rattle.pool_threads.proofs.party.run_call.Goals as goal
 
-pub step_under-requires-clause-driven : goal.step_under-requires-clause-driven
-step_under-requires-clause-driven g c =
-    subst (λ (x : Given). IsDriven (length (made_with c.args.pool.now.hall)) x (view c.loop.seat) c.loop.party.frame None) (sym c.loop.invariant.given) c.loop.invariant.work.driven
-
-pub step_under-requires-clause-somewhere : goal.step_under-requires-clause-somewhere
-step_under-requires-clause-somewhere g c =
-    subst (λ (x : Given). StandsSomewhere x c.loop.party.frame) (sym c.loop.invariant.given) (c.loop.invariant.work.core, c.loop.invariant.work.stands)
+pub step_under-requires : goal.step_under-requires
+step_under-requires g c κs within =
+    let pool : IsSharedOf g.M.PageMaker.told g.of.given.about c.args.pool.now = search rules in
+    let driven : IsDriven (length (made_with c.args.pool.now.hall)) g.of.given (view c.loop.seat) c.loop.party.frame None =
+    subst (λ (x : Given). IsDriven (length (made_with c.args.pool.now.hall)) x (view c.loop.seat) c.loop.party.frame None) (sym c.loop.invariant.given) c.loop.invariant.work.driven in
+    let somewhere : StandsSomewhere g.of.given c.loop.party.frame = subst (λ (x : Given). StandsSomewhere x c.loop.party.frame) (sym c.loop.invariant.given) (c.loop.invariant.work.core, c.loop.invariant.work.stands) in
+    (search rules, (search rules, (search rules, (search rules, (pool, (c.loop.invariant.own, (c.loop.invariant.free, (driven, (c.loop.invariant.unanswered, somewhere)))))))))
 
 pub answer-requires-clause-place : goal.answer-requires-clause-place
 answer-requires-clause-place g c =

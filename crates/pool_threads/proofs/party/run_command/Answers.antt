@@ -1,18 +1,18 @@
 use Rattle.std.proofs.Common.{◌≡◌, ℕ, ◌+◌, ◌<◌, true, false, List, [], length, Option, Some, None, is_some, refl, rules, sym, ap, subst, ◌∙◌, arith, slice_get, true≢false}
-use Rattle.pool_hall.specs.Seat.{made_with, view, IsSeatOf}
+use Rattle.pool_hall.specs.Seat.{made_with, view, IsFree, IsSeatOf}
 use Rattle.pool_alloc.specs.Calls.{IsIdle}
 use Rattle.pool_driver.specs.Pools.{IsSharedOf}
 use Rattle.pool_run.specs.Turns.{with_reply}
 use Rattle.pool_run.specs.Worlds.{AreCallsFor}
 use Rattle.pool_run.specs.declared.reply.Reply.{Reply}
-use Rattle.pool_threads.specs.Working.{IsAtWork, IsToldSoFar, about_job}
+use Rattle.pool_threads.specs.Working.{IsAtWork, IsJob, IsToldSoFar, about_job}
 use Rattle.pool_threads.proofs.Begins.{begins_call, ends_at_once, some_begins}
 use Rattle.pool_threads.proofs.CallEnds.{same_on}
 use Rattle.pool_threads.proofs.Performs.{command_notes, quiet_notes}
 use Rattle.pool_threads.proofs.party.run_command.Goals as goal
 
-pub unreachable-requires-in-Rests : goal.unreachable-requires-in-Rests
-unreachable-requires-in-Rests g c =
+pub unreachable-requires : goal.unreachable-requires
+unreachable-requires g c =
     let calls : AreCallsFor g.job.world.terms g.job.settings c.args.modules.now = search rules in
     let idle : IsIdle c.args.party.now.frame = search rules in
     let work : IsAtWork g.job (length (made_with c.args.pool.now.hall)) (view c.args.seat.now) c.args.party.now = search rules in
@@ -22,32 +22,8 @@ unreachable-requires-in-Rests g c =
     let fresh : c.args.party.now.keyed ≡ false → c.args.party.now.done ≡ 0 = λ none. absurd (true≢false (sym keyed ∙ none)) in
     some_begins c.args.party.now c.args.modules.now c.args.commands.now c.begin_next.new.party c.begin_next.result c.begin_next.ensures.begins below c.in-Rests.is
 
-pub run_call-requires-clause-work : goal.run_call-requires-clause-work
-run_call-requires-clause-work g c =
-    let calls : AreCallsFor g.job.world.terms g.job.settings c.args.modules.now = search rules in
-    let idle : IsIdle c.args.party.now.frame = search rules in
-    let work : IsAtWork g.job (length (made_with c.args.pool.now.hall)) (view c.args.seat.now) c.args.party.now = search rules in
-    let keyed : c.args.party.now.keyed ≡ true = search rules in
-    let below : c.args.party.now.done < length c.args.commands.now = search rules in
-    let room : length c.args.party.now.live ≡ length c.args.commands.now = search rules in
-    let fresh : c.args.party.now.keyed ≡ false → c.args.party.now.done ≡ 0 = λ none. absurd (true≢false (sym keyed ∙ none)) in
-    let begun = begins_call g.job (length (made_with c.args.pool.now.hall)) (view c.args.seat.now) c.args.modules.now c.args.commands.now c.args.party.now calls idle work room fresh c.begin_next.new.party c.begin_next.result c.begin_next.ensures.begins c.in-Calls.is in
-    begun.at_work
-
-pub run_call-requires-clause-keyed : goal.run_call-requires-clause-keyed
-run_call-requires-clause-keyed g c =
-    let calls : AreCallsFor g.job.world.terms g.job.settings c.args.modules.now = search rules in
-    let idle : IsIdle c.args.party.now.frame = search rules in
-    let work : IsAtWork g.job (length (made_with c.args.pool.now.hall)) (view c.args.seat.now) c.args.party.now = search rules in
-    let keyed : c.args.party.now.keyed ≡ true = search rules in
-    let below : c.args.party.now.done < length c.args.commands.now = search rules in
-    let room : length c.args.party.now.live ≡ length c.args.commands.now = search rules in
-    let fresh : c.args.party.now.keyed ≡ false → c.args.party.now.done ≡ 0 = λ none. absurd (true≢false (sym keyed ∙ none)) in
-    let begun = begins_call g.job (length (made_with c.args.pool.now.hall)) (view c.args.seat.now) c.args.modules.now c.args.commands.now c.args.party.now calls idle work room fresh c.begin_next.new.party c.begin_next.result c.begin_next.ensures.begins c.in-Calls.is in
-    begun.keyed
-
-pub run_call-requires-clause-begun : goal.run_call-requires-clause-begun
-run_call-requires-clause-begun g c =
+pub run_call-requires : goal.run_call-requires
+run_call-requires g c κs within =
     let calls : AreCallsFor g.job.world.terms g.job.settings c.args.modules.now = search rules in
     let idle : IsIdle c.args.party.now.frame = search rules in
     let work : IsAtWork g.job (length (made_with c.args.pool.now.hall)) (view c.args.seat.now) c.args.party.now = search rules in
@@ -58,20 +34,11 @@ run_call-requires-clause-begun g c =
     let begun = begins_call g.job (length (made_with c.args.pool.now.hall)) (view c.args.seat.now) c.args.modules.now c.args.commands.now c.args.party.now calls idle work room fresh c.begin_next.new.party c.begin_next.result c.begin_next.ensures.begins c.in-Calls.is in
     let own : IsSeatOf c.args.pool.now.hall c.args.seat.now = search rules in
     let pool : IsSharedOf g.M.PageMaker.told (about_job g.job) c.args.pool.now = search rules in
-    begun.goes (own.limits ∙ pool.hall.limits)
-
-pub run_call-requires-clause-small : goal.run_call-requires-clause-small
-run_call-requires-clause-small g c =
-    let calls : AreCallsFor g.job.world.terms g.job.settings c.args.modules.now = search rules in
-    let idle : IsIdle c.args.party.now.frame = search rules in
-    let work : IsAtWork g.job (length (made_with c.args.pool.now.hall)) (view c.args.seat.now) c.args.party.now = search rules in
-    let keyed : c.args.party.now.keyed ≡ true = search rules in
-    let below : c.args.party.now.done < length c.args.commands.now = search rules in
-    let room : length c.args.party.now.live ≡ length c.args.commands.now = search rules in
-    let fresh : c.args.party.now.keyed ≡ false → c.args.party.now.done ≡ 0 = λ none. absurd (true≢false (sym keyed ∙ none)) in
-    let begun = begins_call g.job (length (made_with c.args.pool.now.hall)) (view c.args.seat.now) c.args.modules.now c.args.commands.now c.args.party.now calls idle work room fresh c.begin_next.new.party c.begin_next.result c.begin_next.ensures.begins c.in-Calls.is in
+    let free : IsFree c.args.seat.now = search rules in
+    let job : IsJob g.row.P.Denot g.job = search rules in
     let small : c.args.party.now.done + 1 < 18446744073709551616 = search rules in
-    omega (arith, begun.done, small)
+    let next : c.begin_next.new.party.done + 1 < 18446744073709551616 = omega (arith, begun.done, small) in
+    (search rules, (search rules, (search rules, (search rules, (pool, (job, (own, (free, (begun.at_work, (refl, (begun.keyed, (begun.goes (own.limits ∙ pool.hall.limits), (next, c.begin_next.ensures.reserved)))))))))))))
 
 pub unreachable-requires-in-None : goal.unreachable-requires-in-None
 unreachable-requires-in-None g c =
@@ -83,7 +50,7 @@ unreachable-requires-in-None g c =
     let room : length c.args.party.now.live ≡ length c.args.commands.now = search rules in
     let fresh : c.args.party.now.keyed ≡ false → c.args.party.now.done ≡ 0 = λ none. absurd (true≢false (sym keyed ∙ none)) in
     let begun = begins_call g.job (length (made_with c.args.pool.now.hall)) (view c.args.seat.now) c.args.modules.now c.args.commands.now c.args.party.now calls idle work room fresh c.begin_next.new.party c.begin_next.result c.begin_next.ensures.begins c.in-Calls.is in
-    absurd (true≢false (sym (sym c.run_call.ensures.replied ∙ (ap (λ (o : Option Reply). is_some o) c.in-None.is)) ∙ (begun.same ∙ keyed)))
+    absurd (true≢false (sym (begun.same ∙ keyed) ∙ (sym c.run_call.ensures.replied ∙ ap (λ (o : Option Reply). is_some o) c.in-None.is)))
 
 pub returns-in-Replies-clause-work : goal.returns-in-Replies-clause-work
 returns-in-Replies-clause-work g c =

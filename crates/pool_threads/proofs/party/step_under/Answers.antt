@@ -25,7 +25,7 @@ step-requires-in-Some-send-L g c κs within =
     let free : IsFree c.args.seat.now = search rules in
     let driven : IsDriven (length (made_with c.args.pool.now.hall)) g.given (view c.args.seat.now) c.args.frame.now None = search rules in
     let none : c.args.outcome.now ≡ None = search rules in
-    (search rules, (search rules, (search rules, (search rules, (search rules, (search rules, (search rules, (pool, (own, (free, (driven, none)))))))))))
+    (search rules, (search rules, (search rules, (search rules, (search rules, (search rules, (search rules, (search rules, (pool, (own, (free, (driven, none))))))))))))
 
 pub returns-in-None-clause-steps : goal.returns-in-None-clause-steps
 returns-in-None-clause-steps g c =
