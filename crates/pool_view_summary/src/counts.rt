@@ -1,10 +1,10 @@
 ghost use Rattle.std.specs.Prelude.{◌≡◌, ◌<◌, length, option_map};
-ghost use Rattle.pool_view_steps.specs.Counts.{asks_grant, cause_of, command_ended, count_for, counted, ends_request, no_counts, refused_more, refused_with};
+ghost use Rattle.pool_view_summary.specs.Counts.{asks_grant, cause_of, command_ended, count_for, counted, ends_request, no_counts, refused_more, refused_with};
 
-use crate::step::command_of;
 use pool_pages::Pages;
 use pool_run::{Command, Input, Refusal, Reply, Run};
 use pool_slots::AllocError;
+use pool_view_steps::command_of;
 
 /// Why a command was refused, as refusals are counted.
 #[derive(Clone, Copy, Debug, PartialEq, Eq)]

@@ -2,8 +2,8 @@
 use Rattle.std.specs.Prelude.{ℕ, List, [], ◌++◌, ◌==◌, codes, if◌then◌else◌}
 use Rattle.std.specs.Fmt.{decimal}
 use Rattle.pool_forms.specs.Output.{line_feed}
-use Rattle.pool_view_steps.specs.declared.counts.Counts.{Counts}
-use Rattle.pool_view_steps.specs.declared.counts.Refusals.{Refusals}
+use Rattle.pool_view_summary.specs.declared.counts.Counts.{Counts}
+use Rattle.pool_view_summary.specs.declared.counts.Refusals.{Refusals}
 
 -- the line of a count
 unfoldable pub count_line : List ℕ → ℕ → List ℕ

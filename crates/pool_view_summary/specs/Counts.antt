@@ -2,7 +2,6 @@
 use Rattle.std.specs.Prelude.{◌≡◌, ℕ, ◌-◌, ◌^◌, ◌==◌, List, min, length, slice_get, Bool, true, false, if◌then◌else◌, Option, Some, None}
 use Rattle.std.specs.List.{count_by}
 use Rattle.pool_types.specs.Rising.{risen}
-use Rattle.pool_forms.specs.Fields.{◌>>=◌}
 use Rattle.pool_slots.specs.declared.errors.AllocError.TheVariants as alloc
 use Rattle.pool_run.specs.Progress.{commands_done}
 use Rattle.pool_run.specs.Watching.{TurnTold}
@@ -14,10 +13,11 @@ use Rattle.pool_run.specs.declared.reply.Refusal.TheVariants.{NoSuchGrant, GcSto
 use Rattle.pool_run.specs.declared.reply.Reply.{Reply}
 use Rattle.pool_run.specs.declared.reply.Reply.TheVariants.{Refused}
 use Rattle.pool_run.specs.declared.running_party.RunningParty.{RunningParty}
-use Rattle.pool_view_steps.specs.declared.counts.Cause.{Cause}
-use Rattle.pool_view_steps.specs.declared.counts.Cause.TheVariants as cause
-use Rattle.pool_view_steps.specs.declared.counts.Counts.{Counts}
-use Rattle.pool_view_steps.specs.declared.counts.Refusals.{Refusals}
+use Rattle.pool_view_steps.specs.Commands.{command_of}
+use Rattle.pool_view_summary.specs.declared.counts.Cause.{Cause}
+use Rattle.pool_view_summary.specs.declared.counts.Cause.TheVariants as cause
+use Rattle.pool_view_summary.specs.declared.counts.Counts.{Counts}
+use Rattle.pool_view_summary.specs.declared.counts.Refusals.{Refusals}
 
 -- The cause as which a refusal is counted: whatever there is no room for is one cause, and whatever rule is broken.
 abbrev pub cause_of : Refusal → Cause
@@ -78,10 +78,6 @@ asks_grant _ = false
 abbrev pub asks_if : Option Command → Bool
 asks_if None = false
 asks_if (Some command) = asks_grant command
-
--- The command of this number of a party.
-abbrev pub command_of : Input → ℕ → ℕ → Option Command
-command_of input i n = slice_get input.parties i >>= (λ p. slice_get p.commands n)
 
 -- The last of so many commands of a party, if there is one.
 abbrev pub last_of : Input → ℕ → ℕ → Option Command
