@@ -1,24 +1,19 @@
 -- What is counted turn by turn is what the turns have.
-use Rattle.std.proofs.Common.{◌≡◌, ℕ, ◌+◌, ◌-◌, ◌^◌, ◌<◌, ◌≤◌, Bool, true, false, List, [], ◌∷◌, length, cond, min, if◌then◌else◌, Option, Some, None, refl, sym, ap, ◌∙◌, subst, inl, inr, arith, ◌++◌, String, string_bytes}
+use Rattle.std.proofs.Common.{◌≡◌, ℕ, ◌+◌, ◌-◌, ◌^◌, ◌<◌, ◌≤◌, Bool, true, false, List, [], ◌∷◌, length, cond, min, if◌then◌else◌, Option, Some, None, refl, sym, ap, ◌∙◌, subst, inl, inr, arith}
 use Rattle.std.specs.List.{count_by}
 use Rattle.std.proofs.Math.Nat.{min-eq_left, min-eq_right, min-le_right}
 use Rattle.std.proofs.lemmas.Bool.{cases_lt}
 use Rattle.std.proofs.lemmas.List.Recursion.{is_count_by}
 use Rattle.pool_types.specs.Rising.{risen}
-use Rattle.pool_run.specs.Watching.{LeadsOver, TurnTold, IsWatchedRun}
-use Rattle.pool_pages.specs.MakerTold.{MakerTold}
+use Rattle.pool_run.specs.Watching.{LeadsOver, TurnTold}
 use Rattle.pool_run.specs.declared.input.Input.{Input}
-use Rattle.pool_run.specs.declared.output.RunOutput.{RunOutput}
 use Rattle.pool_run.specs.declared.reply.Reply.{Reply}
 use Rattle.pool_run.specs.declared.reply.Reply.TheVariants as reply
-use Rattle.pool_view_steps.specs.Counts.{at_most, cause_of, count_for, counted, CountTurns, ends_request, is_for, no_counts, refused_more, refused_with, refuses_for}
-use Rattle.std.specs.declared.alloc.Global.{Global}
-use Rattle.pool_view_steps.specs.CountsText.{counts_text}
-use Rattle.pool_view_steps.specs.Shown.{IsSummary, IsSummedUp}
-use Rattle.pool_view_steps.specs.declared.counts.Cause.{Cause}
-use Rattle.pool_view_steps.specs.declared.counts.Cause.TheVariants as cause
-use Rattle.pool_view_steps.specs.declared.counts.Counts.{Counts}
-use Rattle.pool_view_steps.specs.declared.counts.Refusals.{Refusals}
+use Rattle.pool_view_summary.specs.Counts.{at_most, cause_of, count_for, counted, CountTurns, ends_request, is_for, no_counts, refused_more, refused_with, refuses_for}
+use Rattle.pool_view_summary.specs.declared.counts.Cause.{Cause}
+use Rattle.pool_view_summary.specs.declared.counts.Cause.TheVariants as cause
+use Rattle.pool_view_summary.specs.declared.counts.Counts.{Counts}
+use Rattle.pool_view_summary.specs.declared.counts.Refusals.{Refusals}
 
 -- one more and then so many more, up to the greatest number
 add_risen : (n k : ℕ) → at_most (risen n + k) ≡ at_most (n + (1 + k))
@@ -137,18 +132,3 @@ module _ {P W : Type 0} (input : Input) (get : W → Counts) where
         let sum : count_for why (get w).refusals + tally (λ (t : TurnTold P). refuses_for why t.reply) told ≡ count_by (λ (t : TurnTold P). refuses_for why t.reply) told = omega (arith, start, tally_counts (λ (t : TurnTold P). refuses_for why t.reply) told) in
         all ∙ ap at_most sum;
   }
-
-  -- So a run that was watched by one who counts is summed up.
-  pub summed_up : (Leads : TurnTold P → W → W → Type 0) → ((t : TurnTold P) (a b : W) → Leads t a b → get b ≡ counted input t (get a)) → (maker : MakerTold) (output : RunOutput) (w out : W) → get w ≡ no_counts → IsWatchedRun P Leads input maker output w out → IsSummedUp P input maker output (get out)
-  summed_up Leads each maker output w out none is = record {
-    run = is.run;
-    turns = is.watched.turns;
-    order = is.watched.order;
-    told = is.watched.watched.told;
-    tells = is.watched.watched.tells;
-    counted = counts_turns Leads each is.watched.watched.told w out none is.watched.watched.leads;
-  }
-
-  -- And a text that begins with the counts is a summary.
-  pub summary_of : (maker : MakerTold) (output : RunOutput) (w out : W) (text : String Global) → get w ≡ no_counts → IsWatchedRun P (λ t a b. get b ≡ counted input t (get a)) input maker output w out → ((rest : List ℕ) × (string_bytes text ≡ counts_text (get out) ++ rest)) → IsSummary P input maker text
-  summary_of maker output w out text none is has = (output, get out, has.0, summed_up (λ t a b. get b ≡ counted input t (get a)) (λ t a b h. h) maker output w out none is, has.1)

@@ -21,11 +21,11 @@ use Rattle.pool_view_summary.specs.declared.kinds.OfKind.{OfKind}
 
 -- the line of the picks
 unfoldable pub picks_line : Picks → List ℕ
-picks_line p = codes "picks cold=" ++ decimal p.cold ++ codes " warm=" ++ decimal p.warm ++ codes " affine=" ++ decimal p.affine ++ codes " full=" ++ decimal p.full ++ line_feed
+picks_line p = codes "picks cold=" ++ (decimal p.cold ++ (codes " warm=" ++ (decimal p.warm ++ (codes " affine=" ++ (decimal p.affine ++ (codes " full=" ++ (decimal p.full ++ line_feed)))))))
 
 -- the line of the flushes
 unfoldable pub flushes_line : Flushes → List ℕ
-flushes_line f = codes "flushes " ++ decimal f.count ++ codes " slots=" ++ decimal f.slots ++ codes " most=" ++ decimal f.most ++ line_feed
+flushes_line f = codes "flushes " ++ (decimal f.count ++ (codes " slots=" ++ (decimal f.slots ++ (codes " most=" ++ (decimal f.most ++ line_feed)))))
 
 -- the number, or none
 abbrev pub or_none : Option ℕ → ℕ
@@ -38,7 +38,7 @@ resident_at m = at_most (at_most (m.unused_memory_bytes_resident + m.unused_tabl
 
 -- the line of resident bytes: how many at most, and at the end
 unfoldable pub resident_line : ℕ → ℕ → List ℕ
-resident_line most end = codes "resident most=" ++ decimal most ++ codes " end=" ++ decimal end ++ line_feed
+resident_line most end = codes "resident most=" ++ (decimal most ++ (codes " end=" ++ (decimal end ++ line_feed)))
 
 -- a bound, or a dash where none is known
 unfoldable pub number_text : Option ℕ → List ℕ
@@ -55,7 +55,7 @@ is_there k = nat_lt 0 k.commands || not (calls_none k.calls)
 
 -- the numbers of a kind's line
 unfoldable pub kind_numbers : OfKind → List ℕ
-kind_numbers k = codes " | " ++ decimal k.commands ++ codes " | " ++ decimal k.steps ++ codes " | " ++ decimal k.most ++ codes " | "
+kind_numbers k = codes " | " ++ (decimal k.commands ++ (codes " | " ++ (decimal k.steps ++ (codes " | " ++ (decimal k.most ++ codes " | ")))))
 
 -- the line of a kind
 unfoldable pub kind_line : List ℕ → OfKind → List ℕ

@@ -13,7 +13,7 @@ use pool_slots::{PlainHeap, Plan};
 use pool_view_steps::{CommandKind, command_of, kind_of};
 
 /// A step that a party made, as far as it is counted.
-#[derive(Clone, Copy, Debug, PartialEq, Eq)]
+#[derive(Clone, Copy)]
 pub struct Made {
     pub party: usize,
     /// What the step was to do, and what the next one is to do.

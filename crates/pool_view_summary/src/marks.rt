@@ -10,7 +10,7 @@ use pool_slots::SlotName;
 use std::alloc::{AllocError, Global};
 
 /// What is known of a slot from the picks so far.
-#[derive(Clone, Copy, Debug, PartialEq, Eq)]
+#[derive(Clone, Copy)]
 pub struct SlotPast {
     pub used: bool,
     /// The memory of a module that it was picked for last, unless a purge found it since.
@@ -43,7 +43,7 @@ impl SlotPast {
 fn fresh_slots(alloc: Global, count: u32) -> Result<Vec<SlotPast>, AllocError>
     ensures { IfOk result (λ v. v.items ≡ replicate count fresh) }
 {
-    let mut pasts = Vec::new(alloc);
+    let mut pasts = Vec::with_capacity(alloc, count as usize)?;
     for slot in 0..count {
         pasts.push(SlotPast::fresh())?;
     }
@@ -53,7 +53,7 @@ fn fresh_slots(alloc: Global, count: u32) -> Result<Vec<SlotPast>, AllocError>
 fn zeros(alloc: Global, count: usize) -> Result<Vec<u64>, AllocError>
     ensures { IfOk result (λ v. v.items ≡ replicate count 0) }
 {
-    let mut all = Vec::new(alloc);
+    let mut all = Vec::with_capacity(alloc, count)?;
     for at in 0..count {
         all.push(0)?;
     }

@@ -14,14 +14,14 @@ use pool_types::CompiledModuleId;
 use pool_view_steps::command_of;
 
 /// A memory of a compiled module, by its number among those of the module.
-#[derive(Clone, Copy, Debug, PartialEq, Eq)]
+#[derive(Clone, Copy)]
 pub struct MemoryOf {
     pub id: CompiledModuleId,
     pub index: usize,
 }
 
 /// What a party's next step is to do, as far as it is counted.
-#[derive(Clone, Copy, Debug, PartialEq, Eq)]
+#[derive(Clone, Copy)]
 pub enum Doing {
     /// A command begins that lets no memory and no table grow, or nothing is left.
     Begin,
@@ -53,7 +53,7 @@ pub enum Doing {
 }
 
 /// What is seen of a party between two of its turns.
-#[derive(Clone, Copy, Debug, PartialEq, Eq)]
+#[derive(Clone, Copy)]
 pub struct Seen {
     /// What its next step is to do.
     pub doing: Doing,

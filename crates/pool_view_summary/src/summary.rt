@@ -29,7 +29,7 @@ pub struct Summary {
 fn none_seen(alloc: Global, count: usize) -> Result<Vec<Seen>, AllocError>
     ensures { IfOk result (λ v. v.items ≡ replicate count unseen) }
 {
-    let mut all = Vec::new(alloc);
+    let mut all = Vec::with_capacity(alloc, count)?;
     for party in 0..count {
         all.push(Seen::none())?;
     }

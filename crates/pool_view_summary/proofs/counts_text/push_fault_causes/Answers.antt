@@ -1,7 +1,7 @@
 use Rattle.std.proofs.lemmas.Result.{on_ok_weaker}
-use Rattle.pool_view_steps.specs.CountsText.{fault_causes_text}
-use Rattle.pool_view_steps.proofs.Joining.{three}
-use Rattle.pool_view_steps.proofs.summary_text.push_fault_causes.Goals as goal
+use Rattle.pool_view_summary.specs.CountsText.{fault_causes_text}
+use Rattle.pool_view_summary.proofs.Joining.{three}
+use Rattle.pool_view_summary.proofs.counts_text.push_fault_causes.Goals as goal
 
 pub returns : goal.returns
 unfolding fault_causes_text
