@@ -6,7 +6,6 @@ use Rattle.std.proofs.lemmas.Bool.{cases_eq}
 use Rattle.pool_pages.specs.MakerTold.{MakerTold}
 use Rattle.pool_alloc.specs.PlainModules.{ModuleAsked}
 use Rattle.pool_alloc.specs.declared.pool_core.Settings.{Settings}
-use Rattle.pool_run.proofs.KeptBetweenTurns.{set_other}
 use Rattle.pool_run.specs.Folds.{RunState, TurnsIf, commands_of, with_turn}
 use Rattle.pool_run.specs.RunsMade.{parties_made, party_made_for}
 use Rattle.pool_run.specs.Watching.{LeadsOver, Tells, TellsTurn, TurnTold, parts_of}
@@ -26,6 +25,19 @@ past : {X : Type 0} (xs : List X) (i : ℕ) → slice_get xs i ≡ None → leng
 past [] i gone = omega arith
 past (x ∷ xs) zero gone = absurd cc
 past (x ∷ xs) (suc i) gone = let rest : length xs ≤ i = past xs i gone in omega (arith, rest)
+
+-- the elements in other places stay
+set_other : {X : Type 0} (xs : List X) (i k : ℕ) (x : X) → k ≢ i → slice_get (slice_set xs i x) k ≡ slice_get xs k
+set_other [] i k x other = refl
+set_other (y ∷ ys) zero zero x other = absurd (other refl)
+set_other (y ∷ ys) zero (suc k) x other = refl
+set_other (y ∷ ys) (suc i) zero x other = refl
+set_other (y ∷ ys) (suc i) (suc k) x other = set_other ys i k x (λ e. other (ap suc e))
+
+-- Nothing is seen of a party as it is made.
+unseen_made : (P : Type 0) (input : Input) (i : ℕ) (settings : Settings) (o : Option Party) → seen_of {P} input i (option_map (party_made_for settings) o) ≡ unseen
+unseen_made P input i settings None = refl
+unseen_made P input i settings (Some p) = refl
 
 module _ {P : Type 0} (input : Input) where
   -- What was seen of each of these parties is what is seen of it.
@@ -90,7 +102,7 @@ module _ {P : Type 0} (input : Input) where
         let Sees : List Seen → Type 0 = λ seen. SeesAll seen mid.parties in
         let after : SeesAll left.seen.items mid.parties = subst Sees (sym sums.seen) (sees_on i (slice_get s.parties i) w.seen.items s mid refl turns sees) in
         let step : sums_of left ≡ with_step (step_of input s.parties sums.step.0 t) (sums_of w) =
-            sums.step.2 ∙ ap (λ m. with_step m (sums_of w)) (same_step i (slice_get s.parties i) w.seen.items (seen_of input i (slice_get mid.parties i)) sums.step.0 t s mid refl turns sees) in
+        sums.step.2 ∙ ap (λ m. with_step m (sums_of w)) (same_step i (slice_get s.parties i) w.seen.items (seen_of input i (slice_get mid.parties i)) sums.step.0 t s mid refl turns sees) in
         let From : Sums → Type 0 = λ x. ComeTo input mid.parties rest x (sums_of out) in
         (sums.step.0, sums.step.1, subst From step (more after))
 
@@ -113,11 +125,6 @@ module _ {P : Type 0} (input : Input) where
               led
         ]
 
-  -- Nothing is seen of a party as it is made.
-  unseen_made : (i : ℕ) (settings : Settings) (o : Option Party) → seen_of {P} input i (option_map (party_made_for settings) o) ≡ unseen
-  unseen_made i settings None = refl
-  unseen_made i settings (Some p) = refl
-
   -- So it is as a run begins.
   pub sees_begun : (settings : Settings) (parties : List (RunningParty P)) → parties ≡ parties_made settings input.parties → SeesAll (replicate (length input.parties) unseen) parties
   sees_begun settings parties made =
@@ -128,5 +135,5 @@ module _ {P : Type 0} (input : Input) where
         each = λ i inside.
             let within : i < length input.parties = omega (arith, inside, length-map (party_made_for {P} settings) input.parties) in
             get_or-replicate (length input.parties) i unseen unseen within
-            ∙ sym (ap (seen_of input i) (slice_get-map (party_made_for settings) input.parties i) ∙ unseen_made i settings (slice_get input.parties i));
+            ∙ sym (ap (seen_of input i) (slice_get-map (party_made_for settings) input.parties i) ∙ unseen_made P input i settings (slice_get input.parties i));
       })

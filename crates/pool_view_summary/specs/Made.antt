@@ -2,7 +2,8 @@
 use Rattle.std.specs.Prelude.{◌≡◌, ℕ, ◌+◌, ◌-◌, ◌%◌, ◌==◌, List, [], slice_get, nat_lt, ◌&&◌, ◌||◌, Bool, true, false, if◌then◌else◌, Option, Some, None, IfSome}
 use Rattle.pool_pages.specs.MakerTold.{no_calls}
 use Rattle.pool_pages.specs.declared.pages.PageCalls.{PageCalls}
-use Rattle.pool_alloc.specs.Imports.{Plan, memory_kind, table_kind, stack_kind}
+use Rattle.pool_hall.specs.declared.unit_name.SlotKind.TheVariants.{Memory as memory_kind, Stack as stack_kind, Table as table_kind}
+use Rattle.pool_slots.specs.declared.plan.Plan.{Plan}
 use Rattle.pool_alloc.specs.PoolTotals.{resident_sum}
 use Rattle.pool_alloc.specs.StepBounds.{sizes_of}
 use Rattle.pool_alloc.specs.declared.pool_core.PoolCore.{PoolCore}
@@ -78,6 +79,10 @@ commands_in (Some p) = p.commands
 abbrev pub commands_at : Input → ℕ → List Command
 commands_at input i = commands_in (slice_get input.parties i)
 
+-- Nothing is made by a party that isn't there.
+abbrev pub nothing_made : ℕ → Made
+nothing_made i = record { party = i; before = doing.Begin; after = doing.Begin; calls = no_calls; kind = None; steps = None; bound = None; queue = 0; resident = 0 }
+
 module _ {P : Type 0} where
   -- The bytes that free slots of the pool keep resident.
   abbrev pub resident_of : PoolCore P PlainHeap → ℕ
@@ -110,10 +115,6 @@ module _ {P : Type 0} where
     queue = queue_of before.doing p.frame.home c.plan;
     resident = resident_if before.doing c;
   }
-
-  -- Nothing is made by a party that isn't there.
-  abbrev pub nothing_made : ℕ → Made
-  nothing_made i = record { party = i; before = doing.Begin; after = doing.Begin; calls = no_calls; kind = None; steps = None; bound = None; queue = 0; resident = 0 }
 
   -- The step of a turn.
   abbrev pub made_by : Input → Seen → Seen → Option ℕ → TurnTold P → Option (RunningParty P) → Made

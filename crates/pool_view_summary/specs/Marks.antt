@@ -2,7 +2,8 @@
 -- each queue has, and how many the flush of each party put back.
 use Rattle.std.specs.Prelude.{ℕ, List, length, replicate, slice_index_or, slice_set, ◌&&◌, Bool, true, false, not, if◌then◌else◌, Option, None}
 use Rattle.pool_types.specs.Rising.{risen}
-use Rattle.pool_alloc.specs.Imports.{SlotKind, memory_kind, table_kind, stack_kind, heap_kind}
+use Rattle.pool_hall.specs.declared.unit_name.SlotKind.{SlotKind}
+use Rattle.pool_hall.specs.declared.unit_name.SlotKind.TheVariants.{Heap as heap_kind, Memory as memory_kind, Stack as stack_kind, Table as table_kind}
 use Rattle.pool_slots.specs.declared.slot_name.SlotName.{SlotName}
 use Rattle.pool_run.specs.declared.input.Input.{Input}
 use Rattle.pool_view_summary.specs.declared.made.Made.{Made}

@@ -121,7 +121,11 @@ fn longest_with(made: &Made, marks: &Marks, longest: u64) -> u64
 fn resident_with(made: &Made, resident: u64) -> u64
     ensures { result ≡ resident_with made.now resident }
 {
-    if frees(made.before) { resident.max(made.resident) } else { resident }
+    if frees(made.before) {
+        resident.max(made.resident)
+    } else {
+        resident
+    }
 }
 
 impl Costs {

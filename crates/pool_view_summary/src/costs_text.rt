@@ -109,12 +109,7 @@ fn push_numbers(out: &mut String, kind: &OfKind) -> Result<(), AllocError>
 
 // Adds the line of a kind of commands, which has this word.
 #[tactic(auto, unfolding(crate::specs::CostsText::kind_line))]
-fn push_line(
-    alloc: Global,
-    out: &mut String,
-    word: &str,
-    kind: &OfKind,
-) -> Result<(), AllocError>
+fn push_line(alloc: Global, out: &mut String, word: &str, kind: &OfKind) -> Result<(), AllocError>
     ensures { OnOk result (string_bytes out.new ≡ string_bytes out.old ++ kind_line word.now kind.now) }
 {
     out.push_str(word)?;

@@ -174,7 +174,10 @@ impl Kinds {
         let requests = self.calls_of_requests();
         let bytes = self.calls_of_bytes();
         let elements = self.calls_of_elements();
-        requests.plus(bytes).plus(elements).plus(self.calls_of_ends())
+        requests
+            .plus(bytes)
+            .plus(elements)
+            .plus(self.calls_of_ends())
     }
 
     fn calls_of_requests(&self) -> PageCalls
@@ -207,6 +210,9 @@ impl Kinds {
     fn calls_of_ends(&self) -> PageCalls
         ensures { result ≡ calls_of_ends self.now }
     {
-        self.drop.calls.plus(self.purge.calls).plus(self.release.calls)
+        self.drop
+            .calls
+            .plus(self.purge.calls)
+            .plus(self.release.calls)
     }
 }

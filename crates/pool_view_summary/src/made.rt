@@ -34,7 +34,7 @@ pub struct Made {
 }
 
 fn kind_if(command: Option<&Command>) -> Option<CommandKind>
-    ensures { result ≡ kind_if (option_map (λ c. c.now) command) }
+    ensures { result ≡ kind_if (option_map (λ c. c.now) command.entry) }
 {
     match command {
         None => None,
@@ -63,7 +63,7 @@ fn calls_made<P: Pages>(
     command: Option<&Command>,
     party: &RunningParty<P>,
 ) -> PageCalls
-    ensures { result ≡ calls_made before.now (option_map (λ c. c.now) command) party.now }
+    ensures { result ≡ calls_made before.now (option_map (λ c. c.now) command.entry) party.now }
 {
     match before.doing {
         Doing::Grow => calls_since(calls_at(command, party), before.calls),
@@ -130,7 +130,13 @@ fn resident_if<P: Pages>(doing: Doing, core: &PoolCore<P, PlainHeap>) -> u64
 }
 
 // The bound of a command of a run that has these.
-fn bound_in(bounds: &StepBounds, input: &Input, party: usize, command: usize) -> Option<u64>
+fn bound_in<P: Pages>(
+    run: &Run<P>,
+    bounds: &StepBounds,
+    input: &Input,
+    party: usize,
+    command: usize,
+) -> Option<u64>
     ghost z: { PoolSizes }
     requires { bounds.now ≡ bounds_on z }
     ensures { IfSome result (λ b. b ≡ command_bound z input.now.modules (commands_at input.now party) command) }
@@ -144,16 +150,11 @@ fn bound_in(bounds: &StepBounds, input: &Input, party: usize, command: usize) ->
 }
 
 /// At most how many steps a command of a party takes, where its number is small enough.
-pub fn bound_of<P: Pages>(
-    run: &Run<P>,
-    input: &Input,
-    party: usize,
-    command: usize,
-) -> Option<u64>
+pub fn bound_of<P: Pages>(run: &Run<P>, input: &Input, party: usize, command: usize) -> Option<u64>
     ensures { IfSome result (λ b. b ≡ command_bound (sizes_of run.now.core.settings run.now.core.plan) input.now.modules (commands_at input.now party) command) }
 {
     let bounds = run.bounds()?;
-    bound_in(&bounds, input, party, command)
+    bound_in(run, &bounds, input, party, command)
 }
 
 fn steps_if(reply: &Option<Reply>, steps: u64) -> Option<u64>
@@ -215,5 +216,14 @@ pub fn made_by<P: Pages>(
     requires { party < length run.now.parties }
     ensures { result ≡ made_by input.now before.now after.now bound (record { party = party; run = run.now; reply = reply.now }) (slice_get run.now.parties party) }
 {
-    made_from(before, after, bound, run.core(), run.party(party), input, party, reply)
+    made_from(
+        before,
+        after,
+        bound,
+        run.core(),
+        run.party(party),
+        input,
+        party,
+        reply,
+    )
 }

@@ -63,7 +63,7 @@ pub struct Seen {
 
 // What a party's next command is to do at first. A party that hasn't drawn its stripe does that first.
 fn doing_next(keyed: bool, command: Option<&Command>) -> Doing
-    ensures { result ≡ doing_next keyed (option_map (λ c. c.now) command) }
+    ensures { result ≡ doing_next keyed (option_map (λ c. c.now) command.entry) }
 {
     if !keyed {
         return Doing::Begin;
@@ -203,7 +203,7 @@ fn may_call(doing: Doing) -> bool
 
 // The calls with those on the regions of a grant.
 fn add_grant<P: Pages>(calls: PageCalls, grant: Option<&Grant<P, PlainHeap>>) -> PageCalls
-    ensures { result ≡ with_grant calls (option_map (λ g. g.now) grant) }
+    ensures { result ≡ with_grant calls (option_map (λ g. g.now) grant.entry) }
 {
     match grant {
         Some(Grant::Instance(lease)) => calls.plus(lease.page_calls()),
@@ -217,7 +217,7 @@ fn add_grant<P: Pages>(calls: PageCalls, grant: Option<&Grant<P, PlainHeap>>) ->
 
 /// The calls so far on the regions that a party's frame has, and on those that this command of it lets grow.
 pub fn calls_at<P: Pages>(command: Option<&Command>, party: &RunningParty<P>) -> PageCalls
-    ensures { result ≡ calls_at (option_map (λ c. c.now) command) party.now }
+    ensures { result ≡ calls_at (option_map (λ c. c.now) command.entry) party.now }
 {
     let calls = party.frame.page_calls();
     match command {
@@ -229,7 +229,7 @@ pub fn calls_at<P: Pages>(command: Option<&Command>, party: &RunningParty<P>) ->
 
 // What is seen of a party whose next command is this.
 fn seen_by<P: Pages>(command: Option<&Command>, party: &RunningParty<P>) -> Seen
-    ensures { result ≡ seen_by (option_map (λ c. c.now) command) party.now }
+    ensures { result ≡ seen_by (option_map (λ c. c.now) command.entry) party.now }
 {
     let doing = doing_at(doing_next(party.keyed, command), &party.frame);
     let calls = if may_call(doing) {
