@@ -131,9 +131,9 @@ module _ {P : Type 0} (input : Input) where
       let S : List (RunningParty P) → Type 0 = λ ps. SeesAll (replicate (length input.parties) unseen) ps in
       subst S (sym made)
       (record {
-        count = length-replicate (length input.parties) unseen ∙ sym (length-map (party_made_for settings) input.parties);
+        count = length-replicate (length input.parties) unseen ∙ sym (length-map input.parties (party_made_for settings));
         each = λ i inside.
-            let within : i < length input.parties = omega (arith, inside, length-map (party_made_for {P} settings) input.parties) in
+            let within : i < length input.parties = omega (arith, inside, length-map input.parties (party_made_for {P} settings)) in
             get_or-replicate (length input.parties) i unseen unseen within
             ∙ sym (ap (seen_of input i) (slice_get-map (party_made_for settings) input.parties i) ∙ unseen_made P input i settings (slice_get input.parties i));
       })
