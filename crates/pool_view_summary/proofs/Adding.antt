@@ -35,7 +35,7 @@ set_other (y ∷ ys) (suc i) zero x other = refl
 set_other (y ∷ ys) (suc i) (suc k) x other = set_other ys i k x (λ e. other (ap suc e))
 
 -- Nothing is seen of a party as it is made.
-unseen_made : (P : Type 0) (input : Input) (i : ℕ) (settings : Settings) (o : Option Party) → seen_of {P} input i (option_map (party_made_for settings) o) ≡ unseen
+unseen_made : (P : Type 0) (input : Input) (i : ℕ) (settings : Settings) (o : Option Party) → seen_of {P = P} input i (option_map (party_made_for settings) o) ≡ unseen
 unseen_made P input i settings None = refl
 unseen_made P input i settings (Some p) = refl
 
@@ -133,7 +133,7 @@ module _ {P : Type 0} (input : Input) where
       (record {
         count = length-replicate (length input.parties) unseen ∙ sym (length-map input.parties (party_made_for settings));
         each = λ i inside.
-            let within : i < length input.parties = omega (arith, inside, length-map input.parties (party_made_for {P} settings)) in
+            let within : i < length input.parties = omega (arith, inside, length-map input.parties (party_made_for {P = P} settings)) in
             get_or-replicate (length input.parties) i unseen unseen within
             ∙ sym (ap (seen_of input i) (slice_get-map (party_made_for settings) input.parties i) ∙ unseen_made P input i settings (slice_get input.parties i));
       })

@@ -22,8 +22,8 @@ use Rattle.pool_view_summary.proofs.Counting.{counts_turns}
 -- The costs are those of the turns of a run that was watched,
 costs_of_run : {P : Type 0} (input : Input) (maker : MakerTold) (output : RunOutput) (w out : Summary) → sums_of w ≡ no_sums input → w.seen.items ≡ replicate (length input.parties) unseen → (is : IsWatchedRun P (SumsTurn input) input maker output w out) → CostTurns input is.run.start.parties is.watched.watched.told out.costs
 costs_of_run {P} input maker output w out begun seen is =
-    let Sees : List Seen → Type 0 = λ l. SeesAll {P} input l is.run.start.parties in
-    let sees : SeesAll {P} input w.seen.items is.run.start.parties = subst Sees (sym seen) (sees_begun input is.run.start.core.settings is.run.start.parties is.run.made.parties) in
+    let Sees : List Seen → Type 0 = λ l. SeesAll {P = P} input l is.run.start.parties in
+    let sees : SeesAll {P = P} input w.seen.items is.run.start.parties = subst Sees (sym seen) (sees_begun input is.run.start.core.settings is.run.start.parties is.run.made.parties) in
     let From : Sums → Type 0 = λ s. ComeTo input is.run.start.parties is.watched.watched.told s (sums_of out) in
     record {
       marks = marks_of out.marks;
