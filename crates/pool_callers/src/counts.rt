@@ -54,6 +54,7 @@ impl<P: Pages, H: GcHeap, M: PageMaker> PoolingInstanceAllocator<PoolHall<P, H, 
         ensures frame { seat.new.frame ≡ seat.old.frame }
         ensures counted { OnOk result (IsCounted counted_instance (view seat.old.seat) (view seat.new.seat)) }
         ensures refused { IfErr result (λ e. (e ≡ no_instance_left self.now.pool.settings) × IsKept (view seat.old.seat) (view seat.new.seat) × WasOver (view seat.old.seat) (view seat.new.seat) instance_counter) }
+        ensures parts { (view seat.new.seat).rises ≡ (view seat.old.seat).rises }
     {
         let limit = self.pool.settings.max_core_instances;
         if self.count_instance(seat, limit) {
@@ -77,6 +78,7 @@ impl<P: Pages, H: GcHeap, M: PageMaker> PoolingInstanceAllocator<PoolHall<P, H, 
         ensures frame { seat.new.frame ≡ seat.old.frame }
         ensures counted { OnOk result (IsCounted counted_component (view seat.old.seat) (view seat.new.seat)) }
         ensures refused { IfErr result (λ e. (e ≡ no_component_left self.now.pool.settings) × IsKept (view seat.old.seat) (view seat.new.seat) × WasOver (view seat.old.seat) (view seat.new.seat) component_counter) }
+        ensures parts { (view seat.new.seat).rises ≡ (view seat.old.seat).rises }
     {
         let limit = self.pool.settings.max_component_instances;
         if self.count_component(seat, limit) {
@@ -97,6 +99,7 @@ impl<P: Pages, H: GcHeap, M: PageMaker> PoolingInstanceAllocator<PoolHall<P, H, 
         ensures seat { IsCaller M.told self.now seat.new }
         ensures frame { seat.new.frame ≡ seat.old.frame }
         ensures uncounted { IsUncounted counted_instance (view seat.old.seat) (view seat.new.seat) }
+        ensures parts { (view seat.new.seat).rises ≡ (view seat.old.seat).rises }
     {
         self.pool.hall.subtract(&mut seat.seat, 1);
     }
@@ -109,6 +112,7 @@ impl<P: Pages, H: GcHeap, M: PageMaker> PoolingInstanceAllocator<PoolHall<P, H, 
         ensures seat { IsCaller M.told self.now seat.new }
         ensures frame { seat.new.frame ≡ seat.old.frame }
         ensures uncounted { IsUncounted counted_component (view seat.old.seat) (view seat.new.seat) }
+        ensures parts { (view seat.new.seat).rises ≡ (view seat.old.seat).rises }
     {
         self.pool.hall.subtract(&mut seat.seat, 2);
     }
@@ -122,6 +126,7 @@ impl<P: Pages, H: GcHeap, M: PageMaker> PoolingInstanceAllocator<PoolHall<P, H, 
         ensures frame { seat.new.frame ≡ seat.old.frame }
         ensures counted { result ≡ true → IsCounted counted_instance (view seat.old.seat) (view seat.new.seat) }
         ensures over { result ≡ false → IsKept (view seat.old.seat) (view seat.new.seat) × WasOver (view seat.old.seat) (view seat.new.seat) instance_counter }
+        ensures parts { (view seat.new.seat).rises ≡ (view seat.old.seat).rises }
     {
         let found = self.pool.hall.add(&mut seat.seat, 1);
         if found < limit {
@@ -140,6 +145,7 @@ impl<P: Pages, H: GcHeap, M: PageMaker> PoolingInstanceAllocator<PoolHall<P, H, 
         ensures frame { seat.new.frame ≡ seat.old.frame }
         ensures counted { result ≡ true → IsCounted counted_component (view seat.old.seat) (view seat.new.seat) }
         ensures over { result ≡ false → IsKept (view seat.old.seat) (view seat.new.seat) × WasOver (view seat.old.seat) (view seat.new.seat) component_counter }
+        ensures parts { (view seat.new.seat).rises ≡ (view seat.old.seat).rises }
     {
         let number = self.pool.hall.add(&mut seat.seat, 2);
         if number < limit {

@@ -184,7 +184,8 @@ pages expose=1 hide=0 map_image=0 remap_zeros=0 erase=0 recolour=0 decommit=1
 ";
 
 // A reset by dirty marks keeps what was written, and no more.
-const MARKED: &str = r#"{"config":{"max_memory_size":131072,"linear_memory_keep_resident":65536,"pagemap_scan":"auto"},
+const MARKED: &str =
+    r#"{"config":{"max_memory_size":131072,"linear_memory_keep_resident":65536,"pagemap_scan":"auto"},
 "offered":{"dirty_pages":true},"modules":[{"memories":[{"min":1}]}],
 "parties":[{"commands":[{"do":"instantiate","module":0},{"do":"drop","of":0}]}]}"#;
 
@@ -195,7 +196,8 @@ metrics core=0 component=0 memories=0 tables=0 stacks=0 heaps=0 warm_memories=1 
 pages expose=1 hide=0 map_image=0 remap_zeros=0 erase=0 recolour=0 decommit=0
 ";
 
-const MARKED_AND_WRITTEN: &str = r#"{"config":{"max_memory_size":131072,"linear_memory_keep_resident":65536,"pagemap_scan":"auto"},
+const MARKED_AND_WRITTEN: &str =
+    r#"{"config":{"max_memory_size":131072,"linear_memory_keep_resident":65536,"pagemap_scan":"auto"},
 "offered":{"dirty_pages":true},"modules":[{"memories":[{"min":1}]}],
 "parties":[{"commands":[{"do":"instantiate","module":0},{"do":"drop","of":0},{"do":"instantiate","module":0},
 {"do":"write","of":2,"at":0,"hex":"01"},{"do":"grow","of":2,"pages":1},{"do":"drop","of":2}]}]}"#;

@@ -239,11 +239,11 @@ module _ (w : World) (some : 0 < w.terms.settings.num_stripes) (counts : w.count
         granted = granted;
         named = names;
         exactly = λ alone may none. (
-            λ refuses. for_room (IsShortOf w wanted s.grants) reply refuses (names alone),
-            λ short. elim (cases_Bool (refuses_for_room reply)) [
-              | inl refuses ↦ refuses
-              | inr other ↦ absurd (granted (served_granted w reply (step_served w n command wanted s new reply act may other step) none) short)
-            ],
+          λ refuses. for_room (IsShortOf w wanted s.grants) reply refuses (names alone),
+          λ short. elim (cases_Bool (refuses_for_room reply)) [
+            | inl refuses ↦ refuses
+            | inr other ↦ absurd (granted (served_granted w reply (step_served w n command wanted s new reply act may other step) none) short)
+          ],
         );
       }
 

@@ -6,7 +6,8 @@ use Rattle.pool_pages.specs.declared.failing.Failing.{Failing}
 use Rattle.pool_pages.specs.declared.made_region.MadeRegion.{MadeRegion}
 use Rattle.pool_run.specs.Runs.{with_faults}
 use Rattle.pool_run.specs.declared.input.Input.{Input}
-use Rattle.pool_view_steps.specs.Shown.{IsSummary, IsUnmade}
+use Rattle.pool_view_steps.specs.Shown.{IsUnmade}
+use Rattle.pool_view_summary.specs.Shown.{IsSummary}
 use Rattle.pool_view_steps.specs.declared.shown.ShowFault.{ShowFault}
 use Rattle.pool_view_steps.specs.declared.shown.ShowFault.TheVariants.{Write, Memory, PageFault as Unmade}
 use Rattle.pool_view.specs.Answers.{IsPicture, IsSummaryOf, IsUnmadeOf, RefusesAs, Says, ShownAs, ShowsRun, ok_line, problem_line}

@@ -11,11 +11,14 @@ use Rattle.pool_forms.specs.Streams.{SourceTold, SinkTold, ReadWhole, ReadTooMuc
 use Rattle.pool_run.specs.Runs.{with_faults}
 use Rattle.pool_run.specs.declared.input.Input.{Input}
 use Rattle.pool_run.specs.declared.output.RunOutput.{RunOutput}
-use Rattle.pool_view_steps.specs.CountsText.{counts_text}
-use Rattle.pool_view_steps.specs.Shown.{IsTraced, IsSummedUp, IsUnmade}
-use Rattle.pool_view_steps.specs.declared.counts.Counts.{Counts}
+use Rattle.pool_view_steps.specs.Shown.{IsTraced, IsUnmade}
 use Rattle.pool_view_steps.specs.declared.shown.ShowFault.{ShowFault}
 use Rattle.pool_view_steps.specs.declared.shown.ShowFault.TheVariants.{Write as Failed, Memory as Exhausted, PageFault as Unmade}
+use Rattle.pool_view_summary.specs.CostsText.{costs_text}
+use Rattle.pool_view_summary.specs.CountsText.{counts_text}
+use Rattle.pool_view_summary.specs.Shown.{IsSummedUp}
+use Rattle.pool_view_summary.specs.declared.costs.Costs.{Costs}
+use Rattle.pool_view_summary.specs.declared.counts.Counts.{Counts}
 use Rattle.pool_view.specs.Findings.{Finding, IsInputOf, can_run, no_input, breaks_rule, finding, shared_finding, status_of}
 use Rattle.pool_view.specs.declared.answer.Answer.{Answer}
 use Rattle.pool_view.specs.declared.status.Status.{Status}
@@ -79,10 +82,10 @@ ShowsRun Shows bytes text status = status ≡ status_of (finding bytes)
 abbrev pub IsTraceOf : List ℕ → List ℕ → Type 0
 IsTraceOf bytes text = (input : Input) × (output : RunOutput) × IsInputOf bytes input × IsTraced (Failing MadeRegion) input (with_faults input (memory_maker input.page 0)) output text
 
--- The text begins with the counts of the turns of a run of the input that the bytes are.
+-- The text is that of the counts and the costs of a run of the input that the bytes are.
 abbrev pub IsSummaryOf : List ℕ → List ℕ → Type 0
 IsSummaryOf bytes text =
-    (input : Input) × (output : RunOutput) × (counts : Counts) × (rest : List ℕ) × IsInputOf bytes input × IsSummedUp (Failing MadeRegion) input (with_faults input (memory_maker input.page 0)) output counts × (text ≡ counts_text counts ++ rest)
+    (input : Input) × (output : RunOutput) × (counts : Counts) × (costs : Costs) × IsInputOf bytes input × IsSummedUp (Failing MadeRegion) input (with_faults input (memory_maker input.page 0)) output counts costs × (text ≡ counts_text counts ++ costs_text costs output)
 
 -- nothing is said of a picture
 abbrev pub IsPicture : List ℕ → Type 0

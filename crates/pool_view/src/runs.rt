@@ -4,7 +4,8 @@ ghost use Rattle.pool_pages.specs.declared.failing.Failing.{Failing};
 ghost use Rattle.pool_pages.specs.declared.made_region.MadeRegion.{MadeRegion};
 ghost use Rattle.pool_run.specs.Built.{is_built};
 ghost use Rattle.pool_run.specs.Runs.{with_faults};
-ghost use Rattle.pool_view_steps.specs.Shown.{IsSummary, IsUnmade, TracesTo};
+ghost use Rattle.pool_view_steps.specs.Shown.{IsUnmade, TracesTo};
+ghost use Rattle.pool_view_summary.specs.Shown.{IsSummary};
 ghost use Rattle.pool_view.specs.Answers.{EndsTrace, WritesAnswer, WritesMade, WritesText};
 ghost use Rattle.pool_view.specs.declared.words.Question.TheVariants.{Trace};
 
@@ -16,7 +17,8 @@ use pool_pages::MemoryPages;
 use pool_run::Input;
 use pool_types::PageSize;
 use pool_view_chart::draw;
-use pool_view_steps::{Printer, ShowFault, sum_up, trace_run};
+use pool_view_steps::{Printer, ShowFault, trace_run};
+use pool_view_summary::sum_up;
 use std::alloc::{AllocError, Global};
 
 /// The line where a region or an image can't be made.

@@ -1,4 +1,4 @@
-pub mod Counts
-pub mod CountsText
+pub mod CallsText
+pub mod Commands
 pub mod Lines
 pub mod Shown

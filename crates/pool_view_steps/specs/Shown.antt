@@ -1,6 +1,5 @@
--- Runs that were traced, and runs that were summed up.
-use Rattle.std.specs.Prelude.{◌≡◌, ℕ, true, List, ◌++◌, Option, Some, None, IfSome, Result, Ok, Err, String, string_bytes}
-use Rattle.std.specs.declared.alloc.Global.{Global}
+-- Runs that were traced.
+use Rattle.std.specs.Prelude.{◌≡◌, ℕ, true, List, Option, Some, None, IfSome}
 use Rattle.pool_pages.specs.MakerTold.{MakerTold}
 use Rattle.pool_types.specs.Rising.{Rose}
 use Rattle.pool_forms.specs.Streams.{SinkTold, Wrote}
@@ -11,10 +10,7 @@ use Rattle.pool_run.specs.Schedules.{turns_of}
 use Rattle.pool_run.specs.Watching.{AreTurnsOfRun, Tells, TurnTold}
 use Rattle.pool_run.specs.declared.input.Input.{Input}
 use Rattle.pool_run.specs.declared.output.RunOutput.{RunOutput}
-use Rattle.pool_view_steps.specs.Counts.{CountTurns}
-use Rattle.pool_view_steps.specs.CountsText.{counts_text}
 use Rattle.pool_view_steps.specs.Lines.{TraceText}
-use Rattle.pool_view_steps.specs.declared.counts.Counts.{Counts}
 use Rattle.pool_view_steps.specs.declared.shown.ShowFault.{ShowFault}
 use Rattle.pool_view_steps.specs.declared.shown.ShowFault.TheVariants.{Write, Memory, PageFault}
 use Rattle.pool_view_steps.specs.declared.trace.TraceFault.{TraceFault}
@@ -28,15 +24,6 @@ pub record IsTraced (P : Type 0) (input : Input) (maker : MakerTold) (output : R
   pub told : List (TurnTold P)
   pub tells : Tells run.start.modules (commands_in input.parties) turns (told_state run.start (nothing_told input.parties)) run.end told
   pub lines : TraceText input 0 told text
-
--- The counts are those of all turns of a run of the input. The output is that of this run.
-pub record IsSummedUp (P : Type 0) (input : Input) (maker : MakerTold) (output : RunOutput) (counts : Counts) : Type 0 where
-  pub run : IsRun P input maker output
-  pub turns : List ℕ
-  pub order : AreTurnsOfRun input.finish (commands_in input.parties) (turns_of input.schedule) turns run.end
-  pub told : List (TurnTold P)
-  pub tells : Tells run.start.modules (commands_in input.parties) turns (told_state run.start (nothing_told input.parties)) run.end told
-  pub counted : CountTurns input told counts
 
 -- What kept a trace from going on, as the answer of who shows a run.
 abbrev pub shown_by : Option TraceFault → Option ShowFault
@@ -54,7 +41,3 @@ TracesTo P input maker old new None = (output : RunOutput) × (text : List ℕ) 
 TracesTo P input maker old new (Some Write) = Rose old.faults new.faults
 TracesTo P input maker old new (Some Memory) = (text : List ℕ) × Wrote text old new
 TracesTo P input maker old new (Some PageFault) = (new ≡ old) × IsUnmade input maker
-
--- The text of a run that was summed up begins with its counts.
-abbrev pub IsSummary : Type 0 → Input → MakerTold → String Global → Type 0
-IsSummary P input maker text = (output : RunOutput) × (counts : Counts) × (rest : List ℕ) × IsSummedUp P input maker output counts × (string_bytes text ≡ counts_text counts ++ rest)

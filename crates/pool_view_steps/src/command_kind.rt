@@ -1,3 +1,6 @@
+ghost use Rattle.std.specs.Prelude.{◌≡◌};
+ghost use Rattle.pool_view_steps.specs.Commands.{kind_of, word_of};
+
 use pool_run::Command;
 
 /// What kind of command one is.
@@ -22,30 +25,11 @@ pub enum CommandKind {
     Release,
 }
 
-/// All kinds, in the order in which they are listed.
-pub const KINDS: [CommandKind; 17] = [
-    CommandKind::Instantiate,
-    CommandKind::Component,
-    CommandKind::Stack,
-    CommandKind::Heap,
-    CommandKind::Read,
-    CommandKind::Write,
-    CommandKind::Fill,
-    CommandKind::Grow,
-    CommandKind::Size,
-    CommandKind::Get,
-    CommandKind::Set,
-    CommandKind::TableFill,
-    CommandKind::TableGrow,
-    CommandKind::TableSize,
-    CommandKind::Drop,
-    CommandKind::Purge,
-    CommandKind::Release,
-];
-
 impl CommandKind {
     /// The word for it in an input.
-    pub fn name(self) -> &'static str {
+    pub fn name(self) -> &'static str
+        ensures { result.now ≡ word_of self }
+    {
         match self {
             CommandKind::Instantiate => "instantiate",
             CommandKind::Component => "component",
@@ -69,7 +53,9 @@ impl CommandKind {
 }
 
 /// The kind of a command.
-pub fn kind_of(command: &Command) -> CommandKind {
+pub fn kind_of(command: &Command) -> CommandKind
+    ensures { result ≡ kind_of command.now }
+{
     match command {
         Command::Instantiate { .. } => CommandKind::Instantiate,
         Command::Component { .. } => CommandKind::Component,

@@ -1,22 +1,18 @@
-//! What a run does, step by step: as lines, and as counts.
+//! What a run does, step by step, as lines.
 #![tactic(auto)]
 
 mod command_kind;
-mod counts;
 mod part;
 mod shown;
 mod stage;
 mod step;
-mod summary;
-mod summary_text;
 mod trace;
 mod words;
 
-pub use command_kind::CommandKind;
-pub use counts::{Cause, Counts, Refusals};
+pub use command_kind::{CommandKind, kind_of};
 pub use part::{Part, ShardName, home_of, kind_name};
-pub use shown::{ShowFault, fault_of_run, sum_up, trace_run};
+pub use shown::{ShowFault, fault_of_run, trace_run};
 pub use stage::Stage;
 pub use step::{Look, Next, Step, command_of, look_at, step_made};
-pub use summary::Summary;
 pub use trace::{Printer, TraceFault};
+pub use words::push_calls;

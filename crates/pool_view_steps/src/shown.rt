@@ -1,17 +1,14 @@
-ghost use Rattle.std.specs.Prelude.{◌≡◌, ◌⊎◌, ◌++◌, ℕ, List, true, Err, IfErr, IfOk, string_bytes};
+ghost use Rattle.std.specs.Prelude.{◌≡◌, ◌⊎◌, true};
 ghost use Rattle.pool_pages.specs.declared.failing.Failing.{Failing};
 ghost use Rattle.pool_run.specs.Built.{is_built};
 ghost use Rattle.pool_run.specs.Runs.{with_faults};
-ghost use Rattle.pool_view_steps.specs.CountsText.{counts_text};
-ghost use Rattle.pool_view_steps.specs.Shown.{IsSummary, IsUnmade, TracesTo, shown_by};
+ghost use Rattle.pool_view_steps.specs.Shown.{TracesTo, shown_by};
 
-use crate::summary::Summary;
-use crate::summary_text::{push_counts, push_rest};
 use crate::trace::{Printer, TraceFault};
 use pool_forms::Sink;
 use pool_pages::PageMaker;
-use pool_run::{Input, RunFault, RunOutput, run_watched};
-use std::alloc::{AllocError, Global};
+use pool_run::{Input, RunFault, run_watched};
+use std::alloc::Global;
 
 /// Why a run isn't shown.
 #[derive(Clone, Copy, Debug, PartialEq, Eq)]
@@ -59,45 +56,5 @@ pub fn trace_run<M: PageMaker, K: Sink>(
     match run_watched(alloc, input, pages, printer) {
         Ok(_output) => shown_by(printer.fault()),
         Err(fault) => Some(fault_of_run(fault)),
-    }
-}
-
-fn text_of(alloc: Global, summary: &Summary, output: &RunOutput) -> Result<String, AllocError>
-    ensures { IfOk result (λ text. (rest : List ℕ) × (string_bytes text ≡ counts_text summary.now.counts ++ rest)) }
-{
-    let mut rest = String::new(alloc);
-    push_rest(&mut rest, &summary.costs, output)?;
-    let mut out = String::new(alloc);
-    push_counts(&mut out, &summary.counts)?;
-    out.push_str(rest.as_str())?;
-    Ok(out)
-}
-
-fn summary_text(alloc: Global, summary: &Summary, output: &RunOutput) -> Result<String, ShowFault>
-    ensures ok { IfOk result (λ text. (rest : List ℕ) × (string_bytes text ≡ counts_text summary.now.counts ++ rest)) }
-    ensures memory { IfErr result (λ fault. fault ≡ ShowFault.Memory) }
-{
-    match text_of(alloc, summary, output) {
-        Ok(text) => Ok(text),
-        Err(_) => Err(ShowFault::Memory),
-    }
-}
-
-/// Runs the input, whose settings break no rule, and sums it up.
-pub fn sum_up<M: PageMaker>(
-    alloc: Global,
-    input: &Input,
-    pages: &mut M,
-) -> Result<String, ShowFault>
-    requires { is_built input.now ≡ true }
-    ensures ok { IfOk result (IsSummary (Failing M.Region) input.now (with_faults input.now (M.told pages.old))) }
-    ensures unmade { result ≡ Err ShowFault.PageFault → IsUnmade input.now (with_faults input.now (M.told pages.old)) }
-{
-    let Ok(mut summary) = Summary::new(alloc, input) else {
-        return Err(ShowFault::Memory);
-    };
-    match run_watched(alloc, input, pages, &mut summary) {
-        Ok(output) => summary_text(alloc, &summary, &output),
-        Err(fault) => Err(fault_of_run(fault)),
     }
 }

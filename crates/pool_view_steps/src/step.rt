@@ -1,5 +1,5 @@
 ghost use Rattle.std.specs.Prelude.{◌≡◌, ◌<◌, length, option_map};
-ghost use Rattle.pool_view_steps.specs.Counts.{command_of};
+ghost use Rattle.pool_view_steps.specs.Commands.{command_of};
 
 use crate::command_kind::{CommandKind, kind_of};
 use crate::part::Part;

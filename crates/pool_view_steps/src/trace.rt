@@ -38,7 +38,7 @@ fn middle_of(alloc: Global, step: &Step, reply: Option<&Reply>) -> Result<String
     push_words(&mut out, step, reply)?;
     let part = step.look.part;
     write!(out, " | {part} | ")?;
-    push_calls(&mut out, &step.calls)?;
+    push_calls(alloc, &mut out, &step.calls)?;
     Ok(out)
 }
 

@@ -1,3 +1,6 @@
+ghost use Rattle.std.specs.Prelude.{◌≡◌, ◌++◌, OnOk, string_bytes};
+ghost use Rattle.pool_view_steps.specs.CallsText.{call_with, calls_text, changes_with, dash_if, others_with, spaced};
+
 use crate::part::{counter_name, kind_name};
 use crate::stage::Stage;
 use crate::step::{Next, Step};
@@ -5,7 +8,7 @@ use pool_alloc::CounterName;
 use pool_pages::PageCalls;
 use pool_run::{Refusal, Reply};
 use pool_slots::SlotName;
-use std::alloc::AllocError;
+use std::alloc::{AllocError, Global};
 use std::fmt::Write;
 
 // Says something of a slot.
@@ -164,26 +167,66 @@ pub fn push_words(out: &mut String, step: &Step, reply: Option<&Reply>) -> Resul
     }
 }
 
+// A space, unless nothing is written yet.
+#[tactic(auto, unfolding(crate::specs::CallsText::spaced))]
+fn push_space(row: &mut String) -> Result<(), AllocError>
+    ensures { OnOk result (string_bytes row.new ≡ spaced (string_bytes row.old)) }
+{
+    if row.is_empty() {
+        return Ok(());
+    }
+    row.push_str(" ")
+}
+
 // Adds a number of calls, where there were some.
-fn push_call(out: &mut String, name: &str, count: u64, none: bool) -> Result<bool, AllocError> {
+#[tactic(auto, unfolding(crate::specs::CallsText::call_with))]
+fn push_call(row: &mut String, name: &str, count: u64) -> Result<(), AllocError>
+    ensures { OnOk result (string_bytes row.new ≡ call_with name.now count (string_bytes row.old)) }
+{
     if count == 0 {
-        return Ok(none);
+        return Ok(());
     }
-    if !none {
-        out.push_str(" ")?;
+    push_space(row)?;
+    write!(row, "{name}={count}")
+}
+
+#[tactic(auto, unfolding(crate::specs::CallsText::changes_with))]
+fn push_changes(row: &mut String, calls: &PageCalls) -> Result<(), AllocError>
+    ensures { OnOk result (string_bytes row.new ≡ changes_with calls.now (string_bytes row.old)) }
+{
+    push_call(row, "expose", calls.expose)?;
+    push_call(row, "hide", calls.hide)?;
+    push_call(row, "map_image", calls.map_image)?;
+    push_call(row, "remap_zeros", calls.remap_zeros)
+}
+
+#[tactic(auto, unfolding(crate::specs::CallsText::others_with))]
+fn push_others(row: &mut String, calls: &PageCalls) -> Result<(), AllocError>
+    ensures { OnOk result (string_bytes row.new ≡ others_with calls.now (string_bytes row.old)) }
+{
+    push_call(row, "erase", calls.erase)?;
+    push_call(row, "recolour", calls.recolour)?;
+    push_call(row, "decommit", calls.decommit)
+}
+
+// Adds a row of calls, or a dash where there is nothing in it.
+#[tactic(auto, unfolding(crate::specs::CallsText::dash_if))]
+fn push_row(out: &mut String, row: &str) -> Result<(), AllocError>
+    ensures { OnOk result (string_bytes out.new ≡ string_bytes out.old ++ dash_if row.now) }
+{
+    if row.is_empty() {
+        return out.push_str("-");
     }
-    write!(out, "{name}={count}")?;
-    Ok(false)
+    out.push_str(row)
 }
 
 /// Adds the page calls of each kind, or a dash where there were none.
-pub fn push_calls(out: &mut String, calls: &PageCalls) -> Result<(), AllocError> {
-    let none = push_call(out, "expose", calls.expose, true)?;
-    let none = push_call(out, "hide", calls.hide, none)?;
-    let none = push_call(out, "map_image", calls.map_image, none)?;
-    let none = push_call(out, "remap_zeros", calls.remap_zeros, none)?;
-    let none = push_call(out, "erase", calls.erase, none)?;
-    let none = push_call(out, "recolour", calls.recolour, none)?;
-    let none = push_call(out, "decommit", calls.decommit, none)?;
-    if none { out.push_str("-") } else { Ok(()) }
+#[tactic(auto, unfolding(crate::specs::CallsText::calls_text))]
+pub fn push_calls(alloc: Global, out: &mut String, calls: &PageCalls) -> Result<(), AllocError>
+    ensures { OnOk result (string_bytes out.new ≡ string_bytes out.old ++ calls_text calls.now) }
+{
+    let mut row = String::new(alloc);
+    push_changes(&mut row, calls)?;
+    push_others(&mut row, calls)?;
+    push_row(out, row.as_str())
 }

@@ -22,8 +22,8 @@ use pool_slots::{
     make_striped_plan,
 };
 use pool_types::{
-    Enabled, HostAlignedByteCount, MemoryKind, MemoryTunables, Offered, PageSize, PoolingAllocationConfig,
-    Tunables,
+    Enabled, HostAlignedByteCount, MemoryKind, MemoryTunables, Offered, PageSize,
+    PoolingAllocationConfig, Tunables,
 };
 use std::alloc::{AllocError, Global};
 

@@ -48,11 +48,7 @@ pub fn reset_dirty<P: Pages>(
 }
 
 // Sets at most so many dirty pages by hand to what they go back to, from the first one on.
-fn restore_dirty<P: Pages>(
-    region: &mut PageRegion<P>,
-    span: PageSpan,
-    most: usize,
-) -> DoneByHand
+fn restore_dirty<P: Pages>(region: &mut PageRegion<P>, span: PageSpan, most: usize) -> DoneByHand
     requires span { IsSpan span region.old }
     requires reachable { IfSome region.old.contents (CanReach span.base (span.pages * span.page)) }
     requires shaped { TellsShaped region.old }
@@ -75,12 +71,7 @@ fn restore_dirty<P: Pages>(
 
 // The dirty pages from one on as ranges, each as long as it can be, at most eight: the eighth reaches to the end where
 // there are more.
-fn leave_dirty<P: Pages>(
-    region: &PageRegion<P>,
-    span: PageSpan,
-    from: usize,
-    ranges: &mut Ranges,
-)
+fn leave_dirty<P: Pages>(region: &PageRegion<P>, span: PageSpan, from: usize, ranges: &mut Ranges)
     requires span { IsSpan span region.now }
     requires from { from ≤ span.pages }
     requires empty { ranges.old ≡ [] }

@@ -22,7 +22,7 @@ returns g c =
     let told = reset_told c.args.settings.now.dirty_pages keep c.in-Ok.kept (slot_taken c.args.lease) c.unwrap_static_image-slot.result new c.clear_and_remain_ready.new.ranges c.requires.can.kept c.in-Ok.ensures.value c.in-Ok.ensures.resident c.clear_and_remain_ready.ensures.ranges c.clear_and_remain_ready.ensures.fits c.clear_and_remain_ready.ensures.parts c.in-Ok.ensures.clean_after in
     let unwrapped : c.unwrap_static_image-slot.result ≡ slot_of c.args.lease.memory = search rules in
     let pushed = pushed_reset c.args.settings.now.dirty_pages keep c.args.lease c.slot_taken-at.result c.unwrap_static_image-slot.result new c.memory_queued-item.result c.in-Ok.kept c.as_slice-listed.result.now c.clear_and_remain_ready.new.ranges c.args.frame.now.local c.push_reset.new.self
-        c.push_reset.ensures.pushed c.memory_queued-item.ensures c.as_slice-listed.ensures c.clear_and_remain_ready.ensures.ranges c.in-Ok.ensures.value c.in-Ok.ensures.resident c.slot_taken-at.ensures unwrapped in
+    c.push_reset.ensures.pushed c.memory_queued-item.ensures c.as_slice-listed.ensures c.clear_and_remain_ready.ensures.ranges c.in-Ok.ensures.value c.in-Ok.ensures.resident c.slot_taken-at.ensures unwrapped in
     (false, new, subst T (search rules) told, search rules, λ core. reset_as_row c.args.settings.now c.args.lease new c.args.frame.now c.was_reset.new.frame c.was_reset.new.outcome c.push_reset.new.self c.was_reset.ensures pushed core)
 
 pub returns-in_default : goal.returns-in_default

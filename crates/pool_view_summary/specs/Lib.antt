@@ -1,0 +1,10 @@
+pub mod Costs
+pub mod CostsText
+pub mod Counts
+pub mod CountsText
+pub mod Kinds
+pub mod Made
+pub mod Marks
+pub mod Seen
+pub mod Shown
+pub mod Summing

@@ -1,4 +1,0 @@
-pub mod Joined
-pub mod Sparing
-pub mod Threads
-pub mod Workers
