@@ -1,0 +1,11 @@
+pub mod Beside
+pub mod Driving
+pub mod Grounding
+pub mod Joined
+pub mod JoinedAll
+pub mod JoinedOne
+pub mod JoinedViews
+pub mod Limits
+pub mod Numbered
+pub mod Refusals
+pub mod Sparing

@@ -1,0 +1,4 @@
+pub mod Joined
+pub mod Sparing
+pub mod Threads
+pub mod Workers
