@@ -1,5 +1,5 @@
 -- A party as it is made, whose seat has nothing, may work.
-use Rattle.std.proofs.Common.{◌≡◌, ℕ, zero, suc, ◌+◌, ◌<◌, ◌≤◌, [], length, replicate, Option, Some, None, refl, sym, ◌∙◌, arith, subst, All, IfSome, slice_get, slice_index_or, List, true≢false}
+use Rattle.std.proofs.Common.{◌≡◌, ℕ, zero, suc, [], length, replicate, Option, Some, None, refl, sym, arith, subst, IfSome, slice_get, slice_index_or, List, true≢false}
 use Rattle.std.proofs.lemmas.List.{length-replicate}
 use Rattle.std.proofs.lemmas.List.Elements.{All-replicate}
 use Rattle.pool_hall.specs.declared.view.View.{View}
@@ -13,7 +13,6 @@ use Rattle.pool_driver.specs.Driving.{IsDriven, StandsOn, alone_of}
 use Rattle.pool_driver.specs.Faults.{GrantKeeps}
 use Rattle.pool_driver.specs.Pools.{core_of}
 use Rattle.pool_run.specs.Folds.{seen_by}
-use Rattle.pool_run.specs.PartyRules.{host_for}
 use Rattle.pool_run.specs.PrivateTables.{Host}
 use Rattle.pool_run.specs.Rooms.{IsPooledRun, in_stripe, under}
 use Rattle.pool_run.specs.RunsMade.{party_made_for}

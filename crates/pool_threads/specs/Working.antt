@@ -1,5 +1,5 @@
 -- A party that works on a thread of its own, over a pool that others use at the same time: what its seat has, and what it was told.
-use Rattle.std.specs.Prelude.{◌≡◌, ℕ, ◌+◌, List, [], ◌∷◌, ◌++◌, length, sum_by, All, true, false, Option, Some, None, IfSome, slice_get, slice_index_or}
+use Rattle.std.specs.Prelude.{◌≡◌, ℕ, List, [], ◌∷◌, ◌++◌, length, sum_by, All, true, false, Option, Some, None, IfSome, slice_get, slice_index_or}
 use Rattle.pool_hall.specs.declared.unit_name.UnitName.{UnitName}
 use Rattle.pool_hall.specs.declared.view.View.{View}
 use Rattle.pool_slots.specs.declared.listed_heaps.ListedHeaps.{ListedHeaps}
