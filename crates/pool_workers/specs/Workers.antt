@@ -54,7 +54,7 @@ module _ {P M : Type 0} (told : M → MakerTold) (input : Input) where
     pub inside : w.number < length input.parties
     pub own : IsSeatOf pool.hall w.seat
     pub free : IsFree w.seat
-    pub told : IfSome w.replies (HasWorked modules pool w)
+    pub worked : IfSome w.replies (HasWorked modules pool w)
 
   -- The workers may begin, one for each party, in order.
   pub record AreReady (pool : SharedPool (Hall (HallPart P PlainHeap M))) (ws : List (Worker (HallSeat (HallPart P PlainHeap M)) P)) : Type 0 where
