@@ -6,6 +6,7 @@ use Rattle.std.proofs.lemmas.Nat.{div-add-mod', mod-mul-add}
 use Rattle.pool_hall.specs.Sum.{often, total}
 use Rattle.pool_hall.specs.Tally.{counted, number, rise, rise_at}
 use Rattle.pool_hall.specs.declared.unit_name.SlotKind.{SlotKind}
+use Rattle.pool_hall.specs.declared.unit_name.SlotKind.TheVariants.{Memory as memory_kind, Table as table_kind, Stack as stack_kind, Heap as heap_kind}
 use Rattle.pool_hall.specs.declared.view.CountRise.{CountRise}
 use Rattle.pool_hall.specs.declared.view.View.{View}
 use Rattle.pool_index.specs.Part.{cold_picks}
@@ -41,7 +42,10 @@ more_slots : (c s n : ℕ) → min c (n * s) + min s (c - n * s) ≡ min c (suc 
 more_slots c s n = omega arith
 
 kind_same : (k : SlotKind) → same_kind k k ≡ true
-kind_same _ = cc
+kind_same memory_kind = refl
+kind_same table_kind = refl
+kind_same stack_kind = refl
+kind_same heap_kind = refl
 
 module _ (plan : Plan) (kind : SlotKind) (a : Allocator) where
   -- what one rise is of the cold picks of the first shards
