@@ -88,7 +88,7 @@ module _ {P M : Type 0} (told : M → MakerTold) (input : Input) (pool : SharedP
   -- So workers may be driven where the first seat may be.
   pub drives_workers : (v : View (HallPart P PlainHeap M)) → v ≡ first_view (made_with pool.hall) (limits_of pool.hall)
       → ((home : ℕ) → IsDriven {P = P} {H = PlainHeap} (length (made_with pool.hall)) (alone_of (about_shared told pool)) v (frame_made home pool.settings) None) → DrivesWorkers told input pool
-  drives_workers v first drives home = worker_driven (length (made_with pool.hall)) (alone_of (about_shared told pool)) pool.hall (frame_made home pool.settings) (subst (λ (w : View (HallPart P PlainHeap M)). IsDriven (length (made_with pool.hall)) (alone_of (about_shared told pool)) w (frame_made home pool.settings) None) first (drives home))
+  drives_workers v first drives home = worker_driven (length (made_with pool.hall)) (alone_of (about_shared told pool)) pool.hall (frame_made home pool.settings) (subst (λ (w : View (HallPart P PlainHeap M)). IsDriven {P = P} {H = PlainHeap} (length (made_with pool.hall)) (alone_of (about_shared told pool)) w (frame_made home pool.settings) None) first (drives home))
 
   -- A seat that was cut off knows what a worker knows first.
   pub newcomer_is : (s : HallSeat (HallPart P PlainHeap M)) → IsSeatOf pool.hall s → newcomer 1 (view s) ≡ worker_view pool.hall
