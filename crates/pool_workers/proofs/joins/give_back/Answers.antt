@@ -1,5 +1,5 @@
 use Rattle.std.proofs.Common.{◌≡◌, length, rules, refl, ap, subst, sym, ◌∙◌, None, Some}
-use Rattle.pool_hall.specs.Seat.{made_with, view, IsSeatOf}
+use Rattle.pool_hall.specs.Seat.{made_with, view, IsFree, IsSeatOf}
 use Rattle.pool_slots.specs.declared.listed_heaps.PlainHeap.{PlainHeap}
 use Rattle.pool_alloc.specs.CallStages.{stage_of}
 use Rattle.pool_alloc.specs.Calls.{IsGrant, IsIdle}
@@ -15,20 +15,21 @@ use Rattle.pool_workers.proofs.Driving.{driven_returned}
 use Rattle.pool_workers.proofs.Sparing.{back_spares}
 use Rattle.pool_workers.proofs.joins.give_back.Goals as goal
 
-pub finish_call-requires-clause-driven : goal.finish_call-requires-clause-driven
-finish_call-requires-clause-driven g c =
+pub finish_call-requires : goal.finish_call-requires
+finish_call-requires g c κs within =
+    let pool : IsSharedOf g.M.PageMaker.told (about_job g.job) c.args.pool.now = search rules in
+    let own : IsSeatOf c.args.pool.now.hall c.args.seat.now = search rules in
+    let free : IsFree c.args.seat.now = search rules in
     let idle : IsIdle c.args.party.now.frame = search rules in
     let is : IsGrant g.job.world.maker g.job.settings g.job.plan c.args.grant = search rules in
     let had : IsDriven (length (made_with c.args.pool.now.hall)) (given_by g.job c.args.party.now.live) (view c.args.seat.now) c.args.party.now.frame (Some (Granted c.args.grant)) = search rules in
+    let driven : IsDriven (length (made_with c.args.pool.now.hall)) (given_by g.job c.args.party.now.live) (view c.args.seat.now) c.begin.new.self None =
     subst (λ (f : Frame g.row.P.Denot PlainHeap). IsDriven (length (made_with c.args.pool.now.hall)) (given_by g.job c.args.party.now.live) (view c.args.seat.now) f None) (sym c.begin.ensures.value)
-    (driven_begun (length (made_with c.args.pool.now.hall)) (given_by g.job c.args.party.now.live) (view c.args.seat.now) c.args.party.now.frame (call.GiveBack c.args.grant) had (idle, is))
-
-pub finish_call-requires-clause-begun : goal.finish_call-requires-clause-begun
-finish_call-requires-clause-begun g c =
-    let own : IsSeatOf c.args.pool.now.hall c.args.seat.now = search rules in
-    let pool : IsSharedOf g.M.PageMaker.told (about_job g.job) c.args.pool.now = search rules in
+    (driven_begun (length (made_with c.args.pool.now.hall)) (given_by g.job c.args.party.now.live) (view c.args.seat.now) c.args.party.now.frame (call.GiveBack c.args.grant) had (idle, is)) in
+    let begun : GoesOnSince (about_job g.job) (view c.args.seat.now) (view c.args.seat.now) c.begin.new.self c.begin.new.self =
     subst (λ (f : Frame g.row.P.Denot PlainHeap). GoesOnSince (about_job g.job) (view c.args.seat.now) (view c.args.seat.now) f f) (sym c.begin.ensures.value)
-    (goes_begun (about_job g.job) (view c.args.seat.now) (call.GiveBack c.args.grant) c.args.party.now.frame (own.limits ∙ pool.hall.limits))
+    (goes_begun (about_job g.job) (view c.args.seat.now) (call.GiveBack c.args.grant) c.args.party.now.frame (own.limits ∙ pool.hall.limits)) in
+    (search rules, (search rules, (search rules, (search rules, (pool, (own, (free, (driven, begun))))))))
 
 pub returns-clause-idle : goal.returns-clause-idle
 returns-clause-idle g c =
