@@ -7,6 +7,7 @@ ghost use Rattle.pool_alloc.specs.Refusals.{component_refused, module_refused, t
 ghost use Rattle.pool_alloc.specs.Requests.{refused_by};
 ghost use Rattle.pool_alloc.specs.StepTable.{no_component_left, no_instance_left};
 ghost use Rattle.pool_driver.specs.Telling.{WasOver, component_counter, instance_counter};
+ghost use Rattle.pool_driver.specs.UnknownPuts.{UnknownCaused};
 ghost use Rattle.pool_callers.specs.Callers.{IsAllocator, IsCaller, IsCounted, IsKept, IsUncounted, left_counted};
 
 use crate::allocator::PoolingInstanceAllocator;
@@ -54,6 +55,7 @@ impl<P: Pages, H: GcHeap, M: PageMaker> PoolingInstanceAllocator<PoolHall<P, H, 
         ensures frame { seat.new.frame ≡ seat.old.frame }
         ensures counted { OnOk result (IsCounted counted_instance (view seat.old.seat) (view seat.new.seat)) }
         ensures refused { IfErr result (λ e. (e ≡ no_instance_left self.now.pool.settings) × IsKept (view seat.old.seat) (view seat.new.seat) × WasOver (view seat.old.seat) (view seat.new.seat) instance_counter) }
+        ensures unknown { UnknownCaused (view seat.old.seat) (view seat.new.seat) self.now.pool.plan }
     {
         let limit = self.pool.settings.max_core_instances;
         if self.count_instance(seat, limit) {
@@ -77,6 +79,7 @@ impl<P: Pages, H: GcHeap, M: PageMaker> PoolingInstanceAllocator<PoolHall<P, H, 
         ensures frame { seat.new.frame ≡ seat.old.frame }
         ensures counted { OnOk result (IsCounted counted_component (view seat.old.seat) (view seat.new.seat)) }
         ensures refused { IfErr result (λ e. (e ≡ no_component_left self.now.pool.settings) × IsKept (view seat.old.seat) (view seat.new.seat) × WasOver (view seat.old.seat) (view seat.new.seat) component_counter) }
+        ensures unknown { UnknownCaused (view seat.old.seat) (view seat.new.seat) self.now.pool.plan }
     {
         let limit = self.pool.settings.max_component_instances;
         if self.count_component(seat, limit) {
@@ -97,6 +100,7 @@ impl<P: Pages, H: GcHeap, M: PageMaker> PoolingInstanceAllocator<PoolHall<P, H, 
         ensures seat { IsCaller M.told self.now seat.new }
         ensures frame { seat.new.frame ≡ seat.old.frame }
         ensures uncounted { IsUncounted counted_instance (view seat.old.seat) (view seat.new.seat) }
+        ensures unknown { UnknownCaused (view seat.old.seat) (view seat.new.seat) self.now.pool.plan }
     {
         self.pool.hall.subtract(&mut seat.seat, 1);
     }
@@ -109,6 +113,7 @@ impl<P: Pages, H: GcHeap, M: PageMaker> PoolingInstanceAllocator<PoolHall<P, H, 
         ensures seat { IsCaller M.told self.now seat.new }
         ensures frame { seat.new.frame ≡ seat.old.frame }
         ensures uncounted { IsUncounted counted_component (view seat.old.seat) (view seat.new.seat) }
+        ensures unknown { UnknownCaused (view seat.old.seat) (view seat.new.seat) self.now.pool.plan }
     {
         self.pool.hall.subtract(&mut seat.seat, 2);
     }
@@ -122,6 +127,7 @@ impl<P: Pages, H: GcHeap, M: PageMaker> PoolingInstanceAllocator<PoolHall<P, H, 
         ensures frame { seat.new.frame ≡ seat.old.frame }
         ensures counted { result ≡ true → IsCounted counted_instance (view seat.old.seat) (view seat.new.seat) }
         ensures over { result ≡ false → IsKept (view seat.old.seat) (view seat.new.seat) × WasOver (view seat.old.seat) (view seat.new.seat) instance_counter }
+        ensures unknown { UnknownCaused (view seat.old.seat) (view seat.new.seat) self.now.pool.plan }
     {
         let found = self.pool.hall.add(&mut seat.seat, 1);
         if found < limit {
@@ -140,6 +146,7 @@ impl<P: Pages, H: GcHeap, M: PageMaker> PoolingInstanceAllocator<PoolHall<P, H, 
         ensures frame { seat.new.frame ≡ seat.old.frame }
         ensures counted { result ≡ true → IsCounted counted_component (view seat.old.seat) (view seat.new.seat) }
         ensures over { result ≡ false → IsKept (view seat.old.seat) (view seat.new.seat) × WasOver (view seat.old.seat) (view seat.new.seat) component_counter }
+        ensures unknown { UnknownCaused (view seat.old.seat) (view seat.new.seat) self.now.pool.plan }
     {
         let number = self.pool.hall.add(&mut seat.seat, 2);
         if number < limit {

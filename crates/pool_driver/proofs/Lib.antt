@@ -1,4 +1,5 @@
 pub mod Adding
+pub mod Appending
 pub mod Asking
 pub mod BesideRights
 pub mod Calling
@@ -11,6 +12,7 @@ pub mod Counted
 pub mod CountersDriven
 pub mod CountingSteps
 pub mod Driven
+pub mod Erasing
 pub mod Faulted
 pub mod FewParts
 pub mod Finding
