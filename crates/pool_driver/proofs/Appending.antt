@@ -1,6 +1,6 @@
 -- A call that gives back appends a slot for each object of which its reset leaves something, and one for one object appends none.
 use Rattle.std.proofs.Common.{◌≡◌, ◌⊎◌, ⊎_elim, inl, inr, ℕ, ◌+◌, ◌*◌, ◌<◌, ◌≤◌, Bool, true, false, List, [], ◌∷◌, ◌++◌, length, map, sym, refl, ap, subst, ◌∙◌, arith, true≢false, Option, Some, None, Result, Ok, Err}
-use Rattle.std.specs.Prelude.{◌==◌, ◌||◌, ◌%◌, ◌^◌, nat_lt, nat_le, slice_index, if◌then◌else◌}
+use Rattle.std.specs.Prelude.{◌-◌, ◌==◌, ◌||◌, ◌%◌, ◌^◌, nat_lt, nat_le, slice_index, if◌then◌else◌}
 use Rattle.std.proofs.lemmas.Bool.{leb-true, lt-ltb, ltb-true}
 use Rattle.pool_limits.specs.Exchanges.{Exchange}
 use Rattle.pool_types.specs.declared.decommit_behavior.DecommitBehavior.{DecommitBehavior}
@@ -33,7 +33,7 @@ use Rattle.pool_slots.specs.declared.queued_range.QueuedRange.{QueuedRange}
 use Rattle.pool_slots.specs.declared.queued_range.QueueKind.TheVariants as queued
 use Rattle.pool_slots.specs.declared.slot_name.SlotName.{SlotName}
 use Rattle.pool_types.specs.declared.unsupported.Unsupported.{Unsupported}
-use Rattle.pool_alloc.specs.BetweenSteps.{HasNoneWaiting, IsAtRest, IsHeapAsked, IsLeaseOf, IsObjectOf, IsShapedAt, memory_region}
+use Rattle.pool_alloc.specs.BetweenSteps.{HasNoneWaiting, IsAtRest, IsLeaseOf, IsObjectOf, IsShapedAt, memory_region}
 use Rattle.pool_alloc.specs.CallStages.{stage_at, stage_back, stage_by, stage_of, stage_of_release}
 use Rattle.pool_alloc.specs.Calls.{begun_call}
 use Rattle.pool_alloc.specs.Leases.{Lease, slot_taken}
@@ -46,7 +46,7 @@ use Rattle.pool_alloc.specs.PoolTables.{IsTableLease}
 use Rattle.pool_alloc.specs.Reserved.{with_item}
 use Rattle.pool_alloc.specs.SoundSteps.{IsSoundStep}
 use Rattle.pool_alloc.specs.StackLeases.{LeasedStack}
-use Rattle.pool_alloc.specs.StepReads.{IsForObjects, IsModule, StepGiven, allocator_for, cell_named, heaps_wanted, memories_kept, memories_wanted, queue_at, queue_tried, shard_at, shard_tried, stacks_wanted, wanted}
+use Rattle.pool_alloc.specs.StepReads.{IsForObjects, IsHeapAsked, IsModule, IsQueuePart, StepGiven, allocator_for, cell_named, heaps_wanted, memories_kept, memories_wanted, queue_at, queue_in, queue_tried, shard_at, shard_tried, stacks_wanted, wanted}
 use Rattle.pool_alloc.specs.StepTable.{FlushStep, run, zero, put, free, component_tested, component_counted, flush_row, flush_step, in_queue, memory_kept, memory_turn, merged, paged, picked, put_first, region_next, reset_turn, row_of, stacks_tested, table_kept, table_turn, taken_next, unmapped_next, was_made, was_made_table, was_reset}
 use Rattle.pool_alloc.specs.Stepping.{is_idle}
 use Rattle.pool_alloc.specs.TableLeases.{LeasedTable}
@@ -81,7 +81,7 @@ use Rattle.pool_driver.specs.Appending.{Dues, IsForOne, NoneAppended, PutsOff, a
 use Rattle.pool_driver.specs.Calling.{Appends, Becomes, CallKind, GoesOnSince, HasAppended, IsAsking, asks_for, gives_back, is_refused, kind_at, kind_of, purges, releases}
 use Rattle.pool_driver.specs.Driving.{Change, changed, counted as counter_up, uncounted as counter_down, unchanged, view_after, IsChangeOf, SeesStep}
 use Rattle.pool_driver.specs.Placed.{About, IsSmall, part_counts, pool_meaning}
-use Rattle.pool_driver.proofs.Naming.{a_queue, left_is, placed_at}
+use Rattle.pool_driver.proofs.Naming.{left_is, placed_at}
 use Rattle.pool_driver.proofs.Sparing.{appended_rises, appends_slots, put_keeps_both, queue_stays}
 
 -- What is left of a call.
@@ -522,6 +522,15 @@ module _ {P H : Type 0} where
       alone (call.Purge id) asks one = absurd cc
       alone call.Release asks one = absurd cc
 
+-- a queue is told from its part
+queue_part_is : {P H : Type 0} (x : PoolPart P H) → IsQueuePart x → x ≡ part.Queue (queue_in x)
+queue_part_is (part.Shard s) is = absurd is
+queue_part_is (part.Memory cell) is = absurd is
+queue_part_is (part.Table cell) is = absurd is
+queue_part_is (part.Stack cell) is = absurd is
+queue_part_is (part.Queue q) is = refl
+queue_part_is (part.Heaps heaps) is = absurd is
+
 -- what a merge counts
 appended_one : (n k : ℕ) → n < 2 ^ 64 → k ≡ 1 → rise n ((n + k) % 2 ^ 64) ≡ 1
 appended_one n k small one = ap (λ (m : ℕ). rise n ((n + m) % 2 ^ 64)) one ∙ go n small
@@ -574,7 +583,7 @@ module _ {T P H : Type 0} (about : T → About) (inner : T → PoolPart P H) (Pa
       let there = queue_part a.maker place core s.can.core role in
       let q : Queue = queue_at place core in
       let whole : Queue = after_append q f.local in
-      let was : inner at.before ≡ part.Queue q = sym at.was ∙ a_queue (part_at place core.parts) there.part in
+      let was : inner at.before ≡ part.Queue q = sym at.was ∙ queue_part_is (part_at place core.parts) there.part in
       let now : inner at.after ≡ part.Queue (merged {P = P} {H = H} (nat_le core.settings.batch (length whole.ranges)) whole (record (resting f) { local = drained f.local })).part = sym at.is ∙ ap (λ (z : PoolCore P H). part_at place z.parts) (left_is about inner Passes old new a v w f next o s Merge is) ∙ part_same place _ core there.inside in
       let small : q.appended < 2 ^ 64 = subst (λ (x : PoolPart P H). slice_index (part_counts x) queue_appended < 2 ^ 64) was (at.small queue_appended) in
       let rose : rise (slice_index (part_counts (inner at.before)) queue_appended) (slice_index (part_counts (inner at.after)) queue_appended) ≡ 1 =

@@ -17,7 +17,9 @@ use Rattle.pool_pages.proofs.Small.{told_weaker}
 use Rattle.pool_hall.specs.declared.unit_name.SlotKind.{SlotKind}
 use Rattle.pool_hall.specs.declared.unit_name.SlotKind.TheVariants.{Memory as memory_kind, Table as table_kind, Stack as stack_kind, Heap as heap_kind}
 use Rattle.pool_hall.specs.declared.view.View.{View}
-use Rattle.pool_images.specs.Slots.{Image, ImageName, IsInstantiated, Slot, coloured, hides, renewed, replaced, resized, reused, size_of, with_image, without_image, without_mapped, wiped}
+use Rattle.pool_images.specs.Images.{Image}
+use Rattle.pool_images.specs.declared.image_slot.ImageName.{ImageName}
+use Rattle.pool_images.specs.Slots.{Slot, coloured, hides, renewed, replaced, resized, reused, size_of, with_image, without_image, without_mapped, wiped}
 use Rattle.pool_index.specs.Shard.{ShardState}
 use Rattle.pool_index.specs.declared.ids.SlotId.{SlotId}
 use Rattle.pool_memory.specs.Making.{limits_answer}
@@ -43,7 +45,7 @@ use Rattle.pool_alloc.specs.Leases.{Lease}
 use Rattle.pool_alloc.specs.MemorySteps.{made_for, made_of, made_of_limits}
 use Rattle.pool_alloc.specs.Modules.{IfAllocated}
 use Rattle.pool_alloc.specs.Objects.{objects_in, objects_wanted}
-use Rattle.pool_alloc.specs.PageCallAnswers.{Empties, InstantiatesFor, MayBeTold}
+use Rattle.pool_alloc.specs.PageCallAnswers.{Empties, InstantiatesFor, IsInstantiated, MayBeTold}
 use Rattle.pool_alloc.specs.PartyTold.{PartyTold}
 use Rattle.pool_alloc.specs.StepReads.{StepGiven, allocator_for, cell_named, counting_memories, counting_tables, heaps_at, image_wanted, memories_wanted, queue_at, shard_at, shard_tried}
 use Rattle.pool_alloc.specs.StepTable as rows
@@ -148,6 +150,12 @@ made_erased : (told room : ℕ) (answer : Result Bool LimiterError) (held : Slot
 made_erased told room answer held None k = tt
 made_erased told room answer held (Some decl) k = limits_erased told (limits_answer answer decl.ty) decl.ty room held k
 
+-- An answer that is no grant has nothing.
+answer_erased : (P H : Type 0) (e : Ending) → IfGranted {P = P} {H = H} GrantErased (Some (answer_of e))
+answer_erased P H granted = tt
+answer_erased P H returned = tt
+answer_erased P H (refused x) = tt
+
 module _ {P H : Type 0} where
   -- What a step leaves of a call for objects.
   pub record LeftErased (l : Left P H) : Type 0 where
@@ -163,21 +171,16 @@ module _ {P H : Type 0} where
   abbrev Has : Frame P H → Type 0
   Has g = AllByRecursion LeaseErased g.objects.memories.items
 
-  answer_erased : (e : Ending) → IfGranted {P = P} {H = H} GrantErased (Some (answer_of e))
-  answer_erased granted = tt
-  answer_erased returned = tt
-  answer_erased (refused x) = tt
-
   back_erased : (memories : List Lease) (tables : List LeasedTable) (g : Frame P H) → is_granting g.ending ≡ false → LeftErased (returned_next memories tables g)
   back_erased (lease ∷ memories) tables g back = let left = (returned_next (lease ∷ memories) tables g).frame in record { frame = λ asks. never_back left.asked left.ending (objects_in left.objects) back asks; answer = tt }
   back_erased [] (lease ∷ tables) g back = let left = (returned_next [] (lease ∷ tables) g).frame in record { frame = λ asks. never_back left.asked left.ending (objects_in left.objects) back asks; answer = tt }
   back_erased [] [] g back = all g.asked
     where
       all : (what : Asked) → LeftErased (all_returned what g)
-      all (asked.Memory m) = record { frame = λ asks. absurd cc; answer = answer_erased g.ending }
-      all (asked.Table ty) = record { frame = λ asks. absurd cc; answer = answer_erased g.ending }
-      all asked.Stack = record { frame = λ asks. absurd cc; answer = answer_erased g.ending }
-      all (asked.Heap ty) = record { frame = λ asks. absurd cc; answer = answer_erased g.ending }
+      all (asked.Memory m) = record { frame = λ asks. absurd cc; answer = answer_erased P H g.ending }
+      all (asked.Table ty) = record { frame = λ asks. absurd cc; answer = answer_erased P H g.ending }
+      all asked.Stack = record { frame = λ asks. absurd cc; answer = answer_erased P H g.ending }
+      all (asked.Heap ty) = record { frame = λ asks. absurd cc; answer = answer_erased P H g.ending }
       all asked.Nothing = record { frame = λ asks. never_back g.asked g.ending (objects_in g.objects) back asks; answer = tt }
       all (asked.Module m) = record { frame = λ asks. never_back g.asked g.ending (objects_in g.objects) back asks; answer = tt }
 
@@ -314,7 +317,7 @@ module _ {P H : Type 0} (c : PoolCore P H) (f : Frame P H) (has : AllByRecursion
   table_erased lease (asked.Table ty) = turn_erased (rows.table_turn (asked.Table ty) lease) e has tt
   table_erased lease what = turn_erased goes_next (rows.table_kept what lease e) has tt
 
-  heap_next_erased : (at : TakenSlot) (o : Option H) → TurnErased {P = P} (rows.heap_next at o)
+  heap_next_erased : (at : TakenSlot) (o : Option H) → TurnErased {P = P} {H = H} (rows.heap_next at o)
   heap_next_erased at None = tt
   heap_next_erased at (Some heap) = tt
 
