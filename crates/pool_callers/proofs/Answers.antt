@@ -1,5 +1,5 @@
 -- What a call's end says of what it was for: a grant, a refusal, or a give-back.
-use Rattle.std.proofs.Common.{◌≡◌, ⊎_elim, inr, ℕ, List, [], ◌∷◌, refl, sym, subst, ◌∙◌, Some}
+use Rattle.std.proofs.Common.{◌≡◌, ⊎_elim, inr, ℕ, List, [], ◌∷◌, refl, sym, subst, ◌∙◌, arith, Some, None}
 use Rattle.pool_limits.specs.Exchanges.{Exchange}
 use Rattle.pool_limits.specs.LimiterTold.{LimiterTold}
 use Rattle.pool_slots.specs.HeapsTold.{HeapsTold}
@@ -9,7 +9,7 @@ use Rattle.pool_hall.specs.declared.view.View.{View}
 use Rattle.pool_slots.specs.declared.errors.AllocError.{AllocError}
 use Rattle.pool_slots.specs.declared.errors.AllocError.TheVariants as refusal
 use Rattle.pool_slots.specs.declared.plan.Plan.{Plan}
-use Rattle.pool_alloc.specs.Calls.{IsGrantOf, IfGranted}
+use Rattle.pool_alloc.specs.Calls.{IsGrantOf, IsIdle, IfGranted}
 use Rattle.pool_alloc.specs.Stepping.{count_granted}
 use Rattle.pool_alloc.specs.declared.frame.Asked.{Asked}
 use Rattle.pool_alloc.specs.declared.frame.Asked.TheVariants.{Nothing}
@@ -27,18 +27,26 @@ use Rattle.pool_alloc.specs.declared.frame.Grant.{Grant}
 use Rattle.pool_alloc.specs.declared.frame.Outcome.{Outcome}
 use Rattle.pool_alloc.specs.declared.frame.Outcome.TheVariants.{Key, Granted, Returned, Refused}
 use Rattle.pool_alloc.specs.CallStages.{stage_of}
+use Rattle.pool_driver.specs.Appending.{IsForOne, NoneAppended, frame_dues, grant_dues, owed_by}
 use Rattle.pool_driver.specs.Calling.{CallKind, HasEnded, MayAnswer, asks_for, draws_key, gives_back, kind_at, purges, releases}
 use Rattle.pool_driver.specs.Driving.{IsDriven}
+use Rattle.pool_driver.specs.Erasing.{GrantErased}
 use Rattle.pool_driver.specs.Placed.{About}
 use Rattle.pool_driver.specs.Limits.{IfRefused, KeepsStripe, Names}
 use Rattle.pool_driver.specs.PageFaults.{CellFaulted, IfFaulted}
 use Rattle.pool_driver.specs.Spending.{RefusalFewer}
 use Rattle.pool_driver.specs.Telling.{AnswerTold, RefusalTold, WasOver, component_counter, instance_counter}
 use Rattle.pool_driver.specs.UnknownPuts.{AnswerCaused, UnknownCaused, UnlessUnmade}
+use Rattle.pool_alloc.proofs.BegunFrames.{at_rest}
+use Rattle.pool_driver.proofs.Appending.{begun_owes}
 use Rattle.pool_driver.proofs.Calling.{grant_of, none_returned}
 use Rattle.pool_callers.specs.Callers.{Gives, Goes, IsBounded, IsGivenBack, IsGranted, IsKept, IsRefused, begun_from, given_for, given_in}
 use Rattle.pool_callers.specs.NoHeapsTold.{nobody_told}
 use Rattle.pool_callers.proofs.Settling.{gains, keeps, loses, may_give}
+
+-- What a call owes that gives something back, in a seat that makes none.
+pub owes_grant : {T P H : Type 0} (places : ℕ) (a : About) (v : View T) (home : ℕ) (f : Frame P H) (x : Grant P H) → IsIdle f → IsDriven places (given_in a v) v f None → frame_dues (owed_by a.settings) (begun_from home (call.GiveBack x) f) ≡ grant_dues (owed_by a.settings) x
+owes_grant places a v home f x idle driven = begun_owes (owed_by a.settings) x (record f { home = home }) (at_rest a.maker a.settings a.plan f driven.frame idle)
 
 -- A give-back is answered so.
 pub returned : {P H : Type 0} (x : Outcome P H) → MayAnswer gives_back x → x ≡ Returned
@@ -87,15 +95,21 @@ module _ {T P H : Type 0} (places : ℕ) (a : About) (v w : View T) (first f : F
   returning : kind_at (stage_of first) ≡ gives_back → IsBounded a.plan gives_back Nothing v w
   returning kind = let b = bounded gives_back kind in record { cold = b.cold; instances = b.instances; components = b.components }
 
+  -- what one for one object appends
+  one_appends : (asked : Asked) → first.asked ≡ asked → kind_at (stage_of first) ≡ asks_for → IsForOne asked → NoneAppended v w a.plan
+  one_appends asked asks kind one = ended.appended.one kind (subst IsForOne (sym asks) one)
+
   pub is_granted : (asked : Asked) (grant : Grant P H) → first.asked ≡ asked → kind_at (stage_of first) ≡ asks_for → IsDriven places (given_in a v) w f (Some o) → o ≡ Granted grant → IsGranted a asked grant v w
   is_granted asked grant asks kind driven is =
       let of : IsGrantOf a.maker a.settings a.plan asked grant = subst (λ (x : Asked). IsGrantOf a.maker a.settings a.plan x grant) asks (subst (λ (x : Outcome P H). IfGranted (IsGrantOf a.maker a.settings a.plan first.asked) (Some x)) is ended.granted) in
       let has : IsDriven places (given_in a v) w f (Some (Granted grant)) = subst (λ (x : Outcome P H). IsDriven places (given_in a v) w f (Some x)) is driven in
       record {
         is = of;
+        erased = subst (λ (x : Outcome P H). IfGranted GrantErased (Some x)) is ended.erased;
         gains = gains places a v w f ended.idle grant has;
         gives = may_give places a v w f ended.idle grant (grant_of a.maker a.settings a.plan asked grant of) has;
         unknown = subst (λ (x : Outcome P H). AnswerCaused (UnknownCaused v w a.plan) x) is ended.parts.unknown;
+        appended = one_appends asked asks kind;
         bounds = asking asked asks kind;
         goes = goes_here;
       }
@@ -109,6 +123,7 @@ module _ {T P H : Type 0} (places : ℕ) (a : About) (v w : View T) (first f : F
         fewer = subst (λ (x : Asked). RefusalFewer v w a.plan x e) asks (subst (λ (x : Outcome P H). IfRefused (RefusalFewer v w a.plan first.asked) x) is ended.fewer);
         fault = subst (λ (x : Outcome P H). IfRefused (IfFaulted (CellFaulted v w a.plan)) x) is ended.parts.fault;
         unknown = subst (λ (x : Outcome P H). AnswerCaused (UnknownCaused v w a.plan) x) is ended.parts.unknown;
+        appended = one_appends asked asks kind;
         keeps = keeps places a v w f ended.idle (Some o) (λ of. subst (λ (x : Outcome P H). count_granted of (Some x) ≡ 0) (sym is) refl) driven;
         bounds = asking asked asks kind;
         goes = goes_here;
@@ -117,10 +132,11 @@ module _ {T P H : Type 0} (places : ℕ) (a : About) (v w : View T) (first f : F
   pub is_kept : ((of : Grant P H → ℕ) → count_granted of (Some o) ≡ 0) → IsDriven places (given_in a v) w f (Some o) → IsKept v w
   is_kept none driven = record { keeps = keeps places a v w f ended.idle (Some o) none driven; goes = goes_here }
 
-  pub is_given_back : (grant : Grant P H) → kind_at (stage_of first) ≡ gives_back → MayAnswer gives_back o → Gives a grant v → IsDriven places (given_for a (call.GiveBack grant) v) w f (Some o) → IsGivenBack a grant v w
-  is_given_back grant kind may gives driven = record {
+  pub is_given_back : (grant : Grant P H) → kind_at (stage_of first) ≡ gives_back → frame_dues (owed_by a.settings) first ≡ grant_dues (owed_by a.settings) grant → MayAnswer gives_back o → Gives a grant v → IsDriven places (given_for a (call.GiveBack grant) v) w f (Some o) → IsGivenBack a grant v w
+  is_given_back grant kind owes may gives driven = record {
     loses = loses places a v w f ended.idle grant (Some o) (λ of. none_returned of o may) gives driven;
     none = subst (λ (x : Outcome P H). AnswerTold v w a.plan first.home (Some x)) (returned o may) ended.told;
+    appended = λ puts. omega (arith, ended.appended.back kind puts, owes);
     unknown = subst (λ (x : Outcome P H). AnswerCaused (UnknownCaused v w a.plan) x) (returned o may) ended.parts.unknown;
     bounds = returning kind;
     goes = goes_here;

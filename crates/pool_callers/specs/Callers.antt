@@ -23,8 +23,10 @@ use Rattle.pool_alloc.specs.declared.frame.Frame.{Frame}
 use Rattle.pool_alloc.specs.declared.frame.Grant.{Grant}
 use Rattle.pool_alloc.specs.declared.frame.Outcome.{Outcome}
 use Rattle.pool_alloc.specs.declared.frame.Outcome.TheVariants.{Granted, Refused}
+use Rattle.pool_driver.specs.Appending.{IsForOne, NoneAppended, PutsOff, appended_in, grant_dues, owed_by}
 use Rattle.pool_driver.specs.Calling.{CallKind, asks_for, components_of, gives_back, instances_of, objects_of}
 use Rattle.pool_driver.specs.Driving.{Given, IsDriven, counter_number, counter_of}
+use Rattle.pool_driver.specs.Erasing.{GrantErased}
 use Rattle.pool_driver.specs.Faults.{GrantKeeps}
 use Rattle.pool_driver.specs.Origins.{about_of}
 use Rattle.pool_driver.specs.PageFaults.{CellFaulted, IfFaulted}
@@ -131,21 +133,25 @@ module _ {T : Type 0} where
     abbrev pub given_for : About → Call P H → View T → Given
     given_for a c v = record { about = a; rest = rest_for c v; counted = counted_for c v }
 
-    -- This was granted to who asked for that: it is as asked for, its units have come, and it may be given back. A region of which nothing is
-    -- known was put into its cell only where a cell has faulted.
+    -- This was granted to who asked for that: it is as asked for, its units have come, and it may be given back. The region of each of its
+    -- memories was erased no more often than its unit tells. A region of which nothing is known was put into its cell only where a cell has
+    -- faulted. For one object no slot was appended to a queue.
     pub record IsGranted (a : About) (asked : Asked) (grant : Grant P H) (v w : View T) : Type 0 where
       pub is : IsGrantOf a.maker a.settings a.plan asked grant
+      pub erased : GrantErased grant
       pub gains : Gains grant v w
       pub gives : Gives a grant w
       pub unknown : UnknownCaused v w a.plan
+      pub appended : IsForOne asked → NoneAppended v w a.plan
       pub bounds : IsBounded a.plan asks_for asked v w
       pub goes : Goes v w
 
-    -- This was given back, and no queue was taken for it. A region of which nothing is known was put into its cell only where a cell has
-    -- faulted.
+    -- This was given back, and no queue was taken for it. Where resets put off what they leave, a slot was appended to a queue for each of its
+    -- objects of which a reset leaves something. A region of which nothing is known was put into its cell only where a cell has faulted.
     pub record IsGivenBack (a : About) (grant : Grant P H) (v w : View T) : Type 0 where
       pub loses : Loses grant v w
       pub none : NoneTaken v w a.plan
+      pub appended : PutsOff a.settings → appended_in a.plan v + grant_dues (owed_by a.settings) grant ≤ appended_in a.plan w
       pub unknown : UnknownCaused v w a.plan
       pub bounds : IsBounded a.plan gives_back Nothing v w
       pub goes : Goes v w
@@ -160,13 +166,14 @@ module _ {T : Type 0} where
   -- that it searches was taken, and fewer cold slots were picked than asked for; where by a counter, that was added on once, not low, and
   -- subtracted from once; where for a failed page call, a memory's region came back to its cell with more faults, or with as many
   -- as can be counted. A region of which nothing is known was put into its cell only where a cell has faulted, unless the refusal is by the
-  -- limiter, or because addresses can't hold a memory's least size.
+  -- limiter, or because addresses can't hold a memory's least size. For one object no slot was appended to a queue.
   pub record IsRefused (a : About) (home stripe : ℕ) (asked : Asked) (e : AllocError) (v w : View T) : Type 0 where
     pub names : Names a.settings a.plan stripe e
     pub told : RefusalTold v w (WasOver v w instance_counter) (WasOver v w component_counter) a.plan home e
     pub fewer : RefusalFewer v w a.plan asked e
     pub fault : IfFaulted (CellFaulted v w a.plan) e
     pub unknown : UnlessUnmade (UnknownCaused v w a.plan) e
+    pub appended : IsForOne asked → NoneAppended v w a.plan
     pub keeps : Keeps v w
     pub bounds : IsBounded a.plan asks_for asked v w
     pub goes : Goes v w

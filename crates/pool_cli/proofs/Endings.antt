@@ -13,9 +13,9 @@ use Rattle.pool_forms.specs.Streams.{SourceTold, SinkTold, Wrote, most_input}
 use Rattle.pool_cli.specs.declared.failure.Failure.{Failure}
 use Rattle.pool_cli.specs.declared.failure.Failure.TheVariants as failure
 use Rattle.pool_cli.specs.declared.status.Status.{Status}
-use Rattle.pool_cli.specs.declared.status.Status.TheVariants.{Ok as Success, BadUsage, BadInput, BadConfig as BadSettings, PageFault, ReadFault, WriteFault, NoMemory, TooLong, NotBuilt}
+use Rattle.pool_cli.specs.declared.status.Status.TheVariants.{Ok as Success, BadUsage, BadInput, BadConfig as BadSettings, PageFault, ReadFault, WriteFault, NoMemory, TooLong}
 use Rattle.pool_cli.specs.declared.words.Task.{Task}
-use Rattle.pool_cli.specs.declared.words.Task.TheVariants.{Run, RunOnDemand, Shared, Load, Later, Unknown}
+use Rattle.pool_cli.specs.declared.words.Task.TheVariants.{Run, RunOnDemand, Threads, Shared, Load, Unknown}
 
 -- settings that are refused are the cause of a failure of a task that runs an input
 refused_fails : (faulted : Type 0) (task : Task) (error : BadConfig) (cause : Failure) (so sn : SourceTold) → runs task ≡ true → HasBadConfig task error so sn → Refuses error cause → Fails faulted task cause so sn
@@ -26,7 +26,6 @@ refused_fails faulted task error failure.PageFault so sn reads broken is = absur
 refused_fails faulted task error failure.ReadFault so sn reads broken is = absurd is
 refused_fails faulted task error failure.NoMemory so sn reads broken is = reads
 refused_fails faulted task error failure.TooLong so sn reads broken is = absurd is
-refused_fails faulted task error failure.NotBuilt so sn reads broken is = absurd is
 
 -- an input is valid or isn't
 is_either : (b : Bool) → (b ≡ true) ⊎ (b ≡ false)
@@ -123,39 +122,42 @@ record HasDoneOne {X : Type 0} (f : Format X) (so sn : SourceTold) : Type 0 wher
   limits : f.broken input ≡ None
 
 -- the bytes lead to the status, or something stands in the way
-task_follows : {X : Type 0} (f : Format X) {P : Type 0} (told : P → Told) (task : Task) (status : Status) (so sn : SourceTold) (ko kn : SinkTold) (mo mn : MakerTold) (rest : List ℕ) → (task ≡ Unknown → ⊥) → ((text : List ℕ) → HasDone P task text so sn mo mn → HasDoneOne f so sn) → (HasReadInvalid task so sn → HasRead f invalid so sn) → ((e : BadConfig) → HasBadConfig task e so sn → BreaksRule f e so sn) → (task ≡ Later → ⊥) → so.rest ≡ Some rest → Ends told task status so sn ko kn mo mn → FollowsBytes f status rest
-task_follows f told task Success so sn ko kn mo mn rest known done bad broken later is ends =
+task_follows : {X : Type 0} (f : Format X) {P : Type 0} (told : P → Told) (task : Task) (status : Status) (so sn : SourceTold) (ko kn : SinkTold) (mo mn : MakerTold) (rest : List ℕ) → (task ≡ Unknown → ⊥) → ((text : List ℕ) → HasDone P task text so sn mo mn → HasDoneOne f so sn) → (HasReadInvalid task so sn → HasRead f invalid so sn) → ((e : BadConfig) → HasBadConfig task e so sn → BreaksRule f e so sn) → so.rest ≡ Some rest → Ends told task status so sn ko kn mo mn → FollowsBytes f status rest
+task_follows f told task Success so sn ko kn mo mn rest known done bad broken is ends =
     let one = done ends.text ends.run in
     read_follows f (accepted one.input) Success so sn rest is one.read (limits_of f one.input None Success one.limits refl)
-task_follows f told task BadUsage so sn ko kn mo mn rest known done bad broken later is ends = absurd (known ends.0.0)
-task_follows f told task BadInput so sn ko kn mo mn rest known done bad broken later is ends = read_follows f invalid BadInput so sn rest is (bad ends.0) refl
-task_follows f told task BadSettings so sn ko kn mo mn rest known done bad broken later is ends =
+task_follows f told task BadUsage so sn ko kn mo mn rest known done bad broken is ends = absurd (known ends.0.0)
+task_follows f told task BadInput so sn ko kn mo mn rest known done bad broken is ends = read_follows f invalid BadInput so sn rest is (bad ends.0) refl
+task_follows f told task BadSettings so sn ko kn mo mn rest known done bad broken is ends =
     let rule = broken ends.error ends.refused in
     read_follows f (accepted rule.input) BadSettings so sn rest is rule.read (limits_of f rule.input (Some ends.error) BadSettings rule.broken refl)
-task_follows f told task PageFault so sn ko kn mo mn rest known done bad broken later is ends = hindered f PageFault rest (inr (inr (inl refl)))
-task_follows f told task ReadFault so sn ko kn mo mn rest known done bad broken later is ends = hindered f ReadFault rest (inl refl)
-task_follows f told task WriteFault so sn ko kn mo mn rest known done bad broken later is ends = hindered f WriteFault rest (inr (inl refl))
-task_follows f told task NoMemory so sn ko kn mo mn rest known done bad broken later is ends = hindered f NoMemory rest (inr (inr (inr refl)))
-task_follows f told task TooLong so sn ko kn mo mn rest known done bad broken later is ends = too_long f so rest is ends.0.1.more
-task_follows f told task NotBuilt so sn ko kn mo mn rest known done bad broken later is ends = absurd (later ends.0.0)
+task_follows f told task PageFault so sn ko kn mo mn rest known done bad broken is ends = hindered f PageFault rest (inr (inr (inl refl)))
+task_follows f told task ReadFault so sn ko kn mo mn rest known done bad broken is ends = hindered f ReadFault rest (inl refl)
+task_follows f told task WriteFault so sn ko kn mo mn rest known done bad broken is ends = hindered f WriteFault rest (inr (inl refl))
+task_follows f told task NoMemory so sn ko kn mo mn rest known done bad broken is ends = hindered f NoMemory rest (inr (inr (inr refl)))
+task_follows f told task TooLong so sn ko kn mo mn rest known done bad broken is ends = too_long f so rest is ends.0.1.more
 
 -- the same of what the words ask for, once they are known
-asked_follows : {X : Type 0} (f : Format X) {P : Type 0} (told : P → Told) (asked task : Task) (status : Status) (so sn : SourceTold) (ko kn : SinkTold) (mo mn : MakerTold) → (asked ≡ Unknown → ⊥) → ((text : List ℕ) → HasDone P asked text so sn mo mn → HasDoneOne f so sn) → (HasReadInvalid asked so sn → HasRead f invalid so sn) → ((e : BadConfig) → HasBadConfig asked e so sn → BreaksRule f e so sn) → (asked ≡ Later → ⊥) → Ends told task status so sn ko kn mo mn → task ≡ asked → IfSome so.rest (FollowsBytes f status)
-asked_follows f told asked task status so sn ko kn mo mn known done bad broken later ends is =
+asked_follows : {X : Type 0} (f : Format X) {P : Type 0} (told : P → Told) (asked task : Task) (status : Status) (so sn : SourceTold) (ko kn : SinkTold) (mo mn : MakerTold) → (asked ≡ Unknown → ⊥) → ((text : List ℕ) → HasDone P asked text so sn mo mn → HasDoneOne f so sn) → (HasReadInvalid asked so sn → HasRead f invalid so sn) → ((e : BadConfig) → HasBadConfig asked e so sn → BreaksRule f e so sn) → Ends told task status so sn ko kn mo mn → task ≡ asked → IfSome so.rest (FollowsBytes f status)
+asked_follows f told asked task status so sn ko kn mo mn known done bad broken ends is =
     let E : Task → Type 0 = λ t. Ends told t status so sn ko kn mo mn in
-    some_of so.rest (FollowsBytes f status) (λ rest left. task_follows f told asked status so sn ko kn mo mn rest known done bad broken later left (subst E is ends))
+    some_of so.rest (FollowsBytes f status) (λ rest left. task_follows f told asked status so sn ko kn mo mn rest known done bad broken left (subst E is ends))
 
 pub follows_run : {P : Type 0} (told : P → Told) (task : Task) (status : Status) (so sn : SourceTold) (ko kn : SinkTold) (mo mn : MakerTold) → Ends told task status so sn ko kn mo mn → task ≡ Run → IfSome so.rest (FollowsBytes run_format status)
 follows_run told task status so sn ko kn mo mn ends is =
-    asked_follows run_format told Run task status so sn ko kn mo mn (λ x. cc) (λ text done. record { input = done.input; read = done.read; limits = done.limits }) (λ h. h) (λ e h. h) (λ x. cc) ends is
+    asked_follows run_format told Run task status so sn ko kn mo mn (λ x. cc) (λ text done. record { input = done.input; read = done.read; limits = done.limits }) (λ h. h) (λ e h. h) ends is
 
 pub follows_on_demand : {P : Type 0} (told : P → Told) (task : Task) (status : Status) (so sn : SourceTold) (ko kn : SinkTold) (mo mn : MakerTold) → Ends told task status so sn ko kn mo mn → task ≡ RunOnDemand → IfSome so.rest (FollowsBytes run_format status)
 follows_on_demand told task status so sn ko kn mo mn ends is =
-    asked_follows run_format told RunOnDemand task status so sn ko kn mo mn (λ x. cc) (λ text done. record { input = done.input; read = done.read; limits = done.limits }) (λ h. h) (λ e h. h) (λ x. cc) ends is
+    asked_follows run_format told RunOnDemand task status so sn ko kn mo mn (λ x. cc) (λ text done. record { input = done.input; read = done.read; limits = done.limits }) (λ h. h) (λ e h. h) ends is
+
+pub follows_threads : {P : Type 0} (told : P → Told) (task : Task) (status : Status) (so sn : SourceTold) (ko kn : SinkTold) (mo mn : MakerTold) → Ends told task status so sn ko kn mo mn → task ≡ Threads → IfSome so.rest (FollowsBytes run_format status)
+follows_threads told task status so sn ko kn mo mn ends is =
+    asked_follows run_format told Threads task status so sn ko kn mo mn (λ x. cc) (λ text done. record { input = done.input; read = done.read; limits = done.limits }) (λ h. h) (λ e h. h) ends is
 
 pub follows_shared : {P : Type 0} (told : P → Told) (task : Task) (status : Status) (so sn : SourceTold) (ko kn : SinkTold) (mo mn : MakerTold) → Ends told task status so sn ko kn mo mn → task ≡ Shared → IfSome so.rest (FollowsBytes shared_format status)
 follows_shared told task status so sn ko kn mo mn ends is =
-    asked_follows shared_format told Shared task status so sn ko kn mo mn (λ x. cc) (λ text done. record { input = done.input; read = done.read; limits = done.page }) (λ h. h) (λ e h. h) (λ x. cc) ends is
+    asked_follows shared_format told Shared task status so sn ko kn mo mn (λ x. cc) (λ text done. record { input = done.input; read = done.read; limits = done.page }) (λ h. h) (λ e h. h) ends is
 
 -- a load ends well, unless a write or a making fails, or memory runs out
 load_status : {P : Type 0} (told : P → Told) (seed : ℕ) (status : Status) (so sn : SourceTold) (ko kn : SinkTold) (mo mn : MakerTold) → Ends told (Load seed) status so sn ko kn mo mn → IsLoadStatus status
@@ -168,7 +170,6 @@ load_status told seed ReadFault so sn ko kn mo mn ends = absurd (let is : false 
 load_status told seed WriteFault so sn ko kn mo mn ends = inr (inl refl)
 load_status told seed NoMemory so sn ko kn mo mn ends = inr (inr (inr refl))
 load_status told seed TooLong so sn ko kn mo mn ends = absurd (let is : false ≡ true = ends.0.0 in cc)
-load_status told seed NotBuilt so sn ko kn mo mn ends = absurd (let is : Load seed ≡ Later = ends.0.0 in cc)
 
 pub ends_load : {P : Type 0} (told : P → Told) (task : Task) (status : Status) (so sn : SourceTold) (ko kn : SinkTold) (mo mn : MakerTold) (seed : ℕ) → Ends told task status so sn ko kn mo mn → task ≡ Load seed → IsLoadStatus status
 ends_load told task status so sn ko kn mo mn seed ends is =
@@ -207,7 +208,6 @@ ends_by told task failure.PageFault so sn ko kn mo mn fails wrote = (fails, wrot
 ends_by told task failure.ReadFault so sn ko kn mo mn fails wrote = (fails, wrote)
 ends_by told task failure.NoMemory so sn ko kn mo mn fails wrote = (fails, wrote)
 ends_by told task failure.TooLong so sn ko kn mo mn fails wrote = (fails, wrote)
-ends_by told task failure.NotBuilt so sn ko kn mo mn fails wrote = (fails, wrote)
 
 -- it was to be written: all of it was, or a part
 pub ends_with_line : {P : Type 0} (told : P → Told) (task : Task) (cause : Failure) (status : Status) (so sn : SourceTold) (ko kn : SinkTold) (mo mn : MakerTold) → Fails (HasFaulted told task so sn mo mn) task cause so sn → WritesText (status_of_failure cause) (line_of cause) ko kn status → Ends told task status so sn ko kn mo mn

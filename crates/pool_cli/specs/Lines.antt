@@ -6,7 +6,7 @@ use Rattle.pool_forms.specs.Output.{line_feed}
 use Rattle.pool_cli.specs.declared.failure.Failure.{Failure}
 use Rattle.pool_cli.specs.declared.failure.Failure.TheVariants as failure
 use Rattle.pool_cli.specs.declared.status.Status.{Status}
-use Rattle.pool_cli.specs.declared.status.Status.TheVariants.{BadUsage, BadInput, BadConfig as BadSettings, PageFault, ReadFault, NoMemory, TooLong, NotBuilt}
+use Rattle.pool_cli.specs.declared.status.Status.TheVariants.{BadUsage, BadInput, BadConfig as BadSettings, PageFault, ReadFault, NoMemory, TooLong}
 
 -- the line of settings that are refused
 abbrev pub config_line : BadConfig → List ℕ
@@ -21,7 +21,6 @@ line_of failure.PageFault = codes "error PageFault" ++ line_feed
 line_of failure.ReadFault = []
 line_of failure.NoMemory = []
 line_of failure.TooLong = codes "error TooLong" ++ line_feed
-line_of failure.NotBuilt = codes "error NotBuilt" ++ line_feed
 
 -- the status that a failure ends with
 abbrev pub status_of_failure : Failure → Status
@@ -32,4 +31,3 @@ status_of_failure failure.PageFault = PageFault
 status_of_failure failure.ReadFault = ReadFault
 status_of_failure failure.NoMemory = NoMemory
 status_of_failure failure.TooLong = TooLong
-status_of_failure failure.NotBuilt = NotBuilt

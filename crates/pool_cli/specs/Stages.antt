@@ -16,7 +16,7 @@ use Rattle.pool_forms.specs.declared.json_input.InputFault.TheVariants as fault
 use Rattle.pool_cli.specs.declared.failure.Failure.{Failure}
 use Rattle.pool_cli.specs.declared.failure.Failure.TheVariants as failure
 use Rattle.pool_cli.specs.declared.status.Status.{Status}
-use Rattle.pool_cli.specs.declared.status.Status.TheVariants.{Ok as Success, BadUsage, BadInput, BadConfig as BadSettings, PageFault, ReadFault, WriteFault, NoMemory, TooLong, NotBuilt}
+use Rattle.pool_cli.specs.declared.status.Status.TheVariants.{Ok as Success, BadUsage, BadInput, BadConfig as BadSettings, PageFault, ReadFault, WriteFault, NoMemory, TooLong}
 use Rattle.pool_cli.specs.declared.words.Task.{Task}
 use Rattle.pool_cli.specs.declared.words.Task.TheVariants.{Load}
 
@@ -39,7 +39,6 @@ Refuses error failure.PageFault = ⊥
 Refuses error failure.ReadFault = ⊥
 Refuses error failure.NoMemory = Unit {0}
 Refuses error failure.TooLong = ⊥
-Refuses error failure.NotBuilt = ⊥
 
 -- what a text that isn't read as an input ends the program with
 abbrev pub input_failure : InputFault → Failure
@@ -82,4 +81,3 @@ Ends told task PageFault source_old source_new sink_old sink_new maker_old maker
 Ends told task ReadFault source_old source_new sink_old sink_new maker_old maker_new = WroteLine told task failure.ReadFault source_old source_new sink_old sink_new maker_old maker_new
 Ends told task NoMemory source_old source_new sink_old sink_new maker_old maker_new = WroteLine told task failure.NoMemory source_old source_new sink_old sink_new maker_old maker_new
 Ends told task TooLong source_old source_new sink_old sink_new maker_old maker_new = WroteLine told task failure.TooLong source_old source_new sink_old sink_new maker_old maker_new
-Ends told task NotBuilt source_old source_new sink_old sink_new maker_old maker_new = WroteLine told task failure.NotBuilt source_old source_new sink_old sink_new maker_old maker_new

@@ -16,10 +16,11 @@ use Rattle.pool_run.specs.declared.input.Input.{Input}
 use Rattle.pool_run.specs.declared.output.RunOutput.{RunOutput}
 use Rattle.pool_run_shared.specs.declared.input.SharedInput.{SharedInput}
 use Rattle.pool_run_shared.specs.declared.reply.SharedReply.{SharedReply}
+use Rattle.pool_workers.specs.Threads.{HaveRunBeside, IsUnlisted}
 use Rattle.pool_load.specs.Load.{load_input}
 use Rattle.pool_cli.specs.Lines.{config_line, line_of}
 use Rattle.pool_forms.specs.LoadOutput.{load_text}
-use Rattle.pool_forms.specs.Output.{output_text, replies_text}
+use Rattle.pool_forms.specs.Output.{output_text, replies_text, threads_text}
 use Rattle.pool_forms.specs.Reading.{Reading, invalid, accepted, reading, shared_reading}
 use Rattle.pool_forms.specs.SharedOutput.{shared_text}
 use Rattle.pool_forms.specs.Streams.{SourceTold, SinkTold, ReadWhole, ReadTooMuch, Wrote, WrotePart, most_input}
@@ -28,7 +29,7 @@ use Rattle.pool_cli.specs.declared.failure.Failure.TheVariants as failure
 use Rattle.pool_cli.specs.declared.status.Status.{Status}
 use Rattle.pool_cli.specs.declared.status.Status.TheVariants.{Ok as Success, BadInput, BadConfig as BadSettings, PageFault, ReadFault, WriteFault, NoMemory, TooLong}
 use Rattle.pool_cli.specs.declared.words.Task.{Task}
-use Rattle.pool_cli.specs.declared.words.Task.TheVariants.{Run, RunOnDemand, Shared, Load, Later, Unknown}
+use Rattle.pool_cli.specs.declared.words.Task.TheVariants.{Run, RunOnDemand, Threads, Shared, Load, Unknown}
 
 -- how the bytes for a task are read, and which rule of its settings an input breaks
 pub record Format (X : Type 0) : Type 0 where
@@ -73,6 +74,19 @@ pub record HasRunOnDemand (text : List ℕ) (source_old source_new : SourceTold)
   pub run : IsOnDemand input (with_faults input maker_old) output
   pub text_is : text ≡ replies_text input output.replies
 
+-- The same of a run with a thread for each party. What each party was told is a private run of all its commands, and where it was
+-- refused for want of something, all parties together ask for at least as much as there is. No making of the maker's failed, and
+-- none that is listed was needed. The text is that of the replies, and then the line that the pool was closed.
+pub record HasRunThreads (text : List ℕ) (source_old source_new : SourceTold) (maker_old maker_new : MakerTold) : Type 0 where
+  pub input : Input
+  pub output : RunOutput
+  pub read : HasRead run_format (accepted input) source_old source_new
+  pub limits : broken_rule input ≡ None
+  pub run : HaveRunBeside input (with_faults input maker_old) output.replies
+  pub unlisted : IsUnlisted input (with_faults input maker_old)
+  pub makings : maker_new.faults ≡ maker_old.faults
+  pub text_is : text ≡ threads_text input output.replies
+
 -- The same of a run of events on a shared memory: the text is that of the replies to them.
 pub record HasRunShared (text : List ℕ) (source_old source_new : SourceTold) (maker_old : MakerTold) : Type 0 where
   pub input : SharedInput
@@ -103,6 +117,7 @@ pub record HasRunLoad (P : Type 0) (seed : ℕ) (text : List ℕ) (source_old so
 abbrev pub HasDone : Type 0 → Task → List ℕ → SourceTold → SourceTold → MakerTold → MakerTold → Type 0
 HasDone P Run text source_old source_new maker_old maker_new = HasRun P text source_old source_new maker_old maker_new
 HasDone P RunOnDemand text source_old source_new maker_old maker_new = HasRunOnDemand text source_old source_new maker_old
+HasDone P Threads text source_old source_new maker_old maker_new = HasRunThreads text source_old source_new maker_old maker_new
 HasDone P Shared text source_old source_new maker_old maker_new = HasRunShared text source_old source_new maker_old
 HasDone P (Load seed) text source_old source_new maker_old maker_new = HasRunLoad P seed text source_old source_new maker_old maker_new
 HasDone P _ text source_old source_new maker_old maker_new = ⊥
@@ -111,6 +126,7 @@ HasDone P _ text source_old source_new maker_old maker_new = ⊥
 abbrev pub reads_input : Task → Bool
 reads_input Run = true
 reads_input RunOnDemand = true
+reads_input Threads = true
 reads_input Shared = true
 reads_input _ = false
 
@@ -127,6 +143,7 @@ runs task = reads_input task || is_load task
 abbrev pub HasReadInvalid : Task → SourceTold → SourceTold → Type 0
 HasReadInvalid Run source_old source_new = HasRead run_format invalid source_old source_new
 HasReadInvalid RunOnDemand source_old source_new = HasRead run_format invalid source_old source_new
+HasReadInvalid Threads source_old source_new = HasRead run_format invalid source_old source_new
 HasReadInvalid Shared source_old source_new = HasRead shared_format invalid source_old source_new
 HasReadInvalid _ source_old source_new = ⊥
 
@@ -141,6 +158,7 @@ pub record BreaksRule {X : Type 0} (f : Format X) (error : BadConfig) (source_ol
 abbrev pub HasBadConfig : Task → BadConfig → SourceTold → SourceTold → Type 0
 HasBadConfig Run error source_old source_new = BreaksRule run_format error source_old source_new
 HasBadConfig RunOnDemand error source_old source_new = BreaksRule run_format error source_old source_new
+HasBadConfig Threads error source_old source_new = BreaksRule run_format error source_old source_new
 HasBadConfig Shared error source_old source_new = BreaksRule shared_format error source_old source_new
 HasBadConfig _ error source_old source_new = ⊥
 
@@ -176,6 +194,7 @@ pub record HasNoLoadPool {P : Type 0} (told : P → Told) (seed : ℕ) (source_o
 abbrev pub HasFaulted : {P : Type 0} → (P → Told) → Task → SourceTold → SourceTold → MakerTold → MakerTold → Type 0
 HasFaulted told Run source_old source_new maker_old maker_new = HasNoPool told source_old source_new maker_old maker_new
 HasFaulted told RunOnDemand source_old source_new maker_old maker_new = HasNoImages source_old source_new maker_old maker_new
+HasFaulted told Threads source_old source_new maker_old maker_new = HasNoPool told source_old source_new maker_old maker_new
 HasFaulted told Shared source_old source_new maker_old maker_new = HasNoRegion source_old source_new maker_old maker_new
 HasFaulted told (Load seed) source_old source_new maker_old maker_new = HasNoLoadPool told seed source_old source_new maker_old maker_new
 HasFaulted told _ source_old source_new maker_old maker_new = ⊥
@@ -189,7 +208,6 @@ Fails faulted task failure.PageFault source_old source_new = faulted
 Fails faulted task failure.ReadFault source_old source_new = (reads_input task ≡ true) × Rose source_old.faults source_new.faults
 Fails faulted task failure.NoMemory source_old source_new = runs task ≡ true
 Fails faulted task failure.TooLong source_old source_new = (reads_input task ≡ true) × ReadTooMuch source_old source_new
-Fails faulted task failure.NotBuilt source_old source_new = (task ≡ Later) × Unread source_old source_new
 
 -- what is to be written, and why: the text of an output, or the line of a failure
 abbrev pub IsToWrite : {P : Type 0} → (P → Told) → Task → List ℕ → SourceTold → SourceTold → MakerTold → MakerTold → Type 0

@@ -5,7 +5,7 @@ use Rattle.std.specs.Char.{is_ascii_digit}
 use Rattle.std.specs.List.{list_all}
 use Rattle.std.specs.Str.{bytes_eq}
 use Rattle.pool_cli.specs.declared.words.Task.{Task}
-use Rattle.pool_cli.specs.declared.words.Task.TheVariants.{Run, RunOnDemand, Shared, Load, Later, Unknown}
+use Rattle.pool_cli.specs.declared.words.Task.TheVariants.{Run, RunOnDemand, Threads, Shared, Load, Unknown}
 
 -- the number that decimal digits write after those of n
 abbrev pub number_after : ℕ → List ℕ → ℕ
@@ -16,12 +16,12 @@ number_after n (digit ∷ digits) = number_after (10 * n + (digit - 48)) digits
 abbrev pub is_number : List ℕ → Bool
 is_number text = nat_lt 0 (length text) && list_all is_ascii_digit text && nat_lt (number_after 0 text) (2 ^ 64)
 
--- What one word asks for: `run`, `shared`, or `threads`, which isn't built; any other is unknown.
+-- What one word asks for: `run`, `threads` or `shared`; any other is unknown.
 abbrev pub one_word : List ℕ → Task
 one_word word =
     if bytes_eq word (codes "run") then Run
+    else if bytes_eq word (codes "threads") then Threads
     else if bytes_eq word (codes "shared") then Shared
-    else if bytes_eq word (codes "threads") then Later
     else Unknown
 
 -- The number that a text of digits alone writes.
@@ -40,7 +40,7 @@ two_words first second =
     else if bytes_eq first (codes "load") then load_of (number_in second)
     else Unknown
 
--- `run`, `run on-demand`, `shared` and `load` with a number are built; `threads` is not yet; there is nothing else
+-- What all words together ask for: `run`, `run on-demand`, `threads`, `shared` and `load` with a number; there is nothing else.
 abbrev pub task_of : List (String Global) → Task
 task_of [] = Unknown
 task_of (word ∷ []) = one_word (string_bytes word)

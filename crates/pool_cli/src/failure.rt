@@ -17,7 +17,6 @@ pub enum Failure {
     ReadFault,
     NoMemory,
     TooLong,
-    NotBuilt,
 }
 
 impl Failure {
@@ -33,7 +32,6 @@ impl Failure {
             Failure::ReadFault => Status::ReadFault,
             Failure::NoMemory => Status::NoMemory,
             Failure::TooLong => Status::TooLong,
-            Failure::NotBuilt => Status::NotBuilt,
         }
     }
 
@@ -48,7 +46,6 @@ impl Failure {
             Failure::BadConfig(line) => line.as_str(),
             Failure::PageFault => "error PageFault\n",
             Failure::TooLong => "error TooLong\n",
-            Failure::NotBuilt => "error NotBuilt\n",
         }
     }
 }

@@ -6,7 +6,7 @@
 //! in memory.
 //!
 //! It is ours and no port. It stands on `pool_forms` for what is read and written, and on `pool_run`,
-//! `pool_run_on_demand` and `pool_run_shared` for the runs.
+//! `pool_run_on_demand`, `pool_workers` and `pool_run_shared` for the runs.
 //!
 //! ```text
 //! rt try -- run < ../../examples/tour/first.json
@@ -33,6 +33,8 @@ mod on_demand_tests;
 mod run_tests;
 #[cfg(test)]
 mod tests;
+#[cfg(test)]
+mod threads_tests;
 #[cfg(test)]
 mod untold_pages;
 
@@ -74,6 +76,13 @@ fn main(rt: HostRuntime) -> ExitCode {
     let mut source = ReaderSource::new(rt.stdin());
     let mut sink = WriterSink::new(rt.stdout());
     let mut pages = MemoryPages::new(page);
-    let status = pool_main::pool_main(alloc, words.as_slice(), &mut source, &mut sink, &mut pages);
+    let status = pool_main::pool_main(
+        &rt,
+        alloc,
+        words.as_slice(),
+        &mut source,
+        &mut sink,
+        &mut pages,
+    );
     ExitCode::from(status as u8)
 }

@@ -6,14 +6,14 @@ ghost use Rattle.pool_forms.specs.Reading.{reading_of_fit, shared_reading_of_fit
 ghost use Rattle.pool_cli.specs.Stages.{ReadsBytes, ReadsInput, Prepares, PreparesLoad, WritesText, Refuses, IsRunFailure, input_failure};
 ghost use Rattle.pool_cli.specs.Statuses.{run_format, shared_format};
 ghost use Rattle.pool_cli.specs.Words.{task_of};
-ghost use Rattle.pool_cli.specs.declared.words.Task.TheVariants.{Run, RunOnDemand, Shared};
+ghost use Rattle.pool_cli.specs.declared.words.Task.TheVariants.{Run, RunOnDemand, Shared, Threads};
 
 use crate::failure::{Failure, config_line};
 use crate::status::Status;
 use crate::words::{Task, task_of};
 use pool_forms::{
     InputFault, ReadFault, Sink, Source, load_text, output_text, read_all, read_input, read_shared,
-    replies_text, shared_text, write_all,
+    replies_text, shared_text, threads_text, write_all,
 };
 use pool_load::load_input;
 use pool_pages::PageMaker;
@@ -21,7 +21,10 @@ use pool_run::{Input, RunFault, run_schedule};
 use pool_run_on_demand::run_on_demand;
 use pool_run_shared::{SharedInput, run_shared};
 use pool_types::{BadConfig, ByteList};
+use pool_workers::run_threads;
 use std::alloc::Global;
+use std::sync::Wait;
+use std::thread::Threads;
 
 /// Reads all that the source has.
 fn bytes_from<S: Source>(alloc: Global, source: &mut S) -> Result<ByteList, Failure>
@@ -48,6 +51,7 @@ fn input_failure(fault: InputFault) -> Failure
 /// Reads the input of a run. Whether it is valid isn't tested.
 fn input_from<S: Source>(alloc: Global, source: &mut S) -> Result<Input, Failure>
     ensures reads { ReadsInput Run run_format reading_of_fit (S.told source.old) (S.told source.new) result }
+    ensures threads { ReadsInput Threads run_format reading_of_fit (S.told source.old) (S.told source.new) result }
     ensures on_demand { ReadsInput RunOnDemand run_format reading_of_fit (S.told source.old) (S.told source.new) result }
     ensures ready { IfOk result (λ input. is_built input ≡ true) }
 {
@@ -129,6 +133,30 @@ fn on_demand<S: Source, M: PageMaker>(
     }
 }
 
+/// Reads the input, runs it with a thread for each party, and makes the text of the replies.
+///
+/// This is the one stage that may wait.
+fn threads<S: Source, M: PageMaker + Send, R: Threads + Wait + Sync>(
+    rt: &R,
+    alloc: Global,
+    source: &mut S,
+    pages: &mut M,
+) -> Result<String, Failure>
+where
+    M::Region: Send,
+    ensures { Prepares M.Region.told Threads (S.told source.old) (S.told source.new) (M.told pages.old) (M.told pages.new) result }
+{
+    let input = input_from(alloc, source)?;
+    let output = match run_threads(rt, alloc, &input, pages) {
+        Ok(output) => output,
+        Err(fault) => return Err(run_failure(alloc, fault)),
+    };
+    match threads_text(alloc, &input, output.replies.as_slice()) {
+        Ok(text) => Ok(text),
+        Err(_) => Err(Failure::NoMemory),
+    }
+}
+
 /// Reads the input, has its events happen, and makes the text of the replies.
 fn shared<S: Source, M: PageMaker>(
     alloc: Global,
@@ -166,20 +194,23 @@ fn load<M: PageMaker>(alloc: Global, seed: u64, pages: &mut M) -> Result<String,
 }
 
 /// All that comes before the first write.
-pub fn prepare<S: Source, M: PageMaker>(
+pub fn prepare<S: Source, M: PageMaker + Send, R: Threads + Wait + Sync>(
+    rt: &R,
     alloc: Global,
     words: &[String],
     source: &mut S,
     pages: &mut M,
 ) -> Result<String, Failure>
+where
+    M::Region: Send,
     ensures { Prepares M.Region.told (task_of words.now) (S.told source.old) (S.told source.new) (M.told pages.old) (M.told pages.new) result }
 {
     match task_of(words) {
         Task::Run => run(alloc, source, pages),
         Task::RunOnDemand => on_demand(alloc, source, pages),
+        Task::Threads => threads(rt, alloc, source, pages),
         Task::Shared => shared(alloc, source, pages),
         Task::Load(seed) => load(alloc, seed, pages),
-        Task::Later => Err(Failure::NotBuilt),
         Task::Unknown => Err(Failure::BadUsage),
     }
 }

@@ -15,6 +15,4 @@ pub enum Status {
     NoMemory = 8,
     /// The input has more than 67,108,864 bytes.
     TooLong = 9,
-    /// The words ask for what is not built yet.
-    NotBuilt = 10,
 }

@@ -6,12 +6,14 @@ use pool_pages::{MemoryPages, PageMaker};
 use pool_types::{ByteList, PageSize, PlainList};
 use std::alloc::Global;
 use std::process::Abort;
+use std::sync::Wait;
 use std::test::Fail;
+use std::thread::Threads;
 
 /// The program on these words and this input, over regions of this maker, ends so and writes this. The read and the
 /// write of these numbers fail, none at 0. A read gives seven bytes at most, and a write takes ten.
-pub(crate) fn assert_ended<M: PageMaker + Drop>(
-    rt: &impl Abort,
+pub(crate) fn assert_ended<M: PageMaker + Send + Drop, R: Abort + Threads + Wait + Sync>(
+    rt: &R,
     alloc: Global,
     pages: M,
     words: &str,
@@ -20,7 +22,10 @@ pub(crate) fn assert_ended<M: PageMaker + Drop>(
     write: u64,
     status: Status,
     written: &str,
-) -> Result<(), Fail> {
+) -> Result<(), Fail>
+where
+    M::Region: Send,
+{
     let mut pages = pages;
     let mut all = Vec::new(alloc);
     for word in words.split_whitespace() {
@@ -29,7 +34,14 @@ pub(crate) fn assert_ended<M: PageMaker + Drop>(
     let bytes = ByteList::from_vec(Vec::from_slice(alloc, input.as_bytes())?);
     let mut source = MemorySource::new(bytes, 7, PlainList::from_vec(vec![in alloc; read]?));
     let mut sink = MemorySink::new(alloc, 10, PlainList::from_vec(vec![in alloc; write]?));
-    let ends = pool_main(alloc, all.as_slice(), &mut source, &mut sink, &mut pages);
+    let ends = pool_main(
+        rt,
+        alloc,
+        all.as_slice(),
+        &mut source,
+        &mut sink,
+        &mut pages,
+    );
     assert_eq!(*rt; ends, status, "at {words} {input}");
     assert_eq!(*rt; sink.taken(), written.as_bytes(), "at {words} {input}");
     Ok(())
@@ -38,8 +50,6 @@ pub(crate) fn assert_ended<M: PageMaker + Drop>(
 const USAGE: &str = "error BadUsage: run, run on-demand, threads, shared or load N\n";
 
 const BAD_INPUT: &str = "error BadInput\n";
-
-const NOT_BUILT: &str = "error NotBuilt\n";
 
 const PAGE_FAULT: &str = "error PageFault\n";
 
@@ -126,7 +136,11 @@ fn statuses(rt: HostRuntime) -> Result<(), Fail> {
         ("load 007", "", 1, 0, Status::Ok, LOAD_OUTPUT),
         ("load 7", "", 1, 0, Status::Ok, LOAD_OUTPUT),
         ("load 7", "", 1, 2, Status::WriteFault, "load 7: pa"),
-        ("threads", "", 1, 0, Status::NotBuilt, NOT_BUILT),
+        ("threads", "", 1, 0, Status::ReadFault, ""),
+        ("threads", FIRST, 0, 2, Status::WriteFault, "0.0: grant"),
+        ("threads", CUT_OFF, 0, 0, Status::BadInput, BAD_INPUT),
+        ("threads", FAULTY, 0, 0, Status::PageFault, PAGE_FAULT),
+        ("threads", SHARDS, 0, 0, Status::BadConfig, SHARDS_LINE),
         ("load", "", 1, 0, Status::BadUsage, USAGE),
         ("run", "", 1, 0, Status::ReadFault, ""),
         ("run on-demand", FIRST, 9, 0, Status::ReadFault, ""),

@@ -10,12 +10,12 @@ pub enum Task {
     Run,
     /// A run of it on demand.
     RunOnDemand,
+    /// A run of it with a thread for each party.
+    Threads,
     /// A run of events on a shared memory.
     Shared,
     /// A run of the load of this seed.
     Load(u64),
-    /// What is not built yet.
-    Later,
     /// Nothing that the program has.
     Unknown,
 }
@@ -50,10 +50,10 @@ fn one_word(word: &str) -> Task
 {
     if word == "run" {
         Task::Run
+    } else if word == "threads" {
+        Task::Threads
     } else if word == "shared" {
         Task::Shared
-    } else if word == "threads" {
-        Task::Later
     } else {
         Task::Unknown
     }

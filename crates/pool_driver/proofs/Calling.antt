@@ -11,7 +11,7 @@ use Rattle.pool_alloc.specs.Calls.{IsGrant, IsGrantOf, IfGranted, MayBegin, begu
 use Rattle.pool_alloc.specs.Leases.{Lease}
 use Rattle.pool_alloc.specs.PartyTold.{PartyTold}
 use Rattle.pool_alloc.specs.Places.{Counts, Thing, Weight, frame_count, frame_weight, of_counts, of_units, only, region_of, right_to}
-use Rattle.pool_alloc.specs.BetweenSteps.{IsFrame}
+use Rattle.pool_alloc.specs.BetweenSteps.{IsAtRest, IsFrame}
 use Rattle.pool_alloc.specs.SoundSteps.{IsSoundStep}
 use Rattle.pool_alloc.specs.Stepping.{count_granted, grant_count, grant_counted, grant_weight, is_idle}
 use Rattle.pool_alloc.specs.TableLeases.{LeasedTable}
@@ -46,6 +46,8 @@ use Rattle.pool_driver.specs.Refusing.{AnswersCall, IsCallFor, MayEnd}
 use Rattle.pool_driver.specs.Spending.{AnswerSpends, RefusalFewer}
 use Rattle.pool_driver.specs.Telling.{HoldsMore, AnswerTold}
 use Rattle.pool_driver.proofs.Adding.{adds_begin, components_step, from_asking, instances_step}
+use Rattle.pool_driver.proofs.Appending.{appended_last, appends_begin, appends_step}
+use Rattle.pool_driver.proofs.Erasing.{erased_begins, erased_last, erased_step}
 use Rattle.pool_driver.proofs.ColdPicks.{cold_begins, fewer_last, fewer_step, most_step, now_step}
 use Rattle.pool_driver.proofs.Driven.{stands_for}
 use Rattle.pool_driver.proofs.Holding.{holds_on, same_holds}
@@ -195,7 +197,11 @@ module _ {T P H : Type 0} (places : ℕ) (g : Given) (v : View T) (f : Frame P H
     stands = begins_on c refl;
   }
 
-  -- Its frame had no objects.
+  -- Its frame was at rest,
+  pub rested : IsAtRest f
+  rested = at_rest g.about.maker g.about.settings g.about.plan f driven.frame (idle_of g.about.maker g.about.settings g.about.plan c f may)
+
+  -- and had no objects.
   pub none_had : objects_in f.objects ≡ 0
   none_had = let rest = at_rest g.about.maker g.about.settings g.about.plan f driven.frame (idle_of g.about.maker g.about.settings g.about.plan c f may) in omega (arith, ap length rest.no_memories, ap length rest.no_tables)
 
@@ -337,8 +343,8 @@ answers_call s plan call.Release f (Refused e) kind may = may
 answers_call s plan call.Release f o kind may = absurd may
 
 -- A call that begins goes on since then.
-pub goes_begun : {T P H : Type 0} (a : About) (v : View T) (c : Call P H) (f : Frame P H) → v.limits ≡ counter_limits a.settings → GoesOnSince a v v (begun_call c f) (begun_call c f)
-goes_begun a v c f limits = record { busy = begun_busy c f; tells = tells_begin v a.plan c f; spends = spends_begin v a.plan (begun_call c f); cold = cold_begins a.plan v (begun_call c f); fewer = begun_named (RefusalFewer v v a.plan (begun_call c f).asked) c (stage_of (begun_call c f)) (begun_kind c f); parts = parts_begin a v c f (begun_kind c f); more = same_holds v v refl; limits = limits; portions = refl; home = refl; asked = refl; kind = inl refl; instances = adds_begin v _ _; components = adds_begin v _ _; stripe = refl; names = begun_named (Names a.settings a.plan (begun_call c f).stripe) c (stage_of (begun_call c f)) (begun_kind c f); sort = begun_sort c f; ends = λ o may. may }
+pub goes_begun : {T P H : Type 0} (a : About) (v : View T) (c : Call P H) (f : Frame P H) → v.limits ≡ counter_limits a.settings → IsAtRest f → GoesOnSince a v v (begun_call c f) (begun_call c f)
+goes_begun a v c f limits rests = record { busy = begun_busy c f; tells = tells_begin v a.plan c f; spends = spends_begin v a.plan (begun_call c f); cold = cold_begins a.plan v (begun_call c f); fewer = begun_named (RefusalFewer v v a.plan (begun_call c f).asked) c (stage_of (begun_call c f)) (begun_kind c f); appends = appends_begin a v c f rests (begun_kind c f); erased = erased_begins c f rests (begun_kind c f); parts = parts_begin a v c f (begun_kind c f); more = same_holds v v refl; limits = limits; portions = refl; home = refl; asked = refl; kind = inl refl; instances = adds_begin v _ _; components = adds_begin v _ _; stripe = refl; names = begun_named (Names a.settings a.plan (begun_call c f).stripe) c (stage_of (begun_call c f)) (begun_kind c f); sort = begun_sort c f; ends = λ o may. may }
 
 module _ {T P H : Type 0} (about : T → About) (inner : T → PoolPart P H) (Passes : List Exchange → Type 0) (old new : PartyTold) (a : About) (base v w : View T) (first f next : Frame P H) (o : Option (Outcome P H)) (goes : GoesOnSince a base v first f) (sees : SeesStep about inner Passes old new a v w f next o) (keeps : FrameKeeps f) where
   sound_here : IsSoundStep a.maker old new sees.core f (record { core = sees.left; frame = next; outcome = o })
@@ -410,6 +416,8 @@ module _ {T P H : Type 0} (about : T → About) (inner : T → PoolPart P H) (Pa
         spends = (spends_step about inner Passes old new a base v w f next o sees goes.spends).0;
         cold = λ kind. record { most = most_step about inner Passes old new a base v w first f next o goes sees kind; now = λ on. now_step about inner Passes old new a base v w first f next o goes sees (asks_before on) on kind };
         fewer = fewer_step about inner Passes old new a base v w first f next o goes sees none;
+        appends = appends_step about inner Passes old new a base v w first f next o sees goes;
+        erased = λ on. (erased_step about inner Passes old new a v w f next o sees (asks_before on) (goes.erased (asks_before on))).frame on;
         parts = parts_on about inner Passes old new a base v w f next o goes.more keeps sees goes.busy goes.parts becomes;
         more = more_here;
         limits = sees_limits about inner Passes old new a v w f next o sees ∙ goes.limits;
@@ -447,6 +455,8 @@ module _ {T P H : Type 0} (about : T → About) (inner : T → PoolPart P H) (Pa
         spends = subst (λ (z : Option (Outcome P H)). AnswerSpends base w a.plan first.asked z) some (subst (λ (z : Asked). AnswerSpends base w a.plan z o) goes.asked spends);
         cold = most_step about inner Passes old new a base v w first f next o goes sees;
         fewer = fewer_last about inner Passes old new a base v w first f next o goes sees answer some;
+        erased = erased_last about inner Passes old new a v w f next o sees answer some (kind_answers a.maker old new sees.core f (stage_of f) (stage_of next) answer (way_here (Some answer) some)) goes.erased;
+        appended = appended_last about inner Passes old new a base v w first f next o sees goes (idle_phase next.phase (sym ends_here ∙ ap (λ (z : Option (Outcome P H)). is_some z) some));
         parts = parts_last about inner Passes old new a base v w f next o goes.more keeps sees goes.busy goes.parts answer some (kind_answers a.maker old new sees.core f (stage_of f) (stage_of next) answer (way_here (Some answer) some));
         more = more_here;
         instances = instances_step about inner Passes old new a base v w first f next o goes sees;

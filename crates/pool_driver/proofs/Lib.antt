@@ -1,4 +1,5 @@
 pub mod Adding
+pub mod Appending
 pub mod Asking
 pub mod BesideRights
 pub mod Calling
@@ -11,6 +12,7 @@ pub mod Counted
 pub mod CountersDriven
 pub mod CountingSteps
 pub mod Driven
+pub mod Erasing
 pub mod Faulted
 pub mod FewParts
 pub mod Finding
@@ -37,6 +39,8 @@ pub mod OtherKinds
 pub mod OwnNumbers
 pub mod PageFaultRows
 pub mod PageFaults
+pub mod Paid
+pub mod PaidSums
 pub mod PartsTold
 pub mod Picking
 pub mod Purging

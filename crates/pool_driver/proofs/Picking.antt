@@ -56,17 +56,17 @@ granted_asks what granted n is = refl
 granted_asks what returned n is = absurd cc
 granted_asks what (refused x) n is = absurd cc
 
-never_back : {X : Type 0} (what : Asked) (e : Ending) (n : ℕ) → is_granting e ≡ false → kind_at (stage_by what e n) ≡ asks_for → X
+pub never_back : {X : Type 0} (what : Asked) (e : Ending) (n : ℕ) → is_granting e ≡ false → kind_at (stage_by what e n) ≡ asks_for → X
 never_back what granted n back is = absurd cc
 never_back what returned n back is = absurd cc
 never_back what (refused x) n back is = absurd cc
 
-never_counted_off : {X : Type 0} (e : Ending) → kind_at (stage_back e) ≡ asks_for → X
+pub never_counted_off : {X : Type 0} (e : Ending) → kind_at (stage_back e) ≡ asks_for → X
 never_counted_off granted is = absurd cc
 never_counted_off returned is = absurd cc
 never_counted_off (refused x) is = absurd cc
 
-never_release : {X P : Type 0} (step : ReleaseStep P) → kind_at (stage_of_release step) ≡ asks_for → X
+pub never_release : {X P : Type 0} (step : ReleaseStep P) → kind_at (stage_of_release step) ≡ asks_for → X
 never_release releasing_step.Reserve is = absurd cc
 never_release (releasing_step.TakeWarm r j) is = absurd cc
 never_release (releasing_step.TakeRegion r k) is = absurd cc

@@ -1,4 +1,4 @@
--- Only the take of a queue counts a take of it, and only a pick counts cold slots.
+-- Only the take of a queue counts a take of it, only a merge counts slots that are appended, and only a pick counts cold slots.
 use Rattle.std.proofs.Common.{◌≡◌, ℕ, ◌+◌, ◌<◌, ◌^◌, Bool, true, false, List, [], ◌∷◌, length, sym, refl, ap, subst, ◌∙◌, arith, ⊎_elim, Option, Some, None, option_map}
 use Rattle.std.specs.Prelude.{◌==◌, ◌%◌, if◌then◌else◌, slice_index}
 use Rattle.std.specs.Option.{option_map_or}
@@ -37,6 +37,7 @@ use Rattle.pool_alloc.specs.Targets.{next_target}
 use Rattle.pool_alloc.specs.declared.step.targets.Target.TheVariants.{Part}
 use Rattle.pool_alloc.proofs.PoolParts.{part_same, part_other, queue_part}
 use Rattle.pool_alloc.proofs.StepNeeds.{can_still}
+use Rattle.pool_driver.specs.Appending.{queue_appended}
 use Rattle.pool_driver.specs.Driving.{Change, changed, counted as counter_up, uncounted as counter_down, unchanged, view_after, IsChangeOf, SeesStep}
 use Rattle.pool_driver.specs.Placed.{About, IsSmall, part_counts, pool_meaning}
 use Rattle.pool_driver.specs.Telling.{NoneTaken, queue_takes}
@@ -61,6 +62,11 @@ module _ {P H : Type 0} where
   takes_queue TakeQueue = true
   takes_queue _ = false
 
+  -- The step of the phase appends to a queue.
+  abbrev pub appends_slots : Phase P H → Bool
+  appends_slots Merge = true
+  appends_slots _ = false
+
   -- The step of the phase picks a slot.
   abbrev pub picks_slot : Phase P H → Bool
   picks_slot (Pick tried) = true
@@ -71,14 +77,20 @@ module _ {P H : Type 0} where
   KeepsTakes (part.Queue q) (part.Queue r) = r.takes ≡ q.takes
   KeepsTakes _ _ = Unit {0}
 
+  -- As many slots were appended to a queue as before.
+  abbrev pub KeepsAppended : PoolPart P H → PoolPart P H → Type 0
+  KeepsAppended (part.Queue q) (part.Queue r) = r.appended ≡ q.appended
+  KeepsAppended _ _ = Unit {0}
+
   -- As many slots of a shard were used as before.
   abbrev pub KeepsCold : PoolPart P H → PoolPart P H → Type 0
   KeepsCold (part.Shard s) (part.Shard t) = t.cold ≡ s.cold
   KeepsCold _ _ = Unit {0}
 
-  -- Both, where the phase isn't one that changes it.
+  -- Each of these, where the phase isn't one that changes it.
   pub record Keeps (p : Phase P H) (x y : PoolPart P H) : Type 0 where
     pub takes : takes_queue p ≡ false → KeepsTakes x y
+    pub appended : appends_slots p ≡ false → KeepsAppended x y
     pub cold : picks_slot p ≡ false → KeepsCold x y
 
   same_takes : (x : PoolPart P H) → KeepsTakes x x
@@ -89,6 +101,14 @@ module _ {P H : Type 0} where
   same_takes (part.Queue q) = refl
   same_takes (part.Heaps heaps) = tt
 
+  same_appended : (x : PoolPart P H) → KeepsAppended x x
+  same_appended (part.Shard s) = tt
+  same_appended (part.Memory cell) = tt
+  same_appended (part.Table cell) = tt
+  same_appended (part.Stack cell) = tt
+  same_appended (part.Queue q) = refl
+  same_appended (part.Heaps heaps) = tt
+
   same_cold : (x : PoolPart P H) → KeepsCold x x
   same_cold (part.Shard s) = refl
   same_cold (part.Memory cell) = tt
@@ -98,41 +118,41 @@ module _ {P H : Type 0} where
   same_cold (part.Heaps heaps) = tt
 
   keeps_same : (p : Phase P H) (x : PoolPart P H) → Keeps p x x
-  keeps_same p x = record { takes = λ no. same_takes x; cold = λ no. same_cold x }
+  keeps_same p x = record { takes = λ no. same_takes x; appended = λ no. same_appended x; cold = λ no. same_cold x }
 
   to_shard : (p : Phase P H) (x : PoolPart P H) (t : ShardState) → (picks_slot p ≡ false → t.cold ≡ (shard_in x).cold) → Keeps p x (part.Shard t)
-  to_shard p (part.Shard s) t same = record { takes = λ no. tt; cold = same }
-  to_shard p (part.Memory cell) t same = record { takes = λ no. tt; cold = λ no. tt }
-  to_shard p (part.Table cell) t same = record { takes = λ no. tt; cold = λ no. tt }
-  to_shard p (part.Stack cell) t same = record { takes = λ no. tt; cold = λ no. tt }
-  to_shard p (part.Queue q) t same = record { takes = λ no. tt; cold = λ no. tt }
-  to_shard p (part.Heaps heaps) t same = record { takes = λ no. tt; cold = λ no. tt }
+  to_shard p (part.Shard s) t same = record { takes = λ no. tt; appended = λ no. tt; cold = same }
+  to_shard p (part.Memory cell) t same = record { takes = λ no. tt; appended = λ no. tt; cold = λ no. tt }
+  to_shard p (part.Table cell) t same = record { takes = λ no. tt; appended = λ no. tt; cold = λ no. tt }
+  to_shard p (part.Stack cell) t same = record { takes = λ no. tt; appended = λ no. tt; cold = λ no. tt }
+  to_shard p (part.Queue q) t same = record { takes = λ no. tt; appended = λ no. tt; cold = λ no. tt }
+  to_shard p (part.Heaps heaps) t same = record { takes = λ no. tt; appended = λ no. tt; cold = λ no. tt }
 
-  to_queue : (p : Phase P H) (x : PoolPart P H) (r : Queue) → (takes_queue p ≡ false → r.takes ≡ (queue_in x).takes) → Keeps p x (part.Queue r)
-  to_queue p (part.Shard s) r same = record { takes = λ no. tt; cold = λ no. tt }
-  to_queue p (part.Memory cell) r same = record { takes = λ no. tt; cold = λ no. tt }
-  to_queue p (part.Table cell) r same = record { takes = λ no. tt; cold = λ no. tt }
-  to_queue p (part.Stack cell) r same = record { takes = λ no. tt; cold = λ no. tt }
-  to_queue p (part.Queue q) r same = record { takes = same; cold = λ no. tt }
-  to_queue p (part.Heaps heaps) r same = record { takes = λ no. tt; cold = λ no. tt }
+  to_queue : (p : Phase P H) (x : PoolPart P H) (r : Queue) → (takes_queue p ≡ false → r.takes ≡ (queue_in x).takes) → (appends_slots p ≡ false → r.appended ≡ (queue_in x).appended) → Keeps p x (part.Queue r)
+  to_queue p (part.Shard s) r same more = record { takes = λ no. tt; appended = λ no. tt; cold = λ no. tt }
+  to_queue p (part.Memory cell) r same more = record { takes = λ no. tt; appended = λ no. tt; cold = λ no. tt }
+  to_queue p (part.Table cell) r same more = record { takes = λ no. tt; appended = λ no. tt; cold = λ no. tt }
+  to_queue p (part.Stack cell) r same more = record { takes = λ no. tt; appended = λ no. tt; cold = λ no. tt }
+  to_queue p (part.Queue q) r same more = record { takes = same; appended = more; cold = λ no. tt }
+  to_queue p (part.Heaps heaps) r same more = record { takes = λ no. tt; appended = λ no. tt; cold = λ no. tt }
 
   to_heaps : (p : Phase P H) (x : PoolPart P H) (heaps : List _) → Keeps p x (part.Heaps heaps)
-  to_heaps p (part.Shard s) heaps = record { takes = λ no. tt; cold = λ no. tt }
-  to_heaps p (part.Memory cell) heaps = record { takes = λ no. tt; cold = λ no. tt }
-  to_heaps p (part.Table cell) heaps = record { takes = λ no. tt; cold = λ no. tt }
-  to_heaps p (part.Stack cell) heaps = record { takes = λ no. tt; cold = λ no. tt }
-  to_heaps p (part.Queue q) heaps = record { takes = λ no. tt; cold = λ no. tt }
-  to_heaps p (part.Heaps old) heaps = record { takes = λ no. tt; cold = λ no. tt }
+  to_heaps p (part.Shard s) heaps = record { takes = λ no. tt; appended = λ no. tt; cold = λ no. tt }
+  to_heaps p (part.Memory cell) heaps = record { takes = λ no. tt; appended = λ no. tt; cold = λ no. tt }
+  to_heaps p (part.Table cell) heaps = record { takes = λ no. tt; appended = λ no. tt; cold = λ no. tt }
+  to_heaps p (part.Stack cell) heaps = record { takes = λ no. tt; appended = λ no. tt; cold = λ no. tt }
+  to_heaps p (part.Queue q) heaps = record { takes = λ no. tt; appended = λ no. tt; cold = λ no. tt }
+  to_heaps p (part.Heaps old) heaps = record { takes = λ no. tt; appended = λ no. tt; cold = λ no. tt }
 
   to_cell : (p : Phase P H) (x : PoolPart P H) (cell : CellState) → Keeps p x (part_holding cell x)
   to_cell p (part.Shard s) cell = keeps_same p (part.Shard s)
-  to_cell p (part.Memory old) cell = record { takes = λ no. tt; cold = λ no. tt }
-  to_cell p (part.Table old) cell = record { takes = λ no. tt; cold = λ no. tt }
-  to_cell p (part.Stack old) cell = record { takes = λ no. tt; cold = λ no. tt }
+  to_cell p (part.Memory old) cell = record { takes = λ no. tt; appended = λ no. tt; cold = λ no. tt }
+  to_cell p (part.Table old) cell = record { takes = λ no. tt; appended = λ no. tt; cold = λ no. tt }
+  to_cell p (part.Stack old) cell = record { takes = λ no. tt; appended = λ no. tt; cold = λ no. tt }
   to_cell p (part.Queue q) cell = keeps_same p (part.Queue q)
   to_cell p (part.Heaps heaps) cell = keeps_same p (part.Heaps heaps)
 
-  -- Each part of the pool keeps both.
+  -- Each part of the pool keeps these.
   abbrev pub AllKeep : Phase P H → PoolCore P H → PoolCore P H → Type 0
   AllKeep p c d = (q : ℕ) → q < length c.parts → Keeps p (part_at q c.parts) (part_at q d.parts)
 
@@ -151,8 +171,8 @@ module _ {P H : Type 0} where
   shard_keeps : (p : Phase P H) (place : ℕ) (t : ShardState) (c : PoolCore P H) → (picks_slot p ≡ false → t.cold ≡ (shard_at place c).cold) → AllKeep p c (with_shard place t c)
   shard_keeps p place t c same = put_keeps p place (part.Shard t) c (to_shard p (part_at place c.parts) t same)
 
-  queue_keeps : (p : Phase P H) (place : ℕ) (r : Queue) (c : PoolCore P H) → (takes_queue p ≡ false → r.takes ≡ (queue_at place c).takes) → AllKeep p c (with_queue place r c)
-  queue_keeps p place r c same = put_keeps p place (part.Queue r) c (to_queue p (part_at place c.parts) r same)
+  queue_keeps : (p : Phase P H) (place : ℕ) (r : Queue) (c : PoolCore P H) → (takes_queue p ≡ false → r.takes ≡ (queue_at place c).takes) → (appends_slots p ≡ false → r.appended ≡ (queue_at place c).appended) → AllKeep p c (with_queue place r c)
+  queue_keeps p place r c same more = put_keeps p place (part.Queue r) c (to_queue p (part_at place c.parts) r same more)
 
   cell_keeps : (p : Phase P H) (name : SlotName) (cell : CellState) (c : PoolCore P H) → AllKeep p c (with_cell name cell c)
   cell_keeps p name cell c = put_keeps p _ _ c (to_cell p _ cell)
@@ -181,7 +201,7 @@ module _ {P H : Type 0} where
   -- Row by row, of those that change a part.
   part_keeps : (g : StepGiven H) (p : Phase P H) (c : PoolCore P H) (f : Frame P H) (place : ℕ) → next_target c.settings c.plan p f ≡ Part place → AllKeep p c (row_of g p c (resting f)).part
   part_keeps g (Pick tried) c f place at = shard_keeps _ _ _ c (λ no. absurd cc)
-  part_keeps g TakeQueue c f place at = queue_keeps _ _ _ c (λ no. absurd cc)
+  part_keeps g TakeQueue c f place at = queue_keeps _ _ _ c (λ no. absurd cc) (λ no. refl)
   part_keeps g (TakeRegion name) c f place at = cell_keeps _ name _ c
   part_keeps g (TakeHeap name) c f place at = heaps_keep _ _ c
   part_keeps g (PutNoHeap taken) c f place at = heaps_keep _ _ c
@@ -189,7 +209,7 @@ module _ {P H : Type 0} where
   part_keeps g (FreeOne name) c f place at = shard_keeps _ _ _ c (λ no. refl)
   part_keeps g (PutHeap lease memory) c f place at = heaps_keep _ _ c
   part_keeps g (FreeHeap name memory) c f place at = shard_keeps _ _ _ c (λ no. refl)
-  part_keeps g Merge c f place at = queue_keeps _ _ _ c (λ no. merged_takes _ _ _)
+  part_keeps g Merge c f place at = queue_keeps _ _ _ c (λ no. merged_takes _ _ _) (λ no. absurd cc)
   part_keeps g Flush c f place at = flush_keeps (flush_step f.local f.freed.items) g.queue c (resting f)
   part_keeps g (Purge p (purging_step.Pick tried)) c f place at = affine_keeps (has_turns c.settings.max_memories_per_module c.plan) p tried c (resting f)
   part_keeps g (Purge p (purging_step.TakeRegion name)) c f place at = cell_keeps _ name _ c
@@ -237,8 +257,21 @@ module _ {P H : Type 0} where
   takes_rise (part.Queue q) (part.Stack cell) one two same small = absurd two
   takes_rise (part.Queue q) (part.Heaps heaps) one two same small = absurd two
 
+  pub appended_rises : (x y : PoolPart P H) → IsQueuePart x → IsQueuePart y → KeepsAppended x y → IsSmall x → rise (slice_index (part_counts x) queue_appended) (slice_index (part_counts y) queue_appended) ≡ 0
+  appended_rises (part.Queue q) (part.Queue r) one two same small = ap (λ (n : ℕ). rise q.appended n) same ∙ no_rise q.appended (small queue_appended)
+  appended_rises (part.Shard s) y one two same small = absurd one
+  appended_rises (part.Memory cell) y one two same small = absurd one
+  appended_rises (part.Table cell) y one two same small = absurd one
+  appended_rises (part.Stack cell) y one two same small = absurd one
+  appended_rises (part.Heaps heaps) y one two same small = absurd one
+  appended_rises (part.Queue q) (part.Shard s) one two same small = absurd two
+  appended_rises (part.Queue q) (part.Memory cell) one two same small = absurd two
+  appended_rises (part.Queue q) (part.Table cell) one two same small = absurd two
+  appended_rises (part.Queue q) (part.Stack cell) one two same small = absurd two
+  appended_rises (part.Queue q) (part.Heaps heaps) one two same small = absurd two
+
 module _ {T P H : Type 0} (about : T → About) (inner : T → PoolPart P H) (Passes : List Exchange → Type 0) (old new : PartyTold) (a : About) (v w : View T) (f next : Frame P H) (o : Option (Outcome P H)) (s : SeesStep about inner Passes old new a v w f next o) where
-  -- What was put keeps both counts, where the phase doesn't change them.
+  -- What was put keeps these counts, where the phase doesn't change them.
   pub put_keeps_both : (p : ℕ) (x y : T) → IsChangeOf about inner (changed p x y) (next_target a.settings a.plan f.phase f) s.core s.left → Keeps f.phase (inner x) (inner y)
   put_keeps_both p x y of =
       let left_is : s.left ≡ (row_of s.row.0 f.phase s.core (resting f)).part = ap (λ (z : After P H). z.core) s.row.1.0.is in
@@ -247,7 +280,7 @@ module _ {T P H : Type 0} (about : T → About) (inner : T → PoolPart P H) (Pa
       subst (Keeps f.phase (inner x)) is (subst (λ (z : PoolPart P H). Keeps f.phase z (part_at p s.left.parts)) of.2 here)
 
   -- what is put where a queue lay, or a shard, is one
-  queue_stays : (p : ℕ) (x y : T) → IsChangeOf about inner (changed p x y) (next_target a.settings a.plan f.phase f) s.core s.left → role_at s.core.plan p ≡ queue_role → IsQueuePart (inner x) × IsQueuePart (inner y)
+  pub queue_stays : (p : ℕ) (x y : T) → IsChangeOf about inner (changed p x y) (next_target a.settings a.plan f.phase f) s.core s.left → role_at s.core.plan p ≡ queue_role → IsQueuePart (inner x) × IsQueuePart (inner y)
   queue_stays p x y of role =
       let left_core = (can_still a.maker old new s.core f (record { core = s.left; frame = next; outcome = o }) s.can (s.row.0, s.row.1.0)).core in
       let plan : s.left.plan ≡ s.core.plan = ap (λ (d : PoolCore P H). d.plan) of.3 in

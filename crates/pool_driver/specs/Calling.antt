@@ -1,5 +1,5 @@
 -- A whole call over a hall: what it brings, what is so of it as it goes on, and how it ends.
-use Rattle.std.specs.Prelude.{◌≡◌, ◌⊎◌, ℕ, false, Option, Some, None}
+use Rattle.std.specs.Prelude.{◌≡◌, ◌⊎◌, ℕ, ◌+◌, ◌≤◌, false, Option, Some, None}
 use Rattle.pool_hall.specs.declared.unit_name.SlotKind.{SlotKind}
 use Rattle.pool_hall.specs.declared.view.View.{View}
 use Rattle.pool_alloc.specs.Calls.{IsGrantOf, IsIdle, IfGranted}
@@ -14,7 +14,9 @@ use Rattle.pool_alloc.specs.declared.frame.Grant.TheVariants.{Instance, Componen
 use Rattle.pool_alloc.specs.declared.frame.Outcome.{Outcome}
 use Rattle.pool_alloc.specs.declared.frame.Outcome.TheVariants.{Key, Granted, Returned, Purged, Released, Refused}
 use Rattle.pool_slots.specs.declared.plan.Plan.{Plan}
+use Rattle.pool_driver.specs.Appending.{IsForOne, NoneAppended, PutsOff, appended_in, each_one, frame_dues, owed_by}
 use Rattle.pool_driver.specs.Counts.{counter_limits}
+use Rattle.pool_driver.specs.Erasing.{FrameErased, GrantErased}
 use Rattle.pool_driver.specs.PartsTold.{PartsTell, PartsTellSoFar}
 use Rattle.pool_driver.specs.Placed.{About}
 use Rattle.pool_driver.specs.Refusing.{IsCallFor, MayEnd}
@@ -124,6 +126,17 @@ module _ {P H : Type 0} where
     pub most : ColdOf base v plan kind (objects_of (kind_at (stage_of first)) kind first.asked)
     pub now : kind_at (stage_of f) ≡ asks_for → ColdOf base v plan kind (slots_of kind f)
 
+  -- Where resets put off what they leave, a call that gives back has appended as many slots as it owed when it began, but for those that it
+  -- owes still. One for one object has appended none, and has nothing to give back.
+  pub record Appends {T : Type 0} (a : About) (base v : View T) (first f : Frame P H) : Type 0 where
+    pub back : kind_at (stage_of first) ≡ gives_back → PutsOff a.settings → appended_in a.plan base + frame_dues (owed_by a.settings) first ≤ appended_in a.plan v + frame_dues (owed_by a.settings) f
+    pub one : kind_at (stage_of first) ≡ asks_for → IsForOne first.asked → NoneAppended base v a.plan × (frame_dues each_one f ≡ 0)
+
+  -- The same of a call that has ended, which owes nothing any more.
+  pub record HasAppended {T : Type 0} (a : About) (base v : View T) (first : Frame P H) : Type 0 where
+    pub back : kind_at (stage_of first) ≡ gives_back → PutsOff a.settings → appended_in a.plan base + frame_dues (owed_by a.settings) first ≤ appended_in a.plan v
+    pub one : kind_at (stage_of first) ≡ asks_for → IsForOne first.asked → NoneAppended base v a.plan
+
   -- A call began with the first view and the first frame, and goes on. The second view tells what it must of the call so far, and of its
   -- parts, and how many cold slots it picked of each kind. A refusal with which it is to end names what it must. Its home, its stripe, what it
   -- asks for and its kind stay, it counted no more than it may, and it may end only as it might have from its beginning.
@@ -133,6 +146,8 @@ module _ {P H : Type 0} where
     pub spends : Spends base v a.plan f
     pub cold : (kind : SlotKind) → PicksCold a.plan base v first f kind
     pub fewer : IfRefusing (RefusalFewer base v a.plan first.asked) (stage_of f)
+    pub appends : Appends a base v first f
+    pub erased : kind_at (stage_of f) ≡ asks_for → FrameErased f
     pub parts : PartsTellSoFar a base v f
     pub more : HoldsMore base v
     pub limits : v.limits ≡ counter_limits a.settings
@@ -147,23 +162,26 @@ module _ {P H : Type 0} where
     pub sort : IsCallFor (stage_of f) f.asked
     pub ends : (o : Outcome P H) → MayEnd a.settings a.plan f.asked (stage_of f) o → MayEnd a.settings a.plan first.asked (stage_of first) o
 
-  -- Such a call has ended with this answer, which is one of its kind. A grant has what was asked for. It might end so from its beginning:
-  -- each refusal has a reason that what was asked for may have, and what is granted passed its test. A refusal for want of room or by a
-  -- counter names how many the pool may have, and one for want of a memory the frame's stripe; it has its reason in the second view, which
-  -- has forgotten nothing of the first, and tells what it must of the pool's parts. A give-back took no queue, and only a key changed the
-  -- stripe. A call for a stack picked one cold slot at most, and none where it wasn't granted. Of each kind a call picked no more cold slots
-  -- than it asks for, and fewer of the kind for which there was no room. One addition was made at most on the counter of instances, and only
-  -- by a call for a module; and one at most on that of components, and only by a call for a component.
+  -- Such a call has ended with this answer, which is one of its kind. A grant has what was asked for, and its memories' regions were erased no
+  -- more often than their units tell. It might end so from its beginning: each refusal has a reason that what was asked for may have, and
+  -- what is granted passed its test. A refusal for want of room or by a counter names how many the pool may have, and one for want of a
+  -- memory the frame's stripe; it has its reason in the second view, which has forgotten nothing of the first, and tells what it must of the
+  -- pool's parts. A give-back took no queue, and appended what it owed to them; a call for one object appended nothing. Only a key changed
+  -- the stripe. A call for a stack picked one cold slot at most, and none where it wasn't granted. Of each kind a call picked no more cold
+  -- slots than it asks for, and fewer of the kind for which there was no room. One addition was made at most on the counter of instances,
+  -- and only by a call for a module; and one at most on that of components, and only by a call for a component.
   pub record HasEnded {T : Type 0} (a : About) (base v : View T) (first f : Frame P H) (o : Outcome P H) : Type 0 where
     pub idle : IsIdle f
     pub kind : MayAnswer (kind_at (stage_of first)) o
     pub ends : MayEnd a.settings a.plan first.asked (stage_of first) o
     pub granted : IfGranted (IsGrantOf a.maker a.settings a.plan first.asked) (Some o)
+    pub erased : IfGranted GrantErased (Some o)
     pub names : IfRefused (Names a.settings a.plan f.stripe) o
     pub told : AnswerTold base v a.plan first.home (Some o)
     pub spends : AnswerSpends base v a.plan first.asked (Some o)
     pub cold : (kind : SlotKind) → ColdOf base v a.plan kind (objects_of (kind_at (stage_of first)) kind first.asked)
     pub fewer : IfRefused (RefusalFewer base v a.plan first.asked) o
+    pub appended : HasAppended a base v first
     pub parts : PartsTell a base v o
     pub more : HoldsMore base v
     pub instances : AddsAtMost base v instance_counter (instances_of (kind_at (stage_of first)) first.asked)

@@ -1,3 +1,4 @@
+pub mod Appending
 pub mod Asking
 pub mod Beside
 pub mod Calling
@@ -5,6 +6,7 @@ pub mod Carrying
 pub mod Counts
 pub mod Driving
 pub mod Ending
+pub mod Erasing
 pub mod Faults
 pub mod Growing
 pub mod Laws

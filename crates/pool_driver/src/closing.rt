@@ -1,7 +1,9 @@
 //! How a pool is closed whose parts lie in a hall.
 ghost use Rattle.std.specs.Prelude.{◌≡◌, ◌≤◌, [], length, map, vec_capacity};
+ghost use Rattle.std.specs.List.{AllByRecursion};
 ghost use Rattle.pool_hall.specs.Seat.{made_with, limits_of, view, IsSeatOf, IsFree};
 ghost use Rattle.pool_hall.specs.Tally.{all_portions};
+ghost use Rattle.pool_slots.specs.Listed.{PartFailsAsListed};
 ghost use Rattle.pool_alloc.specs.Closing.{AreAtHome, ArePartsOf};
 ghost use Rattle.pool_driver.specs.Counts.{counter_total, counts_in, IsEven};
 ghost use Rattle.pool_driver.specs.Ending.{HasNoted};
@@ -47,6 +49,7 @@ impl<P: Pages, H: GcHeap, M: PageMaker> OpenPool<P, H, M> {
         let mut seat = seat;
         let counters = counts_in(&hall, &mut seat);
         let list = without_origin(hall.close(seat), room);
+        failures_law(list.as_slice());
         let core = PoolCore {
             parts: Parts::new(list),
             counters,
@@ -92,4 +95,14 @@ fn without_origin<P: Pages, H: GcHeap, M>(
         list.push_reserved(part.part);
     }
     list
+}
+
+// What holds of each region in the parts, for the proof to cite: where it tells its plan, no more of its calls failed than that lists.
+// It does nothing.
+fn failures_law<P: Pages, H: GcHeap>(parts: &[PoolPart<P, H>])
+    ensures { AllByRecursion PartFailsAsListed parts.now }
+{
+    for part in parts {
+        part.failures_law();
+    }
 }

@@ -181,3 +181,7 @@ output_text input output = party_lines Pooling input 0 output.replies ++ metrics
 -- The text of a run on demand: a line for each reply.
 abbrev pub replies_text : Input → List (List Reply) → List ℕ
 replies_text input replies = party_lines OnDemand input 0 replies
+
+-- The text of a run with a thread for each party: a line for each reply, then the line that the pool was closed.
+abbrev pub threads_text : Input → List (List Reply) → List ℕ
+threads_text input replies = party_lines Pooling input 0 replies ++ codes "closed" ++ line_feed

@@ -1,9 +1,9 @@
 //! What programs over a pool read and write: JSON, lines of text, streams of bytes.
 //!
 //! `read_input` makes an `Input` of JSON, and `read_shared` a `SharedInput`; an `InputFault` says why a text is none.
-//! `output_text`, `load_text`, `replies_text` and `shared_text` make the text of what a run gave. `Source` and `Sink` are streams of
-//! bytes, which `read_all` and `write_all` use up: over standard input and output they are `ReaderSource` and
-//! `WriterSink`, and in memory `MemorySource` and `MemorySink`.
+//! `output_text`, `load_text`, `replies_text`, `threads_text` and `shared_text` make the text of what a run gave. `Source` and
+//! `Sink` are streams of bytes, which `read_all` and `write_all` use up: over standard input and output they are
+//! `ReaderSource` and `WriterSink`, and in memory `MemorySource` and `MemorySink`.
 //!
 //! It is ours and no port. It stands on `pool_run` and `pool_run_shared` for what is read and written, and on
 //! `serde_json` and `hex` of the toolchain. It runs nothing.
@@ -46,7 +46,7 @@ mod transfers;
 
 pub use json_input::{InputFault, read_input, read_shared};
 pub use memory_streams::{MemorySink, MemorySource};
-pub use print::{output_text, push_pool_reply, replies_text};
+pub use print::{output_text, push_pool_reply, replies_text, threads_text};
 pub use print_load::load_text;
 pub use print_shared::shared_text;
 pub use standard_streams::{ReaderSource, WriterSink};

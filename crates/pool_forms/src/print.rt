@@ -1,6 +1,6 @@
 ghost use Rattle.std.specs.Prelude.{◌≡◌, ◌++◌, Some, codes, IfOk, OnOk, option_map, string_bytes};
 ghost use Rattle.pool_types.specs.UnsupportedTexts.{whole_text};
-ghost use Rattle.pool_forms.specs.Output.{numbers_text, bytes_text, one_line, refusal_text, no_stacks_text, alloc_error_text, denied_text, trap_text, grown_text, cont_text, element_text, pool_reply_text, reply_text, module_of, module_asked, reply_line, reply_lines, party_lines, named, named_or_none, live_text, warm_text, metrics_line, pages_line, output_text, replies_text};
+ghost use Rattle.pool_forms.specs.Output.{numbers_text, bytes_text, one_line, refusal_text, no_stacks_text, alloc_error_text, denied_text, trap_text, grown_text, cont_text, element_text, pool_reply_text, reply_text, module_of, module_asked, reply_line, reply_lines, party_lines, named, named_or_none, live_text, warm_text, metrics_line, pages_line, output_text, replies_text, threads_text};
 
 use pool_alloc::{Element, Metrics};
 use pool_limits::Trap;
@@ -435,5 +435,19 @@ pub fn replies_text(
 {
     let mut out = String::new(alloc);
     push_party_lines(alloc, &mut out, Allocator::OnDemand, input, replies)?;
+    Ok(out)
+}
+
+/// The text of a run of this input with a thread for each party, whose pool was closed.
+pub fn threads_text(
+    alloc: Global,
+    input: &Input,
+    replies: &[ReplyList],
+) -> Result<String, AllocError>
+    ensures { IfOk result (λ text. string_bytes text ≡ threads_text input.now replies.now) }
+{
+    let mut out = String::new(alloc);
+    push_party_lines(alloc, &mut out, Allocator::Pooling, input, replies)?;
+    out.push_str("closed\n")?;
     Ok(out)
 }

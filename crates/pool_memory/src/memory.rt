@@ -104,8 +104,9 @@ impl<M, L: RuntimeLinearMemory<M>> Memory<M, L> {
     /// Grows the memory by so many of its own pages. Answers the old size in bytes, or None, where the memory's size and
     /// bytes are as before. By 0 pages nobody is asked. A size that the type forbids is only reported to the limiter;
     /// then the limiter is asked; then a size past the maximum, or past the capacity of a memory that isn't moved, and a
-    /// failure of the pages is reported to it. Its error is `LimiterFault`. The maker is called only where the memory
-    /// moves, and then for one region.
+    /// failure of the pages is reported to it. Its error is `LimiterFault`. Where there is no memory for a region that
+    /// moves, the answer is `GrowFault::Memory`, whatever the limiter makes of the report, and the memory is as before.
+    /// The maker is called only where the memory moves, and then for one region.
     pub fn grow<R: ResourceLimiter>(
         &mut self,
         maker: &mut M,

@@ -11,6 +11,7 @@ mod Imports
 pub mod Makings
 pub mod PartUnits
 pub mod ListUnits
+pub mod Listed
 pub mod Parts
 pub mod PartsMade
 pub mod PlainSlots

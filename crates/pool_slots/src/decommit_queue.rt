@@ -1,6 +1,7 @@
 ghost use Rattle.std.specs.Prelude.{◌≡◌, ◌+◌, ◌<◌, ◌≤◌, ◌==◌, ◌^◌, [], ◌∷◌, ◌++◌, length, ℕ, List, false, true, is_ok, is_some, IfOk, IfSome, OnOk, OnErr, option_map, slice_index_or};
 ghost use Rattle.std.specs.List.{HoldsAt, list_any};
 ghost use Rattle.pool_images.specs.declared.ranges.ByteRange.{ByteRange};
+ghost use Rattle.pool_slots.specs.Listed.{QueueFailsAsListed};
 ghost use Rattle.pool_slots.specs.SlotNames.{slot_kind};
 ghost use Rattle.pool_slots.specs.QueueMerges.{CanMerge, fills, merged, merged_local};
 ghost use Rattle.pool_slots.specs.SlotQueues.{Queued, Queue, empty_queue, drained, owner, holds, HasOwners, AreDistinct, AreApart, LeavesClean, IsGivenBack, IsReset, ForgetsNothing, with_range, with_ranges, with_slot, after_append, after_take, taken_into, IsSpareOf, after_run, after_run_of, IsFaulted, IsSettled, calls_held, first_slot, first_of_kind, others_of_kind, is_to_zero, first_zeroed};
@@ -183,6 +184,15 @@ impl<P: Pages> DecommitQueue<P> {
             calls = calls.plus(self.slots.get(at).page_calls());
         }
         calls
+    }
+
+    // What holds of the region of each slot. It does nothing.
+    pub(crate) fn failures_law(&self)
+        ensures { QueueFailsAsListed self.now }
+    {
+        for at in 0..self.slots.len() {
+            self.slots.get(at).failures_law();
+        }
     }
 
     /// Moves the other queue's ranges behind these, and its slots of each kind behind those of that kind. The other queue is

@@ -27,6 +27,7 @@ mod striped_plan;
 
 // The parts, and how they are made
 mod colouring;
+mod failures;
 mod part;
 mod part_maker;
 mod slot_regions;

@@ -1,6 +1,7 @@
 ghost use Rattle.std.specs.Prelude.{◌≡◌, ◌^◌, ◌<◌};
 ghost use Rattle.pool_slots.specs.Cells.{unmapped, taken, calls_in, IsCleanOnceUsed};
 ghost use Rattle.pool_slots.specs.CellOf.{cell_of};
+ghost use Rattle.pool_slots.specs.Listed.{CellFailsAsListed};
 ghost use Rattle.pool_slots.specs.RegionCells.{faults_in, erases_in, numbers_of, cell_numbers, cell_made, cell_emptied, cell_filled, IsAwaited, IsSoundCell};
 
 use crate::cells::ImageSlot;
@@ -107,6 +108,13 @@ impl<P: Pages> RegionCell<P> {
         ensures { result ≡ calls_in self.now.holds }
     {
         self.holds.page_calls()
+    }
+
+    // What holds of the region that lies in the cell. It does nothing.
+    pub(crate) fn failures_law(&self)
+        ensures { CellFailsAsListed self.now.holds }
+    {
+        self.holds.failures_law();
     }
 }
 

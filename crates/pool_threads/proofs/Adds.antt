@@ -1,8 +1,8 @@
 -- What a seat has noted of commands adds up, command by command.
-use Rattle.std.proofs.Common.{◌≡◌, ◌⊎◌, ⊎_elim, inl, inr, ℕ, ◌+◌, ◌<◌, ◌≤◌, Bool, true, false, refl, sym, ap, subst, ◌∙◌, arith, List, [], ◌∷◌}
+use Rattle.std.proofs.Common.{◌≡◌, ◌⊎◌, inl, inr, ℕ, ◌+◌, ◌≤◌, Bool, true, false, refl, ap, subst, ◌∙◌, arith, List, [], ◌∷◌}
 use Rattle.std.proofs.lemmas.Bool.{cases_lt, eqb-true}
 use Rattle.std.specs.Prelude.{if◌then◌else◌, ◌==◌, slice_index}
-use Rattle.pool_hall.specs.Sum.{often, total}
+use Rattle.pool_hall.specs.Sum.{total}
 use Rattle.pool_hall.specs.Tally.{counted, number, rise, rise_at}
 use Rattle.pool_hall.specs.declared.unit_name.SlotKind.{SlotKind}
 use Rattle.pool_hall.specs.declared.unit_name.SlotKind.TheVariants.{Memory as memory_kind}
@@ -15,7 +15,7 @@ use Rattle.pool_slots.specs.declared.plan.Plan.{Plan}
 use Rattle.pool_slots.specs.declared.slot_name.SlotName.{SlotName}
 use Rattle.pool_alloc.specs.StepReads.{allocator_of}
 use Rattle.pool_driver.specs.PageFaults.{CellFaulted, cell_faults}
-use Rattle.pool_driver.specs.Telling.{HasSoManyMore, component_counter, instance_counter, queue_takes}
+use Rattle.pool_driver.specs.Telling.{component_counter, instance_counter, queue_takes}
 use Rattle.pool_threads.specs.Asked.{Scarce, slots, instances, components}
 use Rattle.pool_threads.specs.Noted.{Grows, HasNotedCell, Notes, OverTimes, RoomTimes, fault_rise, faults_in, is_memory_cell, spent}
 

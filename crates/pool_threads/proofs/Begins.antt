@@ -1,5 +1,5 @@
 -- A party at work begins its next command.
-use Rattle.std.proofs.Common.{◌≡◌, ℕ, zero, suc, ◌+◌, ◌<◌, ◌≤◌, ◌++◌, ◌∷◌, [], Bool, true, false, not, List, length, Option, Some, None, refl, sym, ap, ◌∙◌, subst, inl, inr, arith, IfSome, true≢false, slice_get, slice_set, slice_index_or, sum_by}
+use Rattle.std.proofs.Common.{◌≡◌, ℕ, zero, suc, ◌<◌, ◌≤◌, ◌++◌, ◌∷◌, [], Bool, true, false, not, List, length, Option, Some, None, refl, sym, ap, ◌∙◌, subst, inl, inr, arith, IfSome, true≢false, slice_get, slice_set, slice_index_or, sum_by}
 use Rattle.pool_hall.specs.declared.view.View.{View}
 use Rattle.pool_slots.specs.declared.listed_heaps.PlainHeap.{PlainHeap}
 use Rattle.pool_alloc.specs.CallStages.{stage_at, stage_of}
@@ -18,6 +18,7 @@ use Rattle.pool_alloc.specs.declared.frame.Outcome.TheVariants as answer
 use Rattle.pool_alloc.specs.declared.frame.Phase.{Phase}
 use Rattle.pool_alloc.specs.declared.pool_core.PoolCore.{PoolCore}
 use Rattle.pool_alloc.specs.declared.pool_core.Settings.{Settings}
+use Rattle.pool_alloc.proofs.BegunFrames.{at_rest}
 use Rattle.pool_alloc.proofs.StripesKept.{begun_stripe}
 use Rattle.pool_slots.specs.declared.plan.Plan.{Plan}
 use Rattle.pool_table.specs.declared.gc_store.ListedStore.{ListedStore}
@@ -49,12 +50,16 @@ use Rattle.pool_run.proofs.Sounds.{IsSoundTurn}
 use Rattle.pool_run.proofs.Turned.{HasTurned, follows_sound, follows_turned}
 use Rattle.pool_run.proofs.Weighed.{held_units, held_counts}
 use Rattle.pool_threads.specs.Asked.{Scarce, asked_next, at_next, faulted_by, refused_by}
+use Rattle.pool_threads.specs.GrowthFaults.{AreGrowthsListed}
 use Rattle.pool_threads.specs.Noted.{call_asks}
 use Rattle.pool_threads.specs.Working.{IsAtWork, IsToldSoFar, Job, StaysSame, about_job, bare_pool, given_by}
 use Rattle.pool_threads.proofs.Begun.{begun_home, next_asks, next_call, next_quiet}
+use Rattle.pool_threads.proofs.GrowthsTold.{begun_growths, ended_growths}
 use Rattle.pool_threads.proofs.LiveFaults.{AllKeep, bytes_keep, kept_at, put_keeps, table_keep}
+use Rattle.pool_threads.proofs.LiveGrowths.{Loses}
 use Rattle.pool_threads.proofs.LiveNames.{KeepsNames, bytes_named, gone_named, more_named, table_named}
 use Rattle.pool_threads.proofs.LiveUnits.{live_beside, live_weigh}
+use Rattle.pool_threads.proofs.OpenGrowths.{NextCounts, next_counts}
 use Rattle.pool_threads.proofs.Regiven.{driven_over}
 use Rattle.pool_threads.proofs.TurnsAgain.{can_turn_again, counting_core}
 
@@ -191,6 +196,9 @@ module _ {T P : Type 0} (j : Job) (places : ℕ) (v : View T) where
       driven_so : DrivesOpening p o
       driven_so = next_driven p idle work modules (slice_get commands p.done) p.keyed o fit opens
 
+      counts_so : NextCounts j.world.maker (bare_pool j) p work.party.sound (slice_get commands p.done) o
+      counts_so = next_counts j.world.maker (bare_pool j) p work.party.sound modules (slice_get commands p.done) p.keyed o opens
+
       keyed_so : IsKeyed p o
       keyed_so = next_keyed j.world.maker c p undrawn (λ none. (fresh none, idle)) modules (slice_get commands p.done) p.keyed o refl opens
 
@@ -211,11 +219,12 @@ module _ {T P : Type 0} (j : Job) (places : ℕ) (v : View T) where
           keeps = driven.1;
         }
 
-    call_told : (before : List Reply) → IsToldSoFar j commands before p → (frame : Frame P PlainHeap) (live : List (Option (Grant P PlainHeap))) → IsStep j.world.maker c p frame live → KeepsNames p.live live → IsPrivate u (no_grants commands) commands before (record p { frame = frame; live = live }) → IsToldSoFar j commands before (record p { frame = frame; live = live })
-    call_told before told frame live step names seen = record {
+    call_told : (before : List Reply) → IsToldSoFar j commands before p → (frame : Frame P PlainHeap) (live : List (Option (Grant P PlainHeap))) → IsStep j.world.maker c p frame live → KeepsNames p.live live → Loses p.live live → IsPrivate u (no_grants commands) commands before (record p { frame = frame; live = live }) → IsToldSoFar j commands before (record p { frame = frame; live = live })
+    call_told before told frame live step names loses seen = record {
       room = step.room ∙ told.room;
       private = subst (λ (n : ℕ). IsPrivate (in_stripe n (under (host_of_party p) j.world)) (no_grants commands) commands before (record p { frame = frame; live = live })) (sym step.stripe) seen;
       named = names before told.named;
+      growths = subst (λ (n : ℕ). AreGrowthsListed (in_stripe n (under (host_of_party p) j.world)) commands before live) (sym step.stripe) (begun_growths u commands before p told.private told.growths live loses);
       fresh = told.fresh;
     }
 
@@ -248,13 +257,13 @@ module _ {T P : Type 0} (j : Job) (places : ℕ) (v : View T) where
         let step = opened_so (makes_step frame live) opens in
         subst HasBegun (sym begins.0) (record {
           at_work = call_at_work frame live step (driven_so (makes_step frame live) opens);
-          told = λ before told. call_told before told frame live step (driven_so (makes_step frame live) opens).2 (seen_so (makes_step frame live) opens before told);
+          told = λ before told. call_told before told frame live step (driven_so (makes_step frame live) opens).2 (counts_so (makes_step frame live) opens) (seen_so (makes_step frame live) opens before told);
           keyed = keyed_so (makes_step frame live) opens;
           same = refl;
           done = refl;
           stays = record { host = refl; stripe = λ drawn. ap (λ (f : Frame P PlainHeap). f.stripe) (begun opens).1 ∙ begun_stripe (begun opens).0 p.frame };
           home = ap (λ (f : Frame P PlainHeap). f.home) (begun opens).1 ∙ begun_home (begun opens).0 p.frame;
-          goes = λ limits. subst (λ (f : Frame P PlainHeap). GoesOnSince (about_job j) v v f f) (sym (begun opens).1) (goes_begun (about_job j) v (begun opens).0 p.frame limits);
+          goes = λ limits. subst (λ (f : Frame P PlainHeap). GoesOnSince (about_job j) v v f f) (sym (begun opens).1) (goes_begun (about_job j) v (begun opens).0 p.frame limits (at_rest j.world.maker j.settings j.plan p.frame work.driven.frame idle));
           asks = next_asks p modules (slice_get commands p.done) p.keyed (makes_step frame live) opens;
         })
       where
@@ -290,6 +299,7 @@ module _ {T P : Type 0} (j : Job) (places : ℕ) (v : View T) where
             room = is.room ∙ told.room;
             private = subst (λ (h : Host). IsPrivate (in_stripe p.frame.stripe (under h j.world)) (no_grants commands) commands (before ++ other ∷ []) t.party) (sym turned.host) (seen_so (replies other live store) opens before told);
             named = more_named before other live ((driven_so (replies other live store) opens).1 before told.named);
+            growths = subst (λ (h : Host). AreGrowthsListed (in_stripe p.frame.stripe (under h j.world)) commands (before ++ other ∷ []) live) (sym turned.host) (ended_growths u commands before p told.private told.growths live other (counts_so (replies other live store) opens).0 idle told.named (counts_so (replies other live store) opens).1 (counts_so (replies other live store) opens).2);
             fresh = λ none. absurd (true≢false (sym keyed ∙ none));
           };
           keyed = (keyed, keyed);

@@ -1,5 +1,5 @@
 -- A party's call, step by step: it goes on, or it ends and is answered.
-use Rattle.std.proofs.Common.{◌≡◌, ℕ, ◌+◌, ◌-◌, true, not, List, [], Option, Some, None, is_some, refl, sym, ap, ◌∙◌, subst, true≢false}
+use Rattle.std.proofs.Common.{◌≡◌, ℕ, ◌-◌, true, not, List, [], Option, Some, None, is_some, refl, sym, ap, ◌∙◌, subst, true≢false}
 use Rattle.pool_hall.specs.declared.view.View.{View}
 use Rattle.pool_slots.specs.declared.listed_heaps.ListedHeaps.{ListedHeaps}
 use Rattle.pool_slots.specs.declared.listed_heaps.PlainHeap.{PlainHeap}

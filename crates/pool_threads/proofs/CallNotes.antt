@@ -1,7 +1,6 @@
 -- What the seat of a party has noted of a call that has ended.
-use Rattle.std.proofs.Common.{◌≡◌, ◌⊎◌, inl, inr, ℕ, ◌+◌, ◌-◌, ◌≤◌, ◌<◌, Bool, true, false, refl, sym, ap, subst, ◌∙◌, arith, Option, Some, None}
+use Rattle.std.proofs.Common.{◌≡◌, ℕ, ◌+◌, ◌-◌, ◌≤◌, Bool, true, false, refl, sym, ap, subst, arith, Some}
 use Rattle.pool_hall.specs.Sum.{one_if}
-use Rattle.pool_hall.specs.Tally.{low_additions, number}
 use Rattle.pool_hall.specs.declared.unit_name.SlotKind.{SlotKind}
 use Rattle.pool_hall.specs.declared.unit_name.SlotKind.TheVariants.{Memory as memory_kind, Table as table_kind, Stack as stack_kind, Heap as heap_kind}
 use Rattle.pool_hall.specs.declared.view.View.{View}
@@ -11,7 +10,6 @@ use Rattle.pool_slots.specs.declared.errors.AllocError.TheVariants.{Memory as No
 use Rattle.pool_slots.specs.declared.errors.ConcurrencyKind.{ConcurrencyKind}
 use Rattle.pool_slots.specs.declared.errors.ConcurrencyKind.TheVariants.{CoreInstances, ComponentInstances, MemoryStripe, Tables, Fibers, GcHeaps}
 use Rattle.pool_slots.specs.declared.listed_heaps.PlainHeap.{PlainHeap}
-use Rattle.pool_slots.specs.declared.plan.Plan.{Plan}
 use Rattle.pool_alloc.specs.CallStages.{stage_of}
 use Rattle.pool_alloc.specs.declared.frame.Asked.{Asked}
 use Rattle.pool_alloc.specs.declared.frame.Frame.{Frame}
@@ -22,7 +20,7 @@ use Rattle.pool_alloc.specs.declared.pool_core.PoolCore.{PoolCore}
 use Rattle.pool_driver.specs.Calling.{CallKind, HasEnded, asks_for, asks_component, draws_key, gives_back, is_refused, kind_at, objects_of, purges, releases}
 use Rattle.pool_driver.specs.Limits.{IsOfStripe}
 use Rattle.pool_driver.specs.Placed.{About}
-use Rattle.pool_driver.specs.Spending.{FewerCold, LimitFewer, cold_in, wanted_of}
+use Rattle.pool_driver.specs.Spending.{FewerCold, LimitFewer, cold_in}
 use Rattle.pool_driver.specs.Telling.{LimitTold, RoomTold, WasOver, component_counter, instance_counter}
 use Rattle.pool_run.specs.Turns.{answered}
 use Rattle.pool_run.specs.declared.reply.Reply.TheVariants.{Refused as refuses}

@@ -1,5 +1,5 @@
 -- What all parties of a valid input rely on, for each of them.
-use Rattle.std.proofs.Common.{◌≡◌, ℕ, ◌<◌, ◌≤◌, ◌^◌, true, List, length, refl, arith, Some}
+use Rattle.std.proofs.Common.{◌≡◌, ℕ, ◌<◌, ◌≤◌, true, length, refl, arith}
 use Rattle.std.proofs.lemmas.Option.{slice_get-get_or}
 use Rattle.pool_run.specs.Validity.{is_valid, most_commands}
 use Rattle.pool_run.specs.Worlds.{NameModules}

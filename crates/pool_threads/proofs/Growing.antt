@@ -1,8 +1,7 @@
 -- A step of a call forgets nothing of what its seat has noted.
-use Rattle.std.proofs.Common.{◌≡◌, ℕ, ◌+◌, ◌≤◌, Bool, true, false, refl, sym, ap, subst, arith, List, ◌∷◌, Option}
+use Rattle.std.proofs.Common.{ℕ, ◌+◌, ◌≤◌, Bool, true, false, refl, sym, subst, arith, List, ◌∷◌, Option}
 use Rattle.std.specs.Prelude.{if◌then◌else◌, ◌==◌, nat_lt, slice_index}
 use Rattle.pool_limits.specs.Exchanges.{Exchange}
-use Rattle.pool_hall.specs.Step.{add_view, put_view}
 use Rattle.pool_hall.specs.Sum.{often, one_if, total}
 use Rattle.pool_hall.specs.declared.view.View.{View}
 use Rattle.pool_slots.specs.declared.part.PoolPart.{PoolPart}
@@ -10,7 +9,7 @@ use Rattle.pool_alloc.specs.PartyTold.{PartyTold}
 use Rattle.pool_alloc.specs.declared.frame.Frame.{Frame}
 use Rattle.pool_alloc.specs.declared.frame.Outcome.{Outcome}
 use Rattle.pool_driver.specs.Driving.{Change, changed, counted as counter_up, uncounted as counter_down, unchanged, SeesStep, counter_number, view_after}
-use Rattle.pool_driver.specs.Placed.{About, part_topped, pool_meaning}
+use Rattle.pool_driver.specs.Placed.{About, part_topped}
 use Rattle.pool_threads.specs.Noted.{Grows}
 use Rattle.pool_threads.proofs.Adds.{grows_still}
 

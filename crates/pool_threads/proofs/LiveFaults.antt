@@ -1,5 +1,5 @@
 -- A command on an object of a live grant takes no fault from its region's count.
-use Rattle.std.proofs.Common.{◌≡◌, ℕ, zero, suc, ◌+◌, ◌<◌, Bool, true, false, List, [], ◌∷◌, length, Option, Some, None, refl, sym, ap, ◌∙◌, subst, inl, inr, All, IfSome, option_map, replicate, slice_get, slice_set, slice_index_or, nat_le, if◌then◌else◌, ◌==◌}
+use Rattle.std.proofs.Common.{◌≡◌, ℕ, zero, suc, ◌+◌, Bool, true, false, List, [], ◌∷◌, length, Option, Some, None, refl, sym, ap, ◌∙◌, subst, inl, inr, All, IfSome, option_map, replicate, slice_get, slice_set, slice_index_or, nat_le, if◌then◌else◌, ◌==◌}
 use Rattle.std.proofs.lemmas.List.Elements.{All-set, All-get_or}
 use Rattle.std.specs.List.{AllByRecursion}
 use Rattle.pool_limits.specs.Growth.{GrowthRule}

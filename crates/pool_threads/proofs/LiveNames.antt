@@ -18,7 +18,7 @@ use Rattle.pool_table.specs.declared.gc_store.ListedStore.{ListedStore}
 use Rattle.pool_run.specs.Acts.{MemoryOp, TableOp, reads, writes, fills, grows, asks_size}
 use Rattle.pool_run.specs.Objects.{MovesObject}
 use Rattle.pool_run.specs.PartyRules.{rule_of}
-use Rattle.pool_run.specs.Turns.{LeaseMoves, MovesLeasedBytes, MovesTable, StackLeaseMoves, StackStateMoves, StackStateWrites, answered, granted_reply, leases_named, memory_leases, stack_leases, stack_of, table_leases, tables_named, with_lease, with_reply, with_stack_lease, with_table_lease}
+use Rattle.pool_run.specs.Turns.{LeaseMoves, MovesLeasedBytes, MovesTable, StackLeaseMoves, StackStateWrites, answered, granted_reply, leases_named, memory_leases, stack_leases, stack_of, table_leases, tables_named, with_lease, with_reply, with_stack_lease, with_table_lease}
 use Rattle.pool_run.specs.declared.reply.Reply.{Reply}
 use Rattle.pool_run.specs.declared.reply.Reply.TheVariants as reply
 use Rattle.pool_run.specs.declared.running_party.RunningParty.{RunningParty}

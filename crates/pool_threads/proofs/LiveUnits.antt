@@ -1,5 +1,5 @@
 -- The units of live grants weigh what the grants weigh, and each region stands beside the right to its slot.
-use Rattle.std.proofs.Common.{◌≡◌, ◌+◌, ◌<◌, List, [], ◌∷◌, Option, Some, None, refl, arith, sum_by}
+use Rattle.std.proofs.Common.{◌≡◌, List, [], ◌∷◌, Option, Some, None, refl, arith, sum_by}
 use Rattle.std.proofs.lemmas.List.Sums.{sum_by-cons}
 use Rattle.pool_hall.specs.Sum.{total}
 use Rattle.pool_hall.specs.Unit.{pick_of, Beside}

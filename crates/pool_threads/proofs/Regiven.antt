@@ -1,5 +1,5 @@
 -- What a seat has beside a call, told anew: another list of the same units; and what a call was granted, once it has ended.
-use Rattle.std.proofs.Common.{◌≡◌, ℕ, ◌+◌, ◌<◌, List, length, Option, Some, None, refl, sym, ap, ◌∙◌, subst, arith, sum_by, slice_set, slice_index_or}
+use Rattle.std.proofs.Common.{◌≡◌, ℕ, ◌+◌, ◌<◌, List, length, Option, Some, None, refl, sym, ap, subst, arith, sum_by, slice_set, slice_index_or}
 use Rattle.std.proofs.lemmas.List.Sums.{sum_by-set}
 use Rattle.pool_hall.specs.Sum.{total}
 use Rattle.pool_hall.specs.Unit.{Beside}

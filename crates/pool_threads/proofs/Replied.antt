@@ -1,7 +1,7 @@
 -- What commands and their replies come to, with one reply more.
-use Rattle.std.proofs.Common.{◌≡◌, ℕ, zero, suc, ◌+◌, ◌-◌, ◌≤◌, ◌++◌, ◌∷◌, [], List, length, Option, Some, None, refl, sym, ap, ◌∙◌, arith, slice_get}
+use Rattle.std.proofs.Common.{◌≡◌, ℕ, zero, suc, ◌+◌, ◌-◌, ◌≤◌, ◌++◌, ◌∷◌, [], List, length, refl, arith, slice_get}
 use Rattle.pool_alloc.specs.PlainModules.{ModuleAsked}
-use Rattle.pool_run.specs.Acts.{Act, requests, on_memory, on_table, drops, purges, releases, act_of}
+use Rattle.pool_run.specs.Acts.{Act, requests, on_memory, on_table, drops, purges, releases}
 use Rattle.pool_run.specs.declared.command.Command.{Command}
 use Rattle.pool_run.specs.declared.reply.Reply.{Reply}
 use Rattle.pool_threads.specs.Asked.{Scarce, asked_at, asked_by, at_next, faulted_by, faulted_for, over_replies, refused_by, refused_for}

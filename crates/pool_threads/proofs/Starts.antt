@@ -1,5 +1,5 @@
 -- A party as it is made, whose seat has nothing, may work.
-use Rattle.std.proofs.Common.{◌≡◌, ℕ, zero, suc, ◌+◌, ◌<◌, ◌≤◌, [], length, replicate, Option, Some, None, refl, sym, ◌∙◌, arith, subst, All, IfSome, slice_get, slice_index_or, List, true≢false}
+use Rattle.std.proofs.Common.{◌≡◌, ℕ, zero, suc, [], length, replicate, Option, Some, None, refl, sym, arith, subst, IfSome, slice_get, slice_index_or, List, true≢false}
 use Rattle.std.proofs.lemmas.List.{length-replicate}
 use Rattle.std.proofs.lemmas.List.Elements.{All-replicate}
 use Rattle.pool_hall.specs.declared.view.View.{View}
@@ -13,7 +13,6 @@ use Rattle.pool_driver.specs.Driving.{IsDriven, StandsOn, alone_of}
 use Rattle.pool_driver.specs.Faults.{GrantKeeps}
 use Rattle.pool_driver.specs.Pools.{core_of}
 use Rattle.pool_run.specs.Folds.{seen_by}
-use Rattle.pool_run.specs.PartyRules.{host_for}
 use Rattle.pool_run.specs.PrivateTables.{Host}
 use Rattle.pool_run.specs.Rooms.{IsPooledRun, in_stripe, under}
 use Rattle.pool_run.specs.RunsMade.{party_made_for}
@@ -25,7 +24,9 @@ use Rattle.pool_run.specs.declared.reply.Reply.{Reply}
 use Rattle.pool_run.specs.declared.running_party.RunningParty.{RunningParty}
 use Rattle.pool_run.proofs.Running.{party_over}
 use Rattle.pool_run.proofs.Started.{none_live, party_is_private, party_is_sound}
+use Rattle.pool_threads.specs.GrowthFaults.{AreGrowthsPlanned}
 use Rattle.pool_threads.specs.Working.{IsAtWork, IsToldSoFar, Job, about_job, bare_pool, given_by}
+use Rattle.pool_threads.proofs.GrowthRuns.{growths_planned}
 use Rattle.pool_threads.proofs.LiveUnits.{live_beside, live_weigh}
 use Rattle.pool_threads.proofs.Regiven.{driven_over}
 
@@ -65,6 +66,7 @@ module _ {T P : Type 0} (j : Job) (places : ℕ) (v : View T) (party : Party) wh
     room = length-replicate (length party.commands) None;
     private = party_is_private P (seen_by made j.world) party.commands party.home party.limits party.gc_faults party.heap_faults j.settings;
     named = λ i. subst (λ (o : Option (Grant P PlainHeap)). IfSome o (λ g. slice_get [] i ≡ Some (granted_reply g))) (sym (nothing_at (length party.commands) i)) tt;
+    growths = λ end run of k. tt;
     fresh = λ none. refl;
   }
 
@@ -81,3 +83,7 @@ module _ {T P : Type 0} (j : Job) (places : ℕ) (v : View T) (party : Party) wh
 -- What a party was told is a run of its commands, as its host and its stripe would have it.
 pub pooled_run : {P : Type 0} (j : Job) (commands : List Command) (replies : List Reply) (p : RunningParty P) (host : Host) → host_of_party p ≡ host → IsToldSoFar j commands replies p → IsPooledRun (in_stripe p.frame.stripe (under host j.world)) commands replies
 pooled_run j commands replies p host same told = subst (λ (h : Host). IsPooledRun (in_stripe p.frame.stripe (under h j.world)) commands replies) same (told.private.told, told.private.run)
+
+-- In each run that has these replies its growths that met a fault are no more than the plans list.
+pub planned_run : {P : Type 0} (j : Job) (commands : List Command) (replies : List Reply) (p : RunningParty P) (host : Host) → host_of_party p ≡ host → IsToldSoFar j commands replies p → AreGrowthsPlanned (in_stripe p.frame.stripe (under host j.world)) commands replies
+planned_run j commands replies p host same told = subst (λ (h : Host). AreGrowthsPlanned (in_stripe p.frame.stripe (under h j.world)) commands replies) same (growths_planned (seen_by p j.world) commands replies p.live told.growths)

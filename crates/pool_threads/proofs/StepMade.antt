@@ -1,5 +1,5 @@
 -- A step of a party's call, made over the hall: what is so of it, where the call's seat has what else the party has.
-use Rattle.std.proofs.Common.{◌≡◌, ℕ, ◌+◌, ◌-◌, ◌<◌, ◌≤◌, true, not, List, [], length, Option, Some, None, is_some, refl, sym, subst}
+use Rattle.std.proofs.Common.{◌≡◌, ℕ, ◌-◌, ◌<◌, ◌≤◌, true, not, [], length, Option, None, is_some, refl, sym, subst}
 use Rattle.pool_hall.specs.declared.view.View.{View}
 use Rattle.pool_slots.specs.declared.listed_heaps.ListedHeaps.{ListedHeaps}
 use Rattle.pool_slots.specs.declared.listed_heaps.PlainHeap.{PlainHeap}

@@ -1,5 +1,5 @@
 -- A step of a party's call, over a pool that others use at the same time.
-use Rattle.std.proofs.Common.{◌≡◌, ℕ, ◌+◌, ◌<◌, ◌≤◌, Bool, true, false, not, List, length, Option, Some, None, is_some, refl, sym, ap, ◌∙◌, subst, inl, inr, arith, All, IfSome, true≢false}
+use Rattle.std.proofs.Common.{◌≡◌, ℕ, ◌+◌, ◌<◌, ◌≤◌, Bool, true, false, not, List, [], ◌∷◌, length, Option, Some, None, is_some, refl, sym, ap, ◌∙◌, subst, inl, inr, arith, All, IfSome, true≢false}
 use Rattle.std.proofs.lemmas.List.Elements.{All-set}
 use Rattle.pool_hall.specs.Sum.{total}
 use Rattle.pool_hall.specs.declared.view.View.{View}
@@ -45,7 +45,10 @@ use Rattle.pool_run.proofs.Turned.{HasTurned, step_left, step_turned}
 use Rattle.pool_run.proofs.Turning.{HasItsOwn, SeesTurn, step_private}
 use Rattle.pool_run.proofs.TurnsMade.{steps_made}
 use Rattle.pool_run.proofs.Weighed.{held_units}
+use Rattle.pool_threads.specs.GrowthFaults.{AreGrowthsListed}
 use Rattle.pool_threads.specs.Working.{IsAtWork, IsJob, IsToldSoFar, Job, StaysSame, StepsHere, bare_pool, given_by}
+use Rattle.pool_threads.proofs.GrowthRuns.{none_told}
+use Rattle.pool_threads.proofs.GrowthsTold.{answered_growths}
 use Rattle.pool_threads.proofs.LiveNames.{answered_named}
 use Rattle.pool_threads.proofs.LiveUnits.{live_weigh}
 use Rattle.pool_threads.proofs.Regiven.{driven_answered}
@@ -54,6 +57,10 @@ use Rattle.pool_threads.proofs.Regiven.{driven_answered}
 had_drawn : (b : Bool) → not b ≡ false → b ≡ true
 had_drawn true is = refl
 had_drawn false is = absurd (true≢false is)
+
+no_replies : (replies : List Reply) → length replies ≡ 0 → replies ≡ []
+no_replies [] none = refl
+no_replies (r ∷ rs) none = absurd (omega (arith, none))
 
 module _ {P : Type 0} where
   -- an answer leaves frame and pool as the step left them
@@ -145,6 +152,15 @@ module _ {P : Type 0} where
           ] in
           subst (λ (host : Host). Is (By host)) (sym turned.host) now;
       named = answered_named o here.left (record p { frame = next; heaps = heaps }) replies told.private.count granted told.named;
+      growths =
+          let By : Host → World = λ host. in_stripe turn.party.frame.stripe (under host j.world) in
+          let Is : World → Type 0 = λ x. AreGrowthsListed x commands (with_reply turn.reply replies) turn.party.live in
+          let now : Is (By (host_of_party p)) =
+          elim stripes.stripe [
+            | inl same ↦ subst (λ (n : ℕ). Is (in_stripe n (under (host_of_party p) j.world))) (sym same) (answered_growths u commands replies p told.private told.growths o here.left next heaps on.staged)
+            | inr drew ↦ none_told (By (host_of_party p)) commands (with_reply turn.reply replies) turn.party.live (ap (λ (r : Option Reply). with_reply r replies) drew.silent ∙ no_replies replies (omega (arith, told.private.count, told.fresh drew.keyed)))
+          ] in
+          subst (λ (host : Host). Is (By host)) (sym turned.host) now;
       fresh = λ none. (stripes.fresh none).0;
     }
 

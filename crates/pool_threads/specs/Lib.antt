@@ -1,4 +1,5 @@
 pub mod Asked
+pub mod GrowthFaults
 pub mod Noted
 pub mod Sharing
 pub mod Working

@@ -1,5 +1,5 @@
 -- A party that works on a thread of its own, over a pool that others use at the same time: what its seat has, and what it was told.
-use Rattle.std.specs.Prelude.{◌≡◌, ℕ, ◌+◌, List, [], ◌∷◌, ◌++◌, length, sum_by, All, true, false, Option, Some, None, IfSome, slice_get, slice_index_or}
+use Rattle.std.specs.Prelude.{◌≡◌, ℕ, List, [], ◌∷◌, ◌++◌, length, sum_by, All, true, false, Option, Some, None, IfSome, slice_get, slice_index_or}
 use Rattle.pool_hall.specs.declared.unit_name.UnitName.{UnitName}
 use Rattle.pool_hall.specs.declared.view.View.{View}
 use Rattle.pool_slots.specs.declared.listed_heaps.ListedHeaps.{ListedHeaps}
@@ -29,6 +29,7 @@ use Rattle.pool_run.specs.Worlds.{IsWorldOf}
 use Rattle.pool_run.specs.declared.command.Command.{Command}
 use Rattle.pool_run.specs.declared.reply.Reply.{Reply}
 use Rattle.pool_run.specs.declared.running_party.RunningParty.{RunningParty}
+use Rattle.pool_threads.specs.GrowthFaults.{AreGrowthsListed}
 use Rattle.pool_threads.specs.Noted.{Grows}
 
 -- What all parties work on: the world of their run, and the settings and the plan of the pool.
@@ -108,10 +109,12 @@ module _ {P : Type 0} where
     pub host : host_of_party q ≡ host_of_party p
     pub stripe : p.keyed ≡ true → q.frame.stripe ≡ p.frame.stripe
 
-  -- What the party was told so far is a private run of its commands, and the replies name the slots of its live grants. Before it draws its
-  -- stripe it has done nothing.
+  -- What the party was told so far is a private run of its commands, and the replies name the slots of its live grants. In each run with these
+  -- replies the growths of a memory that met a fault are no more than the plan of its region lists. Before it draws its stripe it has done
+  -- nothing.
   pub record IsToldSoFar (j : Job) (commands : List Command) (replies : List Reply) (p : RunningParty P) : Type 0 where
     pub room : length p.live ≡ length commands
     pub private : IsPrivate (seen_by p j.world) (no_grants commands) commands replies p
     pub named : NamesLive replies p.live
+    pub growths : AreGrowthsListed (seen_by p j.world) commands replies p.live
     pub fresh : p.keyed ≡ false → p.done ≡ 0

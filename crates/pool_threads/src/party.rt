@@ -17,6 +17,7 @@ ghost use Rattle.pool_run.specs.Worlds.{AreCallsFor, NameModules};
 ghost use Rattle.pool_run.specs.declared.command.Command.{Command};
 ghost use Rattle.pool_run.specs.declared.reply.Reply.{Reply};
 ghost use Rattle.pool_threads.specs.Asked.{asked, asked_at, at_next, faulted, faulted_by, faulted_in, refused, refused_by, refused_in};
+ghost use Rattle.pool_threads.specs.GrowthFaults.{AreGrowthsPlanned};
 ghost use Rattle.pool_threads.specs.Noted.{Notes, call_asks};
 ghost use Rattle.pool_threads.specs.Sharing.{IsGround, NotesOf, job_of, party_in, party_world};
 ghost use Rattle.pool_threads.specs.Working.{Job, IsJob, IsAtWork, IsToldSoFar, CallOf, NamesLive, StandsSomewhere, StaysSame, StepsHere, TellsOn, about_job, given_by};
@@ -327,6 +328,7 @@ fn run_given<P: Pages, M: PageMaker, R: Wait, G: Gate>(
     ensures told { IfOk result (λ replies. IsPooledRun (in_stripe party.new.frame.stripe (under (host_for given.now) job.world)) given.now.commands replies) }
     ensures all { IfOk result (λ replies. length replies ≡ length given.now.commands) }
     ensures named { IfOk result (λ replies. NamesLive replies party.new.live) }
+    ensures growths { IfOk result (λ replies. AreGrowthsPlanned (in_stripe party.new.frame.stripe (under (host_for given.now) job.world)) given.now.commands replies) }
     ensures notes { IfOk result (λ replies. Notes job.plan given.now.home party.new.frame.stripe (λ k. asked k modules.now given.now.commands replies) (λ k. refused k given.now.commands replies) (faulted given.now.commands replies) (view seat.old) (view seat.new)) }
     ensures work { IfOk result (λ _. IsAtWork job (length (made_with pool.now.hall)) (view seat.new) party.new) }
     ensures idle { IfOk result (λ _. IsIdle party.new.frame) }
@@ -390,6 +392,7 @@ fn run_numbered<P: Pages, M: PageMaker, R: Wait, G: Gate>(
     ensures told { IfOk result (λ replies. IsPooledRun (party_world job (party_in input.now number) party.new.frame.stripe) (party_in input.now number).commands replies) }
     ensures all { IfOk result (λ replies. length replies ≡ length (party_in input.now number).commands) }
     ensures named { IfOk result (λ replies. NamesLive replies party.new.live) }
+    ensures growths { IfOk result (λ replies. AreGrowthsPlanned (party_world job (party_in input.now number) party.new.frame.stripe) (party_in input.now number).commands replies) }
     ensures notes { IfOk result (λ replies. NotesOf job.plan modules.now (party_in input.now number) party.new.frame.stripe replies (view seat.old) (view seat.new)) }
     ensures work { IfOk result (λ _. IsAtWork job (length (made_with pool.now.hall)) (view seat.new) party.new) }
     ensures idle { IfOk result (λ _. IsIdle party.new.frame) }
@@ -436,6 +439,7 @@ pub fn run_party<P: Pages, M: PageMaker, R: Wait, G: Gate>(
     ensures told { IfOk result (λ replies. IsPooledRun (party_world (job_of M.told input.now pool.now) (party_in input.now party) running.new.frame.stripe) (party_in input.now party).commands replies) }
     ensures all { IfOk result (λ replies. length replies ≡ length (party_in input.now party).commands) }
     ensures named { IfOk result (λ replies. NamesLive replies running.new.live) }
+    ensures growths { IfOk result (λ replies. AreGrowthsPlanned (party_world (job_of M.told input.now pool.now) (party_in input.now party) running.new.frame.stripe) (party_in input.now party).commands replies) }
     ensures notes { IfOk result (λ replies. NotesOf pool.now.plan modules.now (party_in input.now party) running.new.frame.stripe replies (view seat.old) (view seat.new)) }
     ensures work { IfOk result (λ _. IsAtWork (job_of M.told input.now pool.now) (length (made_with pool.now.hall)) (view seat.new) running.new) }
     ensures idle { IfOk result (λ _. IsIdle running.new.frame) }

@@ -1,4 +1,4 @@
-use Rattle.std.proofs.Common.{◌≡◌, ℕ, ◌+◌, ◌<◌, true, false, List, [], length, Option, Some, None, is_some, refl, rules, sym, ap, subst, ◌∙◌, arith, slice_get, true≢false}
+use Rattle.std.proofs.Common.{◌≡◌, ◌+◌, ◌<◌, true, false, length, Option, is_some, refl, rules, sym, ap, subst, ◌∙◌, arith, slice_get, true≢false}
 use Rattle.pool_hall.specs.Seat.{made_with, view, IsFree, IsSeatOf}
 use Rattle.pool_alloc.specs.Calls.{IsIdle}
 use Rattle.pool_driver.specs.Pools.{IsSharedOf}

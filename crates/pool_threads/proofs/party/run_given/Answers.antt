@@ -14,10 +14,11 @@ use Rattle.pool_run.specs.declared.reply.Reply.{Reply}
 use Rattle.pool_run.specs.declared.running_party.RunningParty.{RunningParty}
 use Rattle.pool_run.specs.declared.slot_lists.SlotLists.{SlotLists}
 use Rattle.pool_threads.specs.Asked.{asked, faulted, refused}
+use Rattle.pool_threads.specs.GrowthFaults.{AreGrowthsPlanned}
 use Rattle.pool_threads.specs.Noted.{Notes}
 use Rattle.pool_threads.specs.Working.{IsAtWork, IsJob, IsToldSoFar, NamesLive, about_job}
 use Rattle.pool_threads.proofs.Performs.{party_notes}
-use Rattle.pool_threads.proofs.Starts.{pooled_run, starts_idle, starts_reserved, starts_untold, starts_work}
+use Rattle.pool_threads.proofs.Starts.{planned_run, pooled_run, starts_idle, starts_reserved, starts_untold, starts_work}
 use Rattle.pool_threads.proofs.party.run_given.Goals as goal
 
 pub start-requires : goal.start-requires
@@ -89,6 +90,15 @@ returns-clause-told g c =
     subst (λ (xs : List Command). IsToldSoFar g.job xs c.perform.new.replies.items c.perform.new.party) c.as_slice-commands.ensures c.perform.ensures.told in
     subst (λ (rs : List Reply). IsPooledRun (in_stripe c.perform.new.party.frame.stripe (under (host_for c.args.given.now) g.job.world)) c.args.given.now.commands rs) (sym c.from_vec.ensures)
     (pooled_run g.job c.args.given.now.commands c.perform.new.replies.items c.perform.new.party (host_for c.args.given.now) host told)
+
+pub returns-clause-growths : goal.returns-clause-growths
+returns-clause-growths g c =
+    let made : c.args.party.now ≡ party_made_for g.job.settings c.args.given.now = search rules in
+    let host : host_of_party c.perform.new.party ≡ host_for c.args.given.now = c.perform.ensures.host ∙ c.start.ensures.host ∙ ap (λ (p : RunningParty g.row.P.Denot). host_of_party p) made in
+    let told : IsToldSoFar g.job c.args.given.now.commands c.perform.new.replies.items c.perform.new.party =
+    subst (λ (xs : List Command). IsToldSoFar g.job xs c.perform.new.replies.items c.perform.new.party) c.as_slice-commands.ensures c.perform.ensures.told in
+    subst (λ (rs : List Reply). AreGrowthsPlanned (in_stripe c.perform.new.party.frame.stripe (under (host_for c.args.given.now) g.job.world)) c.args.given.now.commands rs) (sym c.from_vec.ensures)
+    (planned_run g.job c.args.given.now.commands c.perform.new.replies.items c.perform.new.party (host_for c.args.given.now) host told)
 
 pub returns-clause-named : goal.returns-clause-named
 returns-clause-named g c =

@@ -8,6 +8,7 @@ use Rattle.pool_run.specs.RunsMade.{party_made_for}
 use Rattle.pool_run.specs.Validity.{is_valid}
 use Rattle.pool_run.specs.Worlds.{AreCallsFor, NameModules}
 use Rattle.pool_run.specs.declared.input.Party.{Party}
+use Rattle.pool_threads.specs.GrowthFaults.{AreGrowthsPlanned}
 use Rattle.pool_threads.specs.Sharing.{NotesOf, party_in, party_world}
 use Rattle.pool_threads.specs.Working.{IsJob, about_job}
 use Rattle.pool_threads.proofs.Grounds.{ground_few, ground_named}
@@ -64,6 +65,10 @@ returns-clause-told g c =
 pub returns-clause-all : goal.returns-clause-all
 returns-clause-all g c =
     subst (λ (q : Party). IfOk c.run_given.result (λ replies. length replies ≡ length q.commands)) c.party_at-given.ensures c.run_given.ensures.all
+
+pub returns-clause-growths : goal.returns-clause-growths
+returns-clause-growths g c =
+    subst (λ (q : Party). IfOk c.run_given.result (λ replies. AreGrowthsPlanned (party_world g.job q c.run_given.new.party.frame.stripe) q.commands replies)) c.party_at-given.ensures c.run_given.ensures.growths
 
 pub returns-clause-notes : goal.returns-clause-notes
 returns-clause-notes g c =

@@ -20,6 +20,10 @@ pub returns-clause-told : goal.returns-clause-told
 returns-clause-told g c =
     c.run_numbered.ensures.told
 
+pub returns-clause-growths : goal.returns-clause-growths
+returns-clause-growths g c =
+    c.run_numbered.ensures.growths
+
 pub returns-clause-notes : goal.returns-clause-notes
 returns-clause-notes g c =
     c.run_numbered.ensures.notes

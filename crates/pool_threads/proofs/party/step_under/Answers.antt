@@ -1,5 +1,5 @@
 use Rattle.std.proofs.Common.{◌≡◌, Option, Some, None, length, refl, rules, sym, ap, subst}
-use Rattle.pool_limits.specs.Growth.{GrowthLimits, GrowthRule, always, limited_by}
+use Rattle.pool_limits.specs.Growth.{GrowthLimits, always, limited_by}
 use Rattle.pool_driver.specs.Origins.{about_of, inner_of}
 use Rattle.pool_hall.specs.Seat.{made_with, view, IsFree, IsSeatOf}
 use Rattle.pool_driver.specs.Driving.{IsDriven}

@@ -11,7 +11,7 @@ use Rattle.pool_driver.specs.Driving.{IsDriven}
 use Rattle.pool_driver.specs.Pools.{IsSharedOf}
 use Rattle.pool_driver.specs.Refusing.{MayEnd}
 use Rattle.pool_driver.proofs.Asking.{asked_begun, call_asked}
-use Rattle.pool_driver.proofs.Calling.{answers_call, begun_kind, driven_begun, goes_begun, none_had}
+use Rattle.pool_driver.proofs.Calling.{answers_call, begun_kind, driven_begun, goes_begun, none_had, rested}
 use Rattle.pool_driver.proofs.calls.SharedPool+PoolHall+P+H+M.call.Goals as goal
 
 pub run-requires-send-L : goal.run-requires-send-L
@@ -23,7 +23,7 @@ run-requires-send-L g c κs within =
     let driven : IsDriven (length (made_with c.args.self.now.hall)) g.given (view c.args.seat.now) c.begin.new.self None =
     subst (λ (f : Frame g.row.P.Denot g.row.H.Denot). IsDriven (length (made_with c.args.self.now.hall)) g.given (view c.args.seat.now) f None) (sym c.begin.ensures.value) (driven_begun (length (made_with c.args.self.now.hall)) g.given (view c.args.seat.now) c.args.frame.now c.args.call had may) in
     let goes : GoesOnSince g.given.about (view c.args.seat.now) (view c.args.seat.now) c.begin.new.self c.begin.new.self =
-    subst (λ (f : Frame g.row.P.Denot g.row.H.Denot). GoesOnSince g.given.about (view c.args.seat.now) (view c.args.seat.now) f f) (sym c.begin.ensures.value) (goes_begun g.given.about (view c.args.seat.now) c.args.call c.args.frame.now (own.limits ∙ pool.hall.limits)) in
+    subst (λ (f : Frame g.row.P.Denot g.row.H.Denot). GoesOnSince g.given.about (view c.args.seat.now) (view c.args.seat.now) f f) (sym c.begin.ensures.value) (goes_begun g.given.about (view c.args.seat.now) c.args.call c.args.frame.now (own.limits ∙ pool.hall.limits) (rested (length (made_with c.args.self.now.hall)) g.given (view c.args.seat.now) c.args.frame.now c.args.call had may)) in
     let told : PartyTold = record { limiter = g.L.ResourceLimiter.told c.args.limiter.now; heaps = g.K.HeapMaker.told c.args.heaps.now } in
     let unasked : AskedSince g.L.ResourceLimiter.leads c.args.limiter.now c.args.limiter.now told told c.begin.new.self c.begin.new.self =
     subst (λ (f : Frame g.row.P.Denot g.row.H.Denot). AskedSince g.L.ResourceLimiter.leads c.args.limiter.now c.args.limiter.now told told f f) (sym c.begin.ensures.value) (asked_begun g.L.ResourceLimiter.leads c.args.limiter.now told c.args.call c.args.frame.now (none_had (length (made_with c.args.self.now.hall)) g.given (view c.args.seat.now) c.args.frame.now c.args.call had may)) in

@@ -1,4 +1,5 @@
-use Rattle.std.proofs.Common.{◌≡◌, map, subst, ap, sym, ◌∙◌, rules, Some}
+use Rattle.std.proofs.Common.{◌≡◌, List, map, subst, ap, sym, ◌∙◌, rules, Some}
+use Rattle.std.specs.List.{AllByRecursion}
 use Rattle.pool_hall.specs.Ending.{AllTold}
 use Rattle.pool_hall.specs.Seat.{made_with, limits_of, view}
 use Rattle.pool_hall.specs.declared.view.View.{View}
@@ -6,6 +7,8 @@ use Rattle.pool_alloc.specs.Calls.{lists_made}
 use Rattle.pool_alloc.specs.Closing.{ArePartsOf}
 use Rattle.pool_alloc.specs.declared.pool_core.PoolCore.{PoolCore}
 use Rattle.pool_alloc.specs.declared.pool_core.Settings.{Settings}
+use Rattle.pool_slots.specs.Listed.{PartFailsAsListed}
+use Rattle.pool_slots.specs.declared.part.PoolPart.{PoolPart}
 use Rattle.pool_slots.specs.declared.plan.Plan.{Plan}
 use Rattle.pool_driver.specs.Counts.{counts_in}
 use Rattle.pool_driver.specs.Origins.{about_of, inner_of}
@@ -37,9 +40,10 @@ pub returns-clause-noted : goal.returns-clause-noted
 returns-clause-noted g c =
     let pool = c.requires.1.1.1.1.0 in
     let self = c.args.self in
-    has_noted (about_of g.M.PageMaker.told) inner_of (made_with self.pool.hall) (limits_of self.pool.hall) c.close.result.items c.close.ensures.all c.close.ensures.stand (view self.seat)
+    has_noted (about_of g.M.PageMaker.told) inner_of (made_with self.pool.hall) (limits_of self.pool.hall) c.close.result.items c.close.ensures.all c.close.ensures.stand c.close.ensures.units
+    (subst (λ (xs : List (PoolPart g.row.P.Denot g.row.H.Denot)). AllByRecursion PartFailsAsListed xs) (c.as_slice.ensures.value ∙ c.without_origin-list.ensures) c.failures_law.ensures) (view self.seat)
     (subst (λ (v : View (HallPart g.row.P.Denot g.row.H.Denot g.row.M.Denot)). AllTold (pool_meaning (about_of g.M.PageMaker.told) inner_of) (limits_of self.pool.hall) v c.close.result.items) c.counts_in-counters.ensures.view c.close.ensures.told)
-    g.about pool.pool.hall.made pool.pool.hall.limits
+    g.about pool.pool.hall.made pool.pool.hall.pool pool.pool.hall.limits
 
 pub returns-clause-parts : goal.returns-clause-parts
 returns-clause-parts g c =

@@ -1,0 +1,16 @@
+pub mod AllListed
+pub mod Beside
+pub mod Driving
+pub mod FewFaults
+pub mod Grounding
+pub mod Joined
+pub mod JoinedAll
+pub mod JoinedOne
+pub mod JoinedViews
+pub mod Limits
+pub mod Numbered
+pub mod Refusals
+pub mod Sent
+pub mod Sides
+pub mod Sparing
+pub mod Told
