@@ -1,5 +1,5 @@
 -- What an allocator and its seats are, and what a call adds to a seat's view or takes from it.
-use Rattle.std.specs.Prelude.{◌≡◌, ℕ, ◌+◌, ◌-◌, ◌≤◌, false, List, [], length, Option, Some, None, Result, Ok, Err, vec_capacity}
+use Rattle.std.specs.Prelude.{◌≡◌, ℕ, ◌+◌, ◌-◌, ◌≤◌, ◌∷◌, ◌++◌, false, List, [], length, Option, Some, None, Result, Ok, Err, vec_capacity}
 use Rattle.pool_pages.specs.MakerTold.{MakerTold}
 use Rattle.pool_hall.specs.Seat.{made_with, view, IsSeatOf, IsFree}
 use Rattle.pool_hall.specs.Sum.{total}
@@ -34,7 +34,7 @@ use Rattle.pool_driver.specs.Placed.{About, about_by, about_made}
 use Rattle.pool_driver.specs.Pools.{IsSharedOf}
 use Rattle.pool_driver.specs.Limits.{Names}
 use Rattle.pool_driver.specs.Spending.{ColdOf, RefusalFewer}
-use Rattle.pool_driver.specs.Telling.{AddsAtMost, CountsSince, HoldsMore, RefusalTold, NoneTaken, WasOver, instance_counter, component_counter}
+use Rattle.pool_driver.specs.Telling.{AddsAtMost, HoldsMore, RefusalTold, NoneTaken, WasOver, instance_counter, component_counter}
 use Rattle.pool_driver.specs.UnknownPuts.{UnknownCaused, UnlessUnmade}
 use Rattle.pool_driver.specs.declared.open_pool.OpenPool.{OpenPool}
 use Rattle.pool_driver.specs.declared.part.HallPart.{HallPart}
@@ -82,18 +82,24 @@ module _ {T : Type 0} where
     pub units : (t : Thing) → total t w.units ≡ total t v.units
     pub counted : (k : Counter) → left_counted w k ≡ left_counted v k
 
+  -- What was added to counters from the first view to the second, of that what was low, and what was taken off: this, and nothing else.
+  pub record CountsJust (up under down : List ℕ) (v w : View T) : Type 0 where
+    pub added : w.added ≡ up ++ v.added
+    pub low : w.low ≡ under ++ v.low
+    pub subtracted : w.subtracted ≡ down ++ v.subtracted
+
   -- One more is counted: one addition, which was low.
   pub record IsCounted (k : Counter) (v w : View T) : Type 0 where
     pub units : w.units ≡ v.units
     pub counted : (j : Counter) → left_counted w j ≡ only k j + left_counted v j
-    pub since : CountsSince v w (counter_number (counter_of k)) 1 1 0
+    pub just : CountsJust (counter_number (counter_of k) ∷ []) (counter_number (counter_of k) ∷ []) [] v w
     pub goes : Goes v w
 
   -- One fewer is counted: one subtraction.
   pub record IsUncounted (k : Counter) (v w : View T) : Type 0 where
     pub units : w.units ≡ v.units
     pub counted : (j : Counter) → left_counted v j ≡ only k j + left_counted w j
-    pub since : CountsSince v w (counter_number (counter_of k)) 0 0 1
+    pub just : CountsJust [] [] (counter_number (counter_of k) ∷ []) v w
     pub goes : Goes v w
 
   module _ {P H : Type 0} where

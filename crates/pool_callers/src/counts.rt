@@ -1,13 +1,13 @@
 //! What is tested and counted without a slot: modules, memories and components by their rules, and instances by their counters.
-ghost use Rattle.std.specs.Prelude.{◌≡◌, ◌<◌, true, false, OnOk, IfErr};
+ghost use Rattle.std.specs.Prelude.{◌≡◌, ◌<◌, ◌∷◌, [], true, false, OnOk, IfErr};
 ghost use Rattle.pool_hall.specs.Seat.{view};
 ghost use Rattle.pool_alloc.specs.CanStep.{CanValidate};
 ghost use Rattle.pool_alloc.specs.Places.{counted_component, counted_instance};
 ghost use Rattle.pool_alloc.specs.Refusals.{component_refused, module_refused, type_refused};
 ghost use Rattle.pool_alloc.specs.Requests.{refused_by};
 ghost use Rattle.pool_alloc.specs.StepTable.{no_component_left, no_instance_left};
-ghost use Rattle.pool_driver.specs.Telling.{WasOver, component_counter, instance_counter};
-ghost use Rattle.pool_callers.specs.Callers.{IsAllocator, IsCaller, IsCounted, IsKept, IsUncounted, left_counted};
+ghost use Rattle.pool_driver.specs.Telling.{component_counter, instance_counter};
+ghost use Rattle.pool_callers.specs.Callers.{CountsJust, IsAllocator, IsCaller, IsCounted, IsKept, IsUncounted, left_counted};
 
 use crate::allocator::PoolingInstanceAllocator;
 use crate::seat::CallerSeat;
@@ -53,7 +53,7 @@ impl<P: Pages, H: GcHeap, M: PageMaker> PoolingInstanceAllocator<PoolHall<P, H, 
         ensures seat { IsCaller M.told self.now seat.new }
         ensures frame { seat.new.frame ≡ seat.old.frame }
         ensures counted { OnOk result (IsCounted counted_instance (view seat.old.seat) (view seat.new.seat)) }
-        ensures refused { IfErr result (λ e. (e ≡ no_instance_left self.now.pool.settings) × IsKept (view seat.old.seat) (view seat.new.seat) × WasOver (view seat.old.seat) (view seat.new.seat) instance_counter) }
+        ensures refused { IfErr result (λ e. (e ≡ no_instance_left self.now.pool.settings) × IsKept (view seat.old.seat) (view seat.new.seat) × CountsJust (instance_counter ∷ []) [] (instance_counter ∷ []) (view seat.old.seat) (view seat.new.seat)) }
         ensures parts { (view seat.new.seat).rises ≡ (view seat.old.seat).rises }
     {
         let limit = self.pool.settings.max_core_instances;
@@ -77,7 +77,7 @@ impl<P: Pages, H: GcHeap, M: PageMaker> PoolingInstanceAllocator<PoolHall<P, H, 
         ensures seat { IsCaller M.told self.now seat.new }
         ensures frame { seat.new.frame ≡ seat.old.frame }
         ensures counted { OnOk result (IsCounted counted_component (view seat.old.seat) (view seat.new.seat)) }
-        ensures refused { IfErr result (λ e. (e ≡ no_component_left self.now.pool.settings) × IsKept (view seat.old.seat) (view seat.new.seat) × WasOver (view seat.old.seat) (view seat.new.seat) component_counter) }
+        ensures refused { IfErr result (λ e. (e ≡ no_component_left self.now.pool.settings) × IsKept (view seat.old.seat) (view seat.new.seat) × CountsJust (component_counter ∷ []) [] (component_counter ∷ []) (view seat.old.seat) (view seat.new.seat)) }
         ensures parts { (view seat.new.seat).rises ≡ (view seat.old.seat).rises }
     {
         let limit = self.pool.settings.max_component_instances;
@@ -125,7 +125,7 @@ impl<P: Pages, H: GcHeap, M: PageMaker> PoolingInstanceAllocator<PoolHall<P, H, 
         ensures seat { IsCaller M.told self.now seat.new }
         ensures frame { seat.new.frame ≡ seat.old.frame }
         ensures counted { result ≡ true → IsCounted counted_instance (view seat.old.seat) (view seat.new.seat) }
-        ensures over { result ≡ false → IsKept (view seat.old.seat) (view seat.new.seat) × WasOver (view seat.old.seat) (view seat.new.seat) instance_counter }
+        ensures over { result ≡ false → IsKept (view seat.old.seat) (view seat.new.seat) × CountsJust (instance_counter ∷ []) [] (instance_counter ∷ []) (view seat.old.seat) (view seat.new.seat) }
         ensures parts { (view seat.new.seat).rises ≡ (view seat.old.seat).rises }
     {
         let found = self.pool.hall.add(&mut seat.seat, 1);
@@ -144,7 +144,7 @@ impl<P: Pages, H: GcHeap, M: PageMaker> PoolingInstanceAllocator<PoolHall<P, H, 
         ensures seat { IsCaller M.told self.now seat.new }
         ensures frame { seat.new.frame ≡ seat.old.frame }
         ensures counted { result ≡ true → IsCounted counted_component (view seat.old.seat) (view seat.new.seat) }
-        ensures over { result ≡ false → IsKept (view seat.old.seat) (view seat.new.seat) × WasOver (view seat.old.seat) (view seat.new.seat) component_counter }
+        ensures over { result ≡ false → IsKept (view seat.old.seat) (view seat.new.seat) × CountsJust (component_counter ∷ []) [] (component_counter ∷ []) (view seat.old.seat) (view seat.new.seat) }
         ensures parts { (view seat.new.seat).rises ≡ (view seat.old.seat).rises }
     {
         let number = self.pool.hall.add(&mut seat.seat, 2);

@@ -14,6 +14,7 @@ use Rattle.pool_run.specs.Validity.{is_valid}
 use Rattle.pool_run_shared.specs.Runs.{IsSharedRun, HasNoShared, with_page, broken_page}
 use Rattle.pool_run.specs.declared.input.Input.{Input}
 use Rattle.pool_run.specs.declared.output.RunOutput.{RunOutput}
+use Rattle.pool_run.specs.declared.reply.Reply.{Reply}
 use Rattle.pool_run_shared.specs.declared.input.SharedInput.{SharedInput}
 use Rattle.pool_run_shared.specs.declared.reply.SharedReply.{SharedReply}
 use Rattle.pool_workers.specs.Threads.{HaveRunBeside, IsUnlisted}
@@ -79,13 +80,13 @@ pub record HasRunOnDemand (text : List ℕ) (source_old source_new : SourceTold)
 -- none that is listed was needed. The text is that of the replies, and then the line that the pool was closed.
 pub record HasRunThreads (text : List ℕ) (source_old source_new : SourceTold) (maker_old maker_new : MakerTold) : Type 0 where
   pub input : Input
-  pub output : RunOutput
+  pub replies : List (List Reply)
   pub read : HasRead run_format (accepted input) source_old source_new
   pub limits : broken_rule input ≡ None
-  pub run : HaveRunBeside input (with_faults input maker_old) output.replies
+  pub run : HaveRunBeside input (with_faults input maker_old) replies
   pub unlisted : IsUnlisted input (with_faults input maker_old)
   pub makings : maker_new.faults ≡ maker_old.faults
-  pub text_is : text ≡ threads_text input output.replies
+  pub text_is : text ≡ threads_text input replies
 
 -- The same of a run of events on a shared memory: the text is that of the replies to them.
 pub record HasRunShared (text : List ℕ) (source_old source_new : SourceTold) (maker_old : MakerTold) : Type 0 where

@@ -1,4 +1,4 @@
--- How many growths of a memory met a fault in a party's run, and that they are no more than the plan of the memory's region lists.
+-- How many growths of a memory met a fault in a party's run, and how many may by the plan of the memory's region.
 use Rattle.std.specs.Prelude.{◌≡◌, ℕ, ◌+◌, ◌-◌, ◌^◌, ◌≤◌, ◌==◌, ◌&&◌, ◌⊎◌, List, [], ◌∷◌, min, slice_get, Bool, true, false, not, if◌then◌else◌, Option, Some, None, IfSome, option_map}
 use Rattle.std.specs.List.{list_any}
 use Rattle.std.specs.Option.{option_and_then, option_map_or}
@@ -83,7 +83,8 @@ ForEachMemory w commands replies Holds =
     (end : PrivateState) (run : StepsBy (PooledStep w) 0 commands replies (with_grants (no_grants commands)) end) (of k : ℕ)
     → IfSome (slot_named of k replies) (λ slot. IfSome (plan_for (memory_region slot) w.maker) (λ plan. Holds of k plan (growths_met w of k 0 commands replies (with_grants (no_grants commands)) end run)))
 
--- The growths of a memory that met a fault are no more than the calls that the plan of its region lists.
+-- The growths of a memory that met a fault are no more than the different calls that the plan of its region lists, unless it lists the last
+-- number of a count of calls.
 abbrev pub AreGrowthsPlanned : World → List Command → List Reply → Type 0
 AreGrowthsPlanned w commands replies = ForEachMemory w commands replies (λ of k plan met. AreAtMost (calls_listed plan) plan met)
 

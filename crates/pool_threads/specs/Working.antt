@@ -110,7 +110,7 @@ module _ {P : Type 0} where
     pub stripe : p.keyed ≡ true → q.frame.stripe ≡ p.frame.stripe
 
   -- What the party was told so far is a private run of its commands, and the replies name the slots of its live grants. In each run with these
-  -- replies the growths of a memory that met a fault are no more than the plan of its region lists. Before it draws its stripe it has done
+  -- replies the growths of a memory that met a fault are no more than the plan of its region allows. Before it draws its stripe it has done
   -- nothing.
   pub record IsToldSoFar (j : Job) (commands : List Command) (replies : List Reply) (p : RunningParty P) : Type 0 where
     pub room : length p.live ≡ length commands

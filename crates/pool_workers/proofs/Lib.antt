@@ -9,6 +9,7 @@ pub mod JoinedOne
 pub mod JoinedViews
 pub mod Limits
 pub mod Numbered
+pub mod Padded
 pub mod Refusals
 pub mod Sent
 pub mod Sides

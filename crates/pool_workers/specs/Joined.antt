@@ -58,7 +58,7 @@ abbrev pub shared_by : Input → List ModuleAsked → Shared
 shared_by input modules = record { input = input; modules = modules }
 
 module _ {P M T : Type 0} (told : M → MakerTold) (all : Shared) (pool : SharedPool (Hall (HallPart P PlainHeap M))) where
-  -- A party was told a private run of all its commands, in which growths met no more faults than are planned. Where it was refused for want of a slot, each shard where it searched is noted as
+  -- A party was told a private run of all its commands, in which growths met no more faults than plans allow. Where it was refused for want of a slot, each shard where it searched is noted as
   -- topped; where it was refused by a counter, some addition on that counter wasn't low.
   pub record HasRun (v : View T) (i : ℕ) (replies : List Reply) : Type 0 where
     pub stripe : ℕ

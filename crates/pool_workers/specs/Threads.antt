@@ -16,8 +16,8 @@ use Rattle.pool_workers.specs.Joined.{asked_by_all, faulted_of_all, limit_of}
 use Rattle.pool_workers.specs.Listed.{ArePlanned, listed_on}
 
 -- A party was told a private run of all its commands, in a stripe that there is. The growths of a memory that met a fault are no more than the
--- calls that the plan of its slot's region lists. A request of its was refused for want of something only
--- where all parties together ask for at least as much as there is, for memories in its stripe.
+-- plan of its slot's region allows. A request of its was refused for want of something only where all parties together ask for at least as much
+-- as there is, for memories in its stripe.
 pub record HasRunBeside (input : Input) (maker : MakerTold) (output : List (List Reply)) (i : ℕ) : Type 0 where
   pub stripe : ℕ
   pub inside : stripe < (shared_world input maker).terms.settings.num_stripes
@@ -26,8 +26,8 @@ pub record HasRunBeside (input : Input) (maker : MakerTold) (output : List (List
   pub growths : AreGrowthsPlanned (world_at (shared_world input maker) i stripe) (party_in input i).commands (replies_to i output)
   pub refused_asked : (k : Scarce) → 0 < refused k (party_in input i).commands (replies_to i output) → limit_of (world_at (shared_world input maker) i stripe).terms k ≤ asked_by_all k (calls_made input.tunables maker.page 0 input.modules) input.parties output
 
--- So it is of each party of the input. All requests together that are refused for a failed page call are at most as many as the calls that
--- the maker's plans list on the regions of memory slots.
+-- So it is of each party of the input. Where the plans of all memory slots' regions are told, and none lists the last number of a count of
+-- calls, all requests together that are refused for a failed page call are at most as many as the calls that these plans list.
 pub record HaveRunBeside (input : Input) (maker : MakerTold) (output : List (List Reply)) : Type 0 where
   pub count : length output ≡ length input.parties
   pub each : (i : ℕ) → i < length input.parties → HasRunBeside input maker output i

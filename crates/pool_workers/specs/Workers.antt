@@ -40,7 +40,7 @@ module _ {P M : Type 0} (told : M → MakerTold) (input : Input) where
     pub nothing : IsDriven (length (made_with pool.hall)) (alone_of (about_shared told pool)) (view w.seat) w.party.frame None
     pub untold : w.replies ≡ None
 
-  -- It was told a private run of its party's commands, whatever others did meanwhile, in which growths met no more faults than are planned,
+  -- It was told a private run of its party's commands, whatever others did meanwhile, in which growths met no more faults than plans allow,
   -- and its seat has noted of that what it must. The seat
   -- has what the party's live grants are of, and no call is under way.
   pub record HasWorked (modules : List ModuleAsked) (pool : SharedPool (Hall (HallPart P PlainHeap M))) (w : Worker (HallSeat (HallPart P PlainHeap M)) P) (replies : List Reply) : Type 0 where

@@ -5,11 +5,12 @@
 
 mod jobs;
 mod joins;
+mod padding;
 mod threads;
 mod worker;
 mod workers;
 
-pub use threads::{run_threads, run_threads_with};
+pub use threads::{run_over, run_threads, run_threads_with};
 pub use worker::Worker;
 
 #[cfg(test)]

@@ -22,6 +22,7 @@ ghost use Rattle.pool_workers.specs.Threads.{HasNoNumbers, HaveRunBeside, IsUnli
 ghost use Rattle.pool_workers.specs.Workers.{AreBack, AreReady, DrivesWorkers};
 
 use crate::joins::join_all;
+use crate::padding::{pad, unpad};
 use crate::worker::Worker;
 use crate::workers::{make_workers, work};
 use pool_alloc::{Metrics, ModuleCall, Parts};
@@ -31,11 +32,11 @@ use pool_run::{Input, ReplyList, RunFault, RunOutput, is_valid, make_calls, make
 use pool_slots::PlainHeap;
 use pool_threads::{Gate, OpenGate};
 use pool_types::{PageSize, PlainList};
-use std::alloc::Global;
+use std::alloc::{AllocError, Global};
 use std::sync::Wait;
 use std::thread::Threads;
 
-// The workers of a list make their parties' commands.
+// The workers of a list make their parties' commands, each on cache lines of its own. Memory for that is asked for before the threads start.
 fn work_list<
     P: Pages + Send,
     M: PageMaker<Region = P> + Send,
@@ -49,22 +50,16 @@ fn work_list<
     modules: &[ModuleCall],
     workers: Vec<Worker<PoolSeat<P, PlainHeap, M>, P>>,
     gate: &G,
-) -> Vec<Worker<PoolSeat<P, PlainHeap, M>, P>>
+) -> Result<Vec<Worker<PoolSeat<P, PlainHeap, M>, P>>, AllocError>
     requires ground { IsGround M.told input.now modules.now pool.now }
     requires ready { AreReady M.told input.now pool.now workers.items }
-    ensures back { AreBack M.told input.now modules.now pool.now result.items }
+    ensures back { IfOk result (λ v. AreBack M.told input.now modules.now pool.now v.items) }
 {
-    let mut workers = workers;
-    work(
-        rt,
-        alloc,
-        pool,
-        input,
-        modules,
-        workers.as_mut_slice(),
-        gate,
-    );
-    workers
+    let mut back = Vec::with_capacity(alloc, workers.len())?;
+    let mut padded = pad(alloc, workers)?;
+    work(rt, alloc, pool, input, modules, padded.as_mut_slice(), gate);
+    unpad(padded, &mut back);
+    Ok(back)
 }
 
 // All parties make their commands side by side, by seats that are cut off from this one and joined to it again; then what is live is given back.
@@ -103,7 +98,9 @@ fn side_by_side<
     let Ok(mut replies) = Vec::with_capacity(alloc, count) else {
         return Err(RunFault::Memory);
     };
-    let workers = work_list(rt, alloc, pool, input, modules, workers, gate);
+    let Ok(workers) = work_list(rt, alloc, pool, input, modules, workers, gate) else {
+        return Err(RunFault::Memory);
+    };
     let done = join_all(rt, alloc, pool, seat, workers, &mut replies);
     if !done {
         return Err(RunFault::Memory);
@@ -137,9 +134,10 @@ fn output_of(replies: Vec<ReplyList>) -> RunOutput
     }
 }
 
-// The parties make their commands over a pool that is open, and the pool is closed. Answers the output, and what the pool was made of: every
-// slot is free, and each region at home.
-fn run_over<
+/// The parties make their commands over a pool that is open and was made for their input, and the pool is closed. Answers the output, and what
+/// the pool was made of: every slot is free, each region at home, each queue empty. Takes memory for workers and replies before the first
+/// command; for want of it, or of memory for one party's replies, the pool is dropped as it is.
+pub fn run_over<
     P: Pages + Send,
     M: PageMaker<Region = P> + Send,
     R: Threads + Wait + Sync,

@@ -1,5 +1,7 @@
 //! Workers: the parties of an input, each with a seat of its own, and how they make their commands side by side.
 ghost use Rattle.std.specs.Prelude.{◌≡◌, ℕ, ◌+◌, ◌<◌, ◌≤◌, All, length, slice_index_or, true, IfOk, OnOk};
+ghost use Rattle.crossbeam_utils.specs.Padded.{padded_value};
+ghost use Rattle.crossbeam_utils.specs.declared.cache_padded.CachePadded.{CachePadded};
 ghost use Rattle.pool_hall.specs.Seat.{view, IsSeatOf, IsFree};
 ghost use Rattle.pool_hall.specs.Step.{left_with};
 ghost use Rattle.pool_hall.specs.declared.hall.HallSeat.{HallSeat};
@@ -12,6 +14,7 @@ ghost use Rattle.pool_workers.specs.Workers.{AreReady, DrivesWorkers, IsBack, Is
 
 use crate::jobs::{Job, all_at_once};
 use crate::worker::Worker;
+use crossbeam_utils::CachePadded;
 use pool_alloc::ModuleCall;
 use pool_driver::{PoolHall, PoolSeat, SharedPool};
 use pool_pages::{PageMaker, Pages};
@@ -156,14 +159,14 @@ pub(crate) fn work<
     pool: &SharedPool<PoolHall<P, PlainHeap, M>>,
     input: &Input,
     modules: &[ModuleCall],
-    workers: &mut [Worker<PoolSeat<P, PlainHeap, M>, P>],
+    workers: &mut [CachePadded<Worker<PoolSeat<P, PlainHeap, M>, P>>],
     gate: &G,
 )
     requires ground { IsGround M.told input.now modules.now pool.now }
-    requires ready { All (IsReady M.told input.now pool.now) workers.old }
+    requires ready { All (λ w. IsReady M.told input.now pool.now (padded_value w)) workers.old }
     ensures count { length workers.new ≡ length workers.old }
-    ensures back { All (IsBack M.told input.now modules.now pool.now) workers.new }
-    ensures numbers { (i : ℕ) (d : Worker (HallSeat (HallPart P PlainHeap M)) P) → i < length workers.old → (slice_index_or workers.new i d).number ≡ (slice_index_or workers.old i d).number }
+    ensures back { All (λ w. IsBack M.told input.now modules.now pool.now (padded_value w)) workers.new }
+    ensures numbers { (i : ℕ) (d : CachePadded (Worker (HallSeat (HallPart P PlainHeap M)) P)) → i < length workers.old → (padded_value (slice_index_or workers.new i d)).number ≡ (padded_value (slice_index_or workers.old i d)).number }
 {
     let job = Commands {
         rt,

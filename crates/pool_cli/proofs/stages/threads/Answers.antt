@@ -19,7 +19,7 @@ returns-in-Ok-threads_text g c =
     let input = c.in_ok-input.input in
     record {
       input = input;
-      output = c.in-Ok.output;
+      replies = c.in-Ok.output.replies;
       read = can_run run_format input (is_valid input) (Ok c.in-Ok.output) _ _ c.in_ok-input.ensures.threads c.in-Ok.ensures.bad_input (λ is. cc);
       limits = no_limit (broken_rule input) (is_valid input) (Ok c.in-Ok.output) (is_valid_unless (is_valid input) (Ok c.in-Ok.output) c.in-Ok.ensures.bad_input (λ is. cc)) c.in-Ok.ensures.bad_config (λ e is. cc);
       run = c.in-Ok.ensures.ran;

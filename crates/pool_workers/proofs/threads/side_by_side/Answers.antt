@@ -29,7 +29,7 @@ join_all-done-requires g c κs within =
     let told = g.M.PageMaker.told in
     let input = c.args.input.now in
     let pool = c.args.pool.now in
-    let workers = c.work_list-workers.result.items in
+    let workers = c.in-Ok-work_list.workers.items in
     let its : IsGround told input c.args.modules.now pool = search rules in
     let first : view c.args.seat.now ≡ first_view (made_with pool.hall) (limits_of pool.hall) = c.requires.1.1.1.1.1.1.1.1.1.1.1.1.1 in
     let all : g.all ≡ shared_by input c.args.modules.now = c.requires.1.1.1.1.1.1.1.1.0 in
@@ -52,7 +52,7 @@ returns-clause-joined g c =
 pub returns-clause-count : goal.returns-clause-count
 returns-clause-count g c =
     let done : c.join_all-done.result ≡ true = search rules in
-    let back : AreBack g.M.PageMaker.told c.args.input.now c.args.modules.now c.args.pool.now c.work_list-workers.result.items = search rules in
+    let back : AreBack g.M.PageMaker.told c.args.input.now c.args.modules.now c.args.pool.now c.in-Ok-work_list.workers.items = search rules in
     c.join_all-done.ensures.count done ∙ back.count
 
 pub returns-clause-portions : goal.returns-clause-portions
@@ -60,5 +60,5 @@ returns-clause-portions g c =
     let ground : IsGround g.M.PageMaker.told c.args.input.now c.args.modules.now c.args.pool.now = search rules in
     let first : view c.args.seat.now ≡ first_view (made_with c.args.pool.now.hall) (limits_of c.args.pool.now.hall) = search rules in
     let done : c.join_all-done.result ≡ true = search rules in
-    let back : AreBack g.M.PageMaker.told c.args.input.now c.args.modules.now c.args.pool.now c.work_list-workers.result.items = search rules in
-    whole_again g.M.PageMaker.told c.args.input.now c.args.modules.now c.args.pool.now (view c.args.seat.now) ground first (view c.make_workers.new.seat) c.in-Ok.ensures.left (view c.join_all-done.new.seat).portions (length c.work_list-workers.result.items) (c.join_all-done.ensures.portions done) back.count
+    let back : AreBack g.M.PageMaker.told c.args.input.now c.args.modules.now c.args.pool.now c.in-Ok-work_list.workers.items = search rules in
+    whole_again g.M.PageMaker.told c.args.input.now c.args.modules.now c.args.pool.now (view c.args.seat.now) ground first (view c.make_workers.new.seat) c.in-Ok.ensures.left (view c.join_all-done.new.seat).portions (length c.in-Ok-work_list.workers.items) (c.join_all-done.ensures.portions done) back.count
