@@ -17,6 +17,7 @@ use Rattle.pool_run.specs.declared.output.RunOutput.{RunOutput}
 use Rattle.pool_run.specs.declared.reply.Reply.{Reply}
 use Rattle.pool_run_shared.specs.declared.input.SharedInput.{SharedInput}
 use Rattle.pool_run_shared.specs.declared.reply.SharedReply.{SharedReply}
+use Rattle.pool_workers.specs.Listed.{FewFaulted, coming}
 use Rattle.pool_workers.specs.Threads.{HaveRunBeside, IsUnlisted}
 use Rattle.pool_load.specs.Load.{load_input}
 use Rattle.pool_cli.specs.Lines.{config_line, line_of}
@@ -75,16 +76,19 @@ pub record HasRunOnDemand (text : List ℕ) (source_old source_new : SourceTold)
   pub run : IsOnDemand input (with_faults input maker_old) output
   pub text_is : text ≡ replies_text input output.replies
 
--- The same of a run with a thread for each party. What each party was told is a private run of all its commands, and where it was
--- refused for want of something, all parties together ask for at least as much as there is. No making of the maker's failed, and
--- none that is listed was needed. The text is that of the replies, and then the line that the pool was closed.
+-- The same of a run with a thread for each party, of those of the input's faults that can come. What each party was told is a private
+-- run of all its commands, and where it was refused for want of something, all parties together ask for at least as much as there is.
+-- Where the maker lists none of its own, no more requests are refused for a failed page call than calls are listed on memories, and no
+-- more growths of a memory met a fault than its region's plan lists. No making of the maker's failed, and none that is listed was
+-- needed. The text is that of the replies, and then the line that the pool was closed.
 pub record HasRunThreads (text : List ℕ) (source_old source_new : SourceTold) (maker_old maker_new : MakerTold) : Type 0 where
   pub input : Input
   pub replies : List (List Reply)
   pub read : HasRead run_format (accepted input) source_old source_new
   pub limits : broken_rule input ≡ None
-  pub run : HaveRunBeside input (with_faults input maker_old) replies
-  pub unlisted : IsUnlisted input (with_faults input maker_old)
+  pub run : HaveRunBeside input (with_faults (coming input) maker_old) replies
+  pub few : FewFaulted input maker_old replies
+  pub unlisted : IsUnlisted input (with_faults (coming input) maker_old)
   pub makings : maker_new.faults ≡ maker_old.faults
   pub text_is : text ≡ threads_text input replies
 
@@ -172,6 +176,13 @@ pub record HasNoPool {P : Type 0} (told : P → Told) (source_old source_new : S
   pub limits : broken_rule input ≡ None
   pub making : HasFaultedMaking (with_failing told) input maker_old maker_new
 
+-- The same of a run with a thread for each party, of those of the input's faults that can come.
+pub record HasNoPoolBeside {P : Type 0} (told : P → Told) (source_old source_new : SourceTold) (maker_old maker_new : MakerTold) : Type 0 where
+  pub input : Input
+  pub read : HasRead run_format (accepted input) source_old source_new
+  pub limits : broken_rule input ≡ None
+  pub making : HasFaultedMaking (with_failing told) (coming input) maker_old maker_new
+
 -- the same of the images of modules, which are all that a run on demand makes before its first step
 pub record HasNoImages (source_old source_new : SourceTold) (maker_old maker_new : MakerTold) : Type 0 where
   pub input : Input
@@ -195,7 +206,7 @@ pub record HasNoLoadPool {P : Type 0} (told : P → Told) (seed : ℕ) (source_o
 abbrev pub HasFaulted : {P : Type 0} → (P → Told) → Task → SourceTold → SourceTold → MakerTold → MakerTold → Type 0
 HasFaulted told Run source_old source_new maker_old maker_new = HasNoPool told source_old source_new maker_old maker_new
 HasFaulted told RunOnDemand source_old source_new maker_old maker_new = HasNoImages source_old source_new maker_old maker_new
-HasFaulted told Threads source_old source_new maker_old maker_new = HasNoPool told source_old source_new maker_old maker_new
+HasFaulted told Threads source_old source_new maker_old maker_new = HasNoPoolBeside told source_old source_new maker_old maker_new
 HasFaulted told Shared source_old source_new maker_old maker_new = HasNoRegion source_old source_new maker_old maker_new
 HasFaulted told (Load seed) source_old source_new maker_old maker_new = HasNoLoadPool told seed source_old source_new maker_old maker_new
 HasFaulted told _ source_old source_new maker_old maker_new = ⊥

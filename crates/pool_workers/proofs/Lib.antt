@@ -1,5 +1,6 @@
 pub mod AllListed
 pub mod Beside
+pub mod Coming
 pub mod Driving
 pub mod FewFaults
 pub mod Grounding

@@ -5,6 +5,7 @@
 
 mod jobs;
 mod joins;
+mod kept;
 mod padding;
 mod threads;
 mod worker;

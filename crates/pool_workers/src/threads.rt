@@ -18,16 +18,18 @@ ghost use Rattle.pool_run.specs.Validity.{is_valid};
 ghost use Rattle.pool_threads.specs.Sharing.{IsGround, job_of};
 ghost use Rattle.pool_threads.specs.Working.{about_job};
 ghost use Rattle.pool_workers.specs.Joined.{IsJoined, Shared, shared_by};
+ghost use Rattle.pool_workers.specs.Listed.{FewFaulted, coming};
 ghost use Rattle.pool_workers.specs.Threads.{HasNoNumbers, HaveRunBeside, IsUnlisted};
 ghost use Rattle.pool_workers.specs.Workers.{AreBack, AreReady, DrivesWorkers};
 
 use crate::joins::join_all;
+use crate::kept::{faults_that_come, without_memory};
 use crate::padding::{pad, unpad};
 use crate::worker::Worker;
 use crate::workers::{make_workers, work};
 use pool_alloc::{Metrics, ModuleCall, Parts};
 use pool_driver::{OpenPool, PoolHall, PoolSeat, SharedPool};
-use pool_pages::{Failing, FailingMaker, PageCalls, PageMaker, Pages};
+use pool_pages::{Failing, FailingMaker, Fault, PageCalls, PageMaker, Pages};
 use pool_run::{Input, ReplyList, RunFault, RunOutput, is_valid, make_calls, make_pool};
 use pool_slots::PlainHeap;
 use pool_threads::{Gate, OpenGate};
@@ -244,6 +246,67 @@ fn run_with<
     run_by(rt, alloc, input, pages, gate)
 }
 
+// Runs the input over a maker before which these faults stand.
+fn run_over_faults<M: PageMaker + Send, R: Threads + Wait + Sync, G: Gate + Sync>(
+    rt: &R,
+    alloc: Global,
+    input: &Input,
+    pages: &mut M,
+    page: PageSize,
+    faults: &[Fault],
+    gate: &G,
+) -> Result<RunOutput, RunFault>
+where
+    M::Region: Send,
+    requires page { page ≡ input.now.page }
+    requires faults { faults.now ≡ (coming input.now).faults }
+    requires built { is_built input.now ≡ true }
+    requires valid { is_valid input.now ≡ true }
+    ensures ran { IfOk result (λ output. HaveRunBeside input.now (with_faults (coming input.now) (M.told pages.old)) output.replies) }
+    ensures few { IfOk result (λ output. FewFaulted input.now (M.told pages.old) output.replies) }
+    ensures unlisted { OnOk result (IsUnlisted input.now (with_faults (coming input.now) (M.told pages.old))) }
+    ensures numbers { IfOk result HasNoNumbers }
+    ensures faults { OnOk result ((M.told pages.new).faults ≡ (M.told pages.old).faults) }
+    ensures fault { result ≡ Err RunFault.PageFault → HasFaultedMaking ⟦<Failing<M::Region> as Pages>⟧.told (coming input.now) (M.told pages.old) (M.told pages.new) }
+    ensures rules { OnOk result (broken_rule input.now ≡ None) }
+    ensures refused { IfErr result (NamesRule (broken_rule input.now)) }
+{
+    let mut maker = FailingMaker::new(pages, page, faults);
+    let answer = run_with(rt, alloc, input, &mut maker, gate);
+    // given back here, so that the prover knows whose count it is
+    let _pages = maker.into_maker();
+    answer
+}
+
+// Runs the input with this page, with those of its faults that can come true.
+fn run_paged<M: PageMaker + Send, R: Threads + Wait + Sync, G: Gate + Sync>(
+    rt: &R,
+    alloc: Global,
+    input: &Input,
+    pages: &mut M,
+    page: PageSize,
+    gate: &G,
+) -> Result<RunOutput, RunFault>
+where
+    M::Region: Send,
+    requires page { page ≡ input.now.page }
+    requires built { is_built input.now ≡ true }
+    requires valid { is_valid input.now ≡ true }
+    ensures ran { IfOk result (λ output. HaveRunBeside input.now (with_faults (coming input.now) (M.told pages.old)) output.replies) }
+    ensures few { IfOk result (λ output. FewFaulted input.now (M.told pages.old) output.replies) }
+    ensures unlisted { OnOk result (IsUnlisted input.now (with_faults (coming input.now) (M.told pages.old))) }
+    ensures numbers { IfOk result HasNoNumbers }
+    ensures faults { OnOk result ((M.told pages.new).faults ≡ (M.told pages.old).faults) }
+    ensures fault { result ≡ Err RunFault.PageFault → HasFaultedMaking ⟦<Failing<M::Region> as Pages>⟧.told (coming input.now) (M.told pages.old) (M.told pages.new) }
+    ensures rules { OnOk result (broken_rule input.now ≡ None) }
+    ensures refused { IfErr result (NamesRule (broken_rule input.now)) }
+{
+    match faults_that_come(alloc, input.faults.as_slice()) {
+        Ok(faults) => run_over_faults(rt, alloc, input, pages, page, faults.as_slice(), gate),
+        Err(_) => Err(without_memory(input)),
+    }
+}
+
 /// `run_threads`, with a gate that is told before and after each command.
 pub fn run_threads_with<M: PageMaker + Send, R: Threads + Wait + Sync, G: Gate + Sync>(
     rt: &R,
@@ -255,30 +318,26 @@ pub fn run_threads_with<M: PageMaker + Send, R: Threads + Wait + Sync, G: Gate +
 where
     M::Region: Send,
     requires built { is_built input.now ≡ true }
-    ensures ran { IfOk result (λ output. HaveRunBeside input.now (with_faults input.now (M.told pages.old)) output.replies) }
-    ensures unlisted { OnOk result (IsUnlisted input.now (with_faults input.now (M.told pages.old))) }
+    ensures ran { IfOk result (λ output. HaveRunBeside input.now (with_faults (coming input.now) (M.told pages.old)) output.replies) }
+    ensures few { IfOk result (λ output. FewFaulted input.now (M.told pages.old) output.replies) }
+    ensures unlisted { OnOk result (IsUnlisted input.now (with_faults (coming input.now) (M.told pages.old))) }
     ensures numbers { IfOk result HasNoNumbers }
     ensures faults { OnOk result ((M.told pages.new).faults ≡ (M.told pages.old).faults) }
     ensures bad_input { (result ≡ Err RunFault.BadInput) ↔ (is_valid input.now ≡ false) }
     ensures bad_config { (e : BadConfig) → (result ≡ Err (RunFault.BadConfig e)) ↔ ((is_valid input.now ≡ true) × (broken_rule input.now ≡ Some e)) }
-    ensures fault { result ≡ Err RunFault.PageFault → HasFaultedMaking ⟦<Failing<M::Region> as Pages>⟧.told input.now (M.told pages.old) (M.told pages.new) }
+    ensures fault { result ≡ Err RunFault.PageFault → HasFaultedMaking ⟦<Failing<M::Region> as Pages>⟧.told (coming input.now) (M.told pages.old) (M.told pages.new) }
 {
     if !is_valid(input) {
         return Err(RunFault::BadInput);
     }
     match PageSize::new(input.page) {
-        Ok(page) => {
-            let mut maker = FailingMaker::new(pages, page, input.faults.as_slice());
-            let answer = run_with(rt, alloc, input, &mut maker, gate);
-            // given back before the list is dropped, so that the prover knows whose count it is
-            let _pages = maker.into_maker();
-            answer
-        }
+        Ok(page) => run_paged(rt, alloc, input, pages, page, gate),
         Err(rule) => Err(RunFault::BadConfig(rule)),
     }
 }
 
-/// Runs the input with a thread for each party. The schedule isn't used: each party's commands are made in order.
+/// Runs the input with a thread for each party. The schedule isn't used: each party's commands are made in order. A fault of the
+/// input for the last number that a count of calls can have is left out: no run gets there.
 pub fn run_threads<M: PageMaker + Send, R: Threads + Wait + Sync>(
     rt: &R,
     alloc: Global,
@@ -288,13 +347,14 @@ pub fn run_threads<M: PageMaker + Send, R: Threads + Wait + Sync>(
 where
     M::Region: Send,
     requires built { is_built input.now ≡ true }
-    ensures ran { IfOk result (λ output. HaveRunBeside input.now (with_faults input.now (M.told pages.old)) output.replies) }
-    ensures unlisted { OnOk result (IsUnlisted input.now (with_faults input.now (M.told pages.old))) }
+    ensures ran { IfOk result (λ output. HaveRunBeside input.now (with_faults (coming input.now) (M.told pages.old)) output.replies) }
+    ensures few { IfOk result (λ output. FewFaulted input.now (M.told pages.old) output.replies) }
+    ensures unlisted { OnOk result (IsUnlisted input.now (with_faults (coming input.now) (M.told pages.old))) }
     ensures numbers { IfOk result HasNoNumbers }
     ensures faults { OnOk result ((M.told pages.new).faults ≡ (M.told pages.old).faults) }
     ensures bad_input { (result ≡ Err RunFault.BadInput) ↔ (is_valid input.now ≡ false) }
     ensures bad_config { (e : BadConfig) → (result ≡ Err (RunFault.BadConfig e)) ↔ ((is_valid input.now ≡ true) × (broken_rule input.now ≡ Some e)) }
-    ensures fault { result ≡ Err RunFault.PageFault → HasFaultedMaking ⟦<Failing<M::Region> as Pages>⟧.told input.now (M.told pages.old) (M.told pages.new) }
+    ensures fault { result ≡ Err RunFault.PageFault → HasFaultedMaking ⟦<Failing<M::Region> as Pages>⟧.told (coming input.now) (M.told pages.old) (M.told pages.new) }
 {
     run_threads_with(rt, alloc, input, pages, &OpenGate)
 }

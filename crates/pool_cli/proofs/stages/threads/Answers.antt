@@ -23,6 +23,7 @@ returns-in-Ok-threads_text g c =
       read = can_run run_format input (is_valid input) (Ok c.in-Ok.output) _ _ c.in_ok-input.ensures.threads c.in-Ok.ensures.bad_input (λ is. cc);
       limits = no_limit (broken_rule input) (is_valid input) (Ok c.in-Ok.output) (is_valid_unless (is_valid input) (Ok c.in-Ok.output) c.in-Ok.ensures.bad_input (λ is. cc)) c.in-Ok.ensures.bad_config (λ e is. cc);
       run = c.in-Ok.ensures.ran;
+      few = c.in-Ok.ensures.few;
       unlisted = c.in-Ok.ensures.unlisted;
       makings = c.in-Ok.ensures.faults;
       text_is = c.in-Ok-threads_text.ensures ∙ ap (threads_text input) c.as_slice.ensures;
