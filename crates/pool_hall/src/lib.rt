@@ -1,17 +1,17 @@
-//! Locks: parts behind one lock each, and counters, which threads share. No pool uses it yet but for kinds of slots and
-//! names.
+//! Locks: parts behind one lock each, and counters, which threads share. The index allocators for threads stand on it
+//! (`pool_index`), and so does the whole pool for threads (`pool_driver`, `pool_callers`).
 //!
-//! What is used is `SlotKind`, and in contracts `UnitName`: the name of a right to a slot, or to its region, by which
-//! the crates above say that none is given out twice.
+//! The pool without locks uses `SlotKind` alone, and in contracts `UnitName`: the name of a right to a slot, or to its
+//! region, by which the crates above say that none is given out twice.
 //!
-//! The rest waits for a pool of threads. Read `Part` first, what lies behind a lock; then `Hall`, which has the parts
-//! and counters, and `HallSeat`, the token with which a thread calls. `View` is what a thread knows, and `PartCall` is
-//! one call on a part while its lock is held. Nothing is promised of how long a wait for a lock takes.
+//! Read `Part` first, what lies behind a lock; then `Hall`, which has the parts and counters, and `HallSeat`, the token
+//! with which a thread calls. `View` is what a thread knows, and `PartCall` is one call on a part while its lock is
+//! held. Nothing is promised of how long a wait for a lock takes.
 //!
 //! It is ours and no port; it stands on `atomic_table` of the toolchain and on no crate of ours.
 //!
 //! ```rust
-//! let answer = hall.hold(rt, &mut seat, place, &mut call);
+//! let answer = hall.hold(rt, seat, place, &mut call);
 //! ```
 #![tactic(auto)]
 

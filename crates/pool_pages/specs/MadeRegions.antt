@@ -5,5 +5,5 @@ use Rattle.pool_pages.specs.declared.made_region.MadeRegion.TheVariants.{Memory,
 
 -- What a region in memory tells, whichever of the two behaviours it has.
 abbrev pub made_told : MadeRegion → Told
-made_told (Memory region) = region
-made_told (Zeroing region) = region
+made_told (Memory region) = region.value
+made_told (Zeroing region) = region.value

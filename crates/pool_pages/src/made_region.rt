@@ -6,11 +6,11 @@ use crate::pages::{PageCalls, PageFault, Pages, RegionName};
 use crate::zeroing_region::ZeroingRegion;
 use pool_types::{DecommitBehavior, HostAlignedByteCount, PageSize};
 
-/// A region in memory of either behaviour.
+/// A region in memory of either behaviour. It lies in memory of its own, so that to move it is to move a pointer.
 #[derive(Drop)]
 pub enum MadeRegion {
-    Memory(MemoryRegion),
-    Zeroing(ZeroingRegion),
+    Memory(Box<MemoryRegion>),
+    Zeroing(Box<ZeroingRegion>),
 }
 
 impl Pages for MadeRegion {

@@ -1,4 +1,4 @@
-ghost use Rattle.std.specs.Prelude.{◌≡◌};
+ghost use Rattle.std.specs.Prelude.{◌≡◌, IfOk};
 ghost use Rattle.pool_pages.specs.MadeRegions.{made_told};
 ghost use Rattle.pool_pages.specs.MakerTold.{no_calls};
 ghost use Rattle.pool_pages.specs.MemoryTold.{memory_maker, memory_told};
@@ -10,7 +10,7 @@ use crate::memory_region::MemoryRegion;
 use crate::pages::RegionName;
 use crate::zeroing_region::ZeroingRegion;
 use pool_types::{DecommitBehavior, HostAlignedByteCount, PageSize};
-use std::alloc::Global;
+use std::alloc::{AllocError, Global};
 use std::marker::Model;
 
 /// Makes regions in memory. It fails only for want of memory; its regions tell what they hold, and that no
@@ -40,14 +40,23 @@ impl MemoryPages {
 }
 
 /// A region of these pages, on which no call was made yet.
-fn in_memory(name: RegionName, behaviour: DecommitBehavior, pages: DensePages) -> MadeRegion
-    ensures { made_told result ≡ memory_told name behaviour pages no_calls 0 }
+fn in_memory(
+    alloc: Global,
+    name: RegionName,
+    behaviour: DecommitBehavior,
+    pages: DensePages,
+) -> Result<MadeRegion, AllocError>
+    ensures { IfOk result (λ region. made_told region ≡ memory_told name behaviour pages no_calls 0) }
 {
     match behaviour {
         DecommitBehavior::RestoreOriginalMapping => {
-            MadeRegion::Memory(MemoryRegion::new(name, pages))
+            let region = Box::new(alloc, MemoryRegion::new(name, pages))?;
+            Ok(MadeRegion::Memory(region))
         }
-        DecommitBehavior::Zero => MadeRegion::Zeroing(ZeroingRegion::new(name, pages)),
+        DecommitBehavior::Zero => {
+            let region = Box::new(alloc, ZeroingRegion::new(name, pages))?;
+            Ok(MadeRegion::Zeroing(region))
+        }
     }
 }
 
@@ -80,7 +89,10 @@ impl PageMaker for MemoryPages {
     ) -> Result<MadeRegion, MakeFault> {
         self.next = next_after(name, self.next);
         match DensePages::new(alloc, len.page(), accessible.byte_count(), len.byte_count()) {
-            Ok(pages) => Ok(in_memory(name, behaviour, pages)),
+            Ok(pages) => match in_memory(alloc, name, behaviour, pages) {
+                Ok(region) => Ok(region),
+                Err(_) => Err(MakeFault::Memory),
+            },
             Err(_) => Err(MakeFault::Memory),
         }
     }
