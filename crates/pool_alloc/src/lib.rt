@@ -69,6 +69,7 @@ pub use frame::{
     TakenSlot,
 };
 pub use instance_allocator::InstanceAllocator;
+pub use instance_allocator::memories::{GrantedMemory, InstanceMemories};
 pub use instance_allocator::request::InstanceAllocationRequest;
 pub use leases::element::{Element, element_at, set_elements};
 pub use leases::heap::HeapLease;
@@ -76,9 +77,11 @@ pub use leases::instance::InstanceLease;
 pub use leases::memory::MemoryLease;
 pub use leases::stack::StackLease;
 pub use leases::table::TableLease;
-pub use memory_pool::rules::{limits_refused, offsets_refused, type_refused};
+pub use memory_pool::rules::{limits_refused, memories_refused, offsets_refused, type_refused};
+pub use memory_pool::stripes::slab_layout;
 pub use metrics::Metrics;
 pub use parts::Parts;
+pub use parts::numbers::{resident_in, warm_in};
 pub use pool_core::validations::refused_by;
 pub use pool_core::{Counters, PoolCore, Settings};
 pub use purge::{PurgeCursor, PurgeStep};
@@ -88,6 +91,6 @@ pub use step::alone::step_alone;
 pub use step::on_counters::step_counted;
 pub use step::on_parts::step_part;
 pub use step::targets::{Target, next_target};
-pub use table_pool::rules::table_limits_refused;
+pub use table_pool::rules::{table_limits_refused, table_types_refused};
 pub use validate::module_refused;
 pub use validate::sizes::{component_refused, instance_size};

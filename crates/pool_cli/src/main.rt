@@ -30,6 +30,8 @@ mod kind_tests;
 #[cfg(test)]
 mod on_demand_tests;
 #[cfg(test)]
+mod party_tests;
+#[cfg(test)]
 mod run_tests;
 #[cfg(test)]
 mod tests;

@@ -27,7 +27,9 @@ pub mod HeldParts
 pub mod Holding
 pub mod LastFrames
 pub mod Limits
+pub mod ListedCalls
 pub mod Lists
+pub mod Looks
 pub mod MadeObjects
 pub mod Makers
 pub mod MomentSteps
@@ -36,6 +38,7 @@ pub mod Multisets
 pub mod Naming
 pub mod Noted
 pub mod OtherKinds
+pub mod OverWants
 pub mod OwnNumbers
 pub mod PageFaultRows
 pub mod PageFaults

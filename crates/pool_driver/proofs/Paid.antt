@@ -1,14 +1,13 @@
--- The cell of a memory's slot counted at most as many faults as the plan lists calls on the slot's region, as a pool is closed.
-use Rattle.std.proofs.Common.{◌≡◌, ℕ, zero, suc, ◌-◌, ◌^◌, ◌<◌, ◌≤◌, ◌==◌, ◌||◌, Bool, true, false, List, [], ◌∷◌, length, All, Option, Some, None, IfSome, refl, sym, ap, subst, ◌∙◌, arith, inl, inr, slice_index, slice_get, if◌then◌else◌}
+-- The cell of a memory's slot counted at most as many faults as the plan lists different calls on the slot's region, as a pool is closed.
+use Rattle.std.proofs.Common.{◌≡◌, ℕ, ◌-◌, ◌^◌, ◌<◌, ◌≤◌, true, false, List, [], ◌∷◌, All, Option, Some, None, IfSome, refl, sym, ap, subst, ◌∙◌, arith, inl, inr, slice_index, slice_get}
 use Rattle.std.proofs.lemmas.Bool.{cases_Bool, eqb-true}
 use Rattle.std.proofs.lemmas.List.Elements.{All-head, All-tail}
-use Rattle.std.specs.List.{AllByRecursion, list_any}
+use Rattle.std.specs.List.{AllByRecursion}
 use mathlib.Core.Option.{some}
 use lib.ListN.{get_elem?}
 use Rattle.pool_pages.specs.MakerTold.{MakerTold, plan_for}
-use Rattle.pool_pages.specs.Told.{FailsAsListed, NoMoreThanListed, Told, listed_among}
+use Rattle.pool_pages.specs.Told.{FailsAsListed, NoMoreThanListed, Told}
 use Rattle.pool_pages.specs.declared.pages.RegionName.TheVariants.{Memory}
-use Rattle.pool_pages.proofs.ListedCalls.{none_fails}
 use Rattle.pool_images.specs.Slots.{Slot, SlotIdentity, coloured}
 use Rattle.pool_hall.specs.Meaning.{AllStand}
 use Rattle.pool_hall.specs.Rule.{AwayIsKept, away_of}
@@ -37,24 +36,7 @@ use Rattle.pool_driver.specs.Ending.{IsPaid}
 use Rattle.pool_driver.specs.Faults.{PartKeeps, QueuedKeeps}
 use Rattle.pool_driver.specs.PageFaults.{cell_faults}
 use Rattle.pool_driver.specs.Placed.{About, about_made, part_counts, part_steady, part_topped, place_by, pool_meaning}
-
--- One number more in the list lists at most one call more, and none of those before it.
-listed_step : (b c : Bool) (x n l m : ℕ) → (b ≡ true → x ≡ suc n) → l ≤ suc m → (n < x → l ≡ m) →
-    ((if b || c then suc l else l) ≤ suc (if c then suc m else m)) × (suc n < x → (if b || c then suc l else l) ≡ (if c then suc m else m))
-listed_step true true x n l m at most before = (omega arith, λ below. let is = at refl in absurd (omega arith))
-listed_step true false x n l m at most before = ((let is = at refl in let same' = before (omega arith) in omega arith), λ below. let is = at refl in absurd (omega arith))
-listed_step false true x n l m at most before = (omega arith, λ below. let same' = before (omega arith) in omega arith)
-listed_step false false x n l m at most before = (omega arith, λ below. before (omega arith))
-
-listed_more : (x : ℕ) (xs : List ℕ) (n : ℕ) → (listed_among (x ∷ xs) n ≤ suc (listed_among xs n)) × (n < x → listed_among (x ∷ xs) n ≡ listed_among xs n)
-listed_more x xs zero = (omega arith, λ below. refl)
-listed_more x xs (suc n) =
-    let so_far = listed_more x xs n in
-    listed_step (x == suc n) (list_any (λ m. m == suc n) xs) x n (listed_among (x ∷ xs) n) (listed_among xs n) (eqb-true x (suc n)) so_far.0 so_far.1
-
-listed_most : (xs : List ℕ) (n : ℕ) → listed_among xs n ≤ length xs
-listed_most [] n = let none = none_fails n in omega arith
-listed_most (x ∷ xs) n = let a = (listed_more x xs n).0 in let b = listed_most xs n in omega arith
+use Rattle.pool_driver.proofs.ListedCalls.{listed_most}
 
 -- A region fails at most as often as its plan lists calls, and so it is of fewer faults.
 paid_by : (plan : Option (List ℕ)) (made faults : ℕ) → IfSome plan (λ calls. NoMoreThanListed calls made faults) → IsPaid plan faults

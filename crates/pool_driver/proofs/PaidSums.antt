@@ -1,11 +1,11 @@
--- The faults that came home to cells of memory slots, all together, are at most as many as the maker lists calls on these slots' regions.
-use Rattle.std.proofs.Common.{◌≡◌, ℕ, zero, suc, ◌+◌, ◌-◌, ◌^◌, ◌<◌, ◌≤◌, ◌==◌, ◌||◌, ◌⊎◌, Bool, true, false, List, [], ◌∷◌, length, filter, cond, Option, Some, None, IsSome, refl, sym, ap, subst, ◌∙◌, arith, inl, inr, slice_index, if◌then◌else◌}
-use Rattle.std.proofs.lemmas.Bool.{cases_Bool, cases_lt, eq-eqb, eqb-true, or_left, or_right}
-use Rattle.std.specs.List.{cons_option, list_any}
-use Rattle.pool_pages.specs.MakerTold.{MakerTold, Planned, call_of, calls_of, on_images, on_region, part_of, plan_for, same_name}
-use Rattle.pool_pages.specs.declared.pages.RegionName.{RegionName}
-use Rattle.pool_pages.specs.declared.pages.RegionName.TheVariants.{Memory, Table, Stack, OnDemand}
-use Rattle.pool_hall.specs.Sum.{often, one_if, total}
+-- The faults that came home to cells of memory slots, all together, are at most as many as the different calls that plans list on these slots'
+-- regions.
+use Rattle.std.proofs.Common.{◌≡◌, ℕ, zero, suc, ◌+◌, ◌-◌, ◌^◌, ◌<◌, ◌≤◌, ◌==◌, Bool, true, false, List, [], ◌∷◌, Option, Some, None, refl, sym, ap, subst, ◌∙◌, arith, inl, inr, slice_index, if◌then◌else◌}
+use Rattle.std.proofs.lemmas.Bool.{cases_lt, eq-eqb}
+use Rattle.std.specs.Option.{option_map_or}
+use Rattle.pool_pages.specs.MakerTold.{MakerTold, plan_for}
+use Rattle.pool_pages.specs.declared.pages.RegionName.TheVariants.{Memory}
+use Rattle.pool_hall.specs.Sum.{often, total}
 use Rattle.pool_hall.specs.Tally.{counted, number, rise, rise_at}
 use Rattle.pool_hall.specs.declared.unit_name.SlotKind.{SlotKind}
 use Rattle.pool_hall.specs.declared.unit_name.SlotKind.TheVariants.{Memory as memory_kind}
@@ -20,37 +20,14 @@ use Rattle.pool_alloc.specs.BetweenSteps.{IsPoolPlan}
 use Rattle.pool_alloc.specs.Leases.{memory_slot}
 use Rattle.pool_alloc.proofs.PlanPlaces.{cell_below, cell_role_at}
 use Rattle.pool_driver.specs.Ending.{HasNoted, IsPaid}
+use Rattle.pool_driver.specs.ListedCalls.{AllEndBeforeLast, EndsBeforeLast, calls_listed, listed_on}
 use Rattle.pool_driver.specs.PageFaults.{cell_faults}
 use Rattle.pool_driver.specs.Placed.{About}
 
 -- The sum over the first n numbers.
-abbrev pub upto : (ℕ → ℕ) → ℕ → ℕ
+abbrev upto : (ℕ → ℕ) → ℕ → ℕ
 upto f zero = 0
 upto f (suc n) = upto f n + f n
-
--- How many calls a region's plan lists, where it is told.
-abbrev pub calls_in : Option (List ℕ) → ℕ
-calls_in None = 0
-calls_in (Some calls) = length calls
-
--- A region's plan lists the last number that the count of its calls has.
-abbrev pub lists_last : Option (List ℕ) → Bool
-lists_last None = false
-lists_last (Some calls) = list_any (λ n. n == 2 ^ 64 - 1) calls
-
--- How many calls the maker lists on the regions of the first n memory slots.
-abbrev pub calls_listed : MakerTold → ℕ → ℕ
-calls_listed maker n = upto (λ i. calls_in (plan_for (Memory i) maker)) n
-
--- It lists that last number for one of these regions.
-pub record LastIsListed (maker : MakerTold) (n : ℕ) : Type 0 where
-  pub slot : ℕ
-  pub inside : slot < n
-  pub last : lists_last (plan_for (Memory slot) maker) ≡ true
-
--- The maker tells the plans of these regions.
-abbrev pub AreTold : MakerTold → ℕ → Type 0
-AreTold maker n = (i : ℕ) → i < n → IsSome (plan_for (Memory i) maker)
 
 -- Of rises only those at the cells of memory slots weigh anything, and no more than the fault count rose.
 pub record IsFaultRise (plan : Plan) (weight : ℕ) (e : CountRise) : Type 0 where
@@ -77,10 +54,6 @@ faults_weigh plan is_cell tells e some' =
     let rose : ℕ = rise (slice_index e.before cell_faults) (slice_index e.after cell_faults) in
     let it = tells (role_at plan e.place) (if_some (is_cell (role_at plan e.place)) rose some') in
     record { slot = it.0; kind = it.1; role = it.2; most = if_most (is_cell (role_at plan e.place)) rose }
-
-upto_le : (f g : ℕ → ℕ) (n : ℕ) → ((i : ℕ) → f i ≤ g i) → upto f n ≤ upto g n
-upto_le f g zero each = omega arith
-upto_le f g (suc n) each = omega (arith, upto_le f g n each, each n)
 
 upto_add : (f g : ℕ → ℕ) (n : ℕ) → upto (λ i. f i + g i) n ≡ upto f n + upto g n
 upto_add f g zero = refl
@@ -127,13 +100,21 @@ weight_within plan weigh faults e = elim (cases_lt 0 (weigh e)) [
   | inr none ↦ omega arith
 ]
 
--- where a plan is told, so many faults are paid for
-paid_here : (plan : Option (List ℕ)) (faults : ℕ) → IsSome plan → IsPaid plan faults → (faults ≤ calls_in plan) ⊎ (lists_last plan ≡ true)
-paid_here None faults told paid = absurd (cc told)
-paid_here (Some calls) faults told paid = paid
+-- where a plan is told and ends, so many faults are paid for
+paid_here : (plan : Option (List ℕ)) (faults : ℕ) → EndsBeforeLast plan → IsPaid plan faults → faults ≤ option_map_or calls_listed plan 0
+paid_here None faults ends paid = absurd ends
+paid_here (Some calls) faults ends paid = elim paid [
+  | inl few ↦ few
+  | inr last ↦ absurd (let e : true ≡ false = sym last ∙ ends in cc e)
+]
 
-last_later : (maker : MakerTold) (n : ℕ) → LastIsListed maker n → LastIsListed maker (suc n)
-last_later maker n last = record { slot = last.slot; inside = (let below = last.inside in omega arith); last = last.last }
+-- what is listed on one of the regions is among what is listed on all
+listed_one : (maker : MakerTold) (n i : ℕ) → i < n → option_map_or calls_listed (plan_for (Memory i) maker) 0 ≤ listed_on maker n
+listed_one maker zero i below = absurd (omega arith)
+listed_one maker (suc n) i below = elim (cases_lt i n) [
+  | inl less ↦ omega (arith, listed_one maker n i less)
+  | inr past ↦ let is : n ≡ i = omega arith in subst (λ (k : ℕ). option_map_or calls_listed (plan_for (Memory k) maker) 0 ≤ listed_on maker (suc n)) is (omega arith)
+]
 
 module _ {T : Type 0} (a : About) (places : ℕ) (v : View T) (plan : IsPoolPlan a.plan places) (noted : HasNoted a places v) where
   -- how many faults came home to the cell of memory slot i
@@ -143,133 +124,28 @@ module _ {T : Type 0} (a : About) (places : ℕ) (v : View T) (plan : IsPoolPlan
   paid_slot : (i : ℕ) → i < a.plan.totals.memory → IsPaid (plan_for (Memory i) a.maker) (faults_of i)
   paid_slot i below = noted.paid (cell_place a.plan (memory_slot i)) (memory_slot i) refl (cell_role_at a.plan places (memory_slot i) plan (record { cells = tt; inside = below }))
 
-  paid_upto : (n : ℕ) → n ≤ a.plan.totals.memory → AreTold a.maker n → (upto faults_of n ≤ calls_listed a.maker n) ⊎ LastIsListed a.maker n
-  paid_upto zero within told = inl (omega arith)
-  paid_upto (suc n) within told =
-      elim (paid_upto n (omega arith) (λ i below. told i (omega arith))) [
-        | inr last ↦ inr (last_later a.maker n last)
-        | inl few ↦ elim (paid_here (plan_for (Memory n) a.maker) (faults_of n) (told n (omega arith)) (paid_slot n (omega arith))) [
-          | inl more ↦ inl (omega arith)
-          | inr last ↦ inr (record { slot = n; inside = omega arith; last = last })
-        ]
-      ]
+  paid_upto : (n : ℕ) → n ≤ a.plan.totals.memory → AllEndBeforeLast a.maker n → upto faults_of n ≤ listed_on a.maker n
+  paid_upto zero within ends = omega arith
+  paid_upto (suc n) within ends =
+      let so_far = paid_upto n (omega arith) (λ i below. ends i (omega arith)) in
+      let here = paid_here (plan_for (Memory n) a.maker) (faults_of n) (ends n (omega arith)) (paid_slot n (omega arith)) in
+      omega arith
 
-  -- Whatever weighs rises so, all that the view tells of weighs at most as much as the maker lists calls; or it lists the last one.
-  pub all_paid : (weigh : CountRise → ℕ) → WeighsFaults a.plan weigh → AreTold a.maker a.plan.totals.memory → (total weigh v.rises ≤ calls_listed a.maker a.plan.totals.memory) ⊎ LastIsListed a.maker a.plan.totals.memory
-  all_paid weigh faults told =
+  -- Whatever weighs rises so, all that the view tells of weighs at most as much as the plans list different calls.
+  pub all_paid : (weigh : CountRise → ℕ) → WeighsFaults a.plan weigh → AllEndBeforeLast a.maker a.plan.totals.memory → total weigh v.rises ≤ listed_on a.maker a.plan.totals.memory
+  all_paid weigh faults ends =
       let n : ℕ = a.plan.totals.memory in
       let within = total_within weigh (λ e. upto (at_slot a.plan e) n) v.rises (weight_within a.plan weigh faults) in
       let sums : total (λ e. upto (at_slot a.plan e) n) v.rises ≡ upto faults_of n = upto_total (λ i e. at_slot a.plan e i) n v.rises in
-      elim (paid_upto n (omega arith) told) [
-        | inl few ↦ inl (omega arith)
-        | inr last ↦ inr last
-      ]
+      let few = paid_upto n (omega arith) ends in
+      omega arith
 
-  -- Where the cell of a memory's slot was noted as topped, the maker lists as many calls as can be counted; or it lists the last one.
-  pub topped_paid : (p : ℕ) (slot : SlotName) → slot.kind ≡ memory_kind → role_at a.plan p ≡ cell_role slot → 0 < often p v.topped → AreTold a.maker a.plan.totals.memory → (2 ^ 64 - 1 ≤ calls_listed a.maker a.plan.totals.memory) ⊎ LastIsListed a.maker a.plan.totals.memory
-  topped_paid p slot kind role topped told =
+  -- Where the cell of a memory's slot was noted as topped, the plans list as many different calls as can be counted.
+  pub topped_paid : (p : ℕ) (slot : SlotName) → slot.kind ≡ memory_kind → role_at a.plan p ≡ cell_role slot → 0 < often p v.topped → AllEndBeforeLast a.maker a.plan.totals.memory → 2 ^ 64 - 1 ≤ listed_on a.maker a.plan.totals.memory
+  topped_paid p slot kind role topped ends =
       let n : ℕ = a.plan.totals.memory in
       let all = noted.topped p slot kind role topped in
       let below : slot.slot < n = subst (λ (k : SlotKind). slot.slot < of_kind k a.plan.totals) kind (cell_below a.plan p slot role) in
-      let at' = upto_at (λ i. calls_in (plan_for (Memory i) a.maker)) n slot.slot below in
-      elim (paid_here (plan_for (Memory slot.slot) a.maker) (number (counted p cell_faults) v) (told slot.slot below) (noted.paid p slot kind role)) [
-        | inl few ↦ inl (omega arith)
-        | inr last ↦ inr (record { slot = slot.slot; inside = below; last = last })
-      ]
-
--- The call is one on a memory's region.
-abbrev pub is_on_memory : Planned → Bool
-is_on_memory (on_region (Memory m) call) = true
-is_on_memory (on_region (Table m) call) = false
-is_on_memory (on_region (Stack m) call) = false
-is_on_memory (on_region (OnDemand m) call) = false
-is_on_memory (on_images m) = false
-
--- It has the last number that the count of calls has.
-abbrev pub is_last : Planned → Bool
-is_last (on_region name call) = call == 2 ^ 64 - 1
-is_last (on_images m) = false
-
-abbrev one_of : Option ℕ → ℕ
-one_of None = 0
-one_of (Some call) = 1
-
-more_calls : (o : Option ℕ) (calls : List ℕ) → length (cons_option o calls) ≡ one_of o + length calls
-more_calls None calls = omega arith
-more_calls (Some call) calls = omega arith
-
-more_listed : (b : Bool) (x : Planned) (xs : List Planned) → length (cond b (x ∷ xs) xs) ≡ one_if b + length xs
-more_listed true x xs = omega arith
-more_listed false x xs = omega arith
-
-one_if_some : (b : Bool) (call : ℕ) → one_of (if b then Some call else None) ≡ one_if b
-one_if_some true call = refl
-one_if_some false call = refl
-
-equal_once : (m n : ℕ) → (upto (λ i. one_if (i == m)) n ≤ 1) × (n ≤ m → upto (λ i. one_if (i == m)) n ≡ 0)
-equal_once m zero = (omega arith, λ below. refl)
-equal_once m (suc n) =
-    let so_far = equal_once m n in
-    let a = so_far.0 in
-    elim (cases_Bool (n == m)) [
-      | inl here ↦
-          let is = eqb-true n m here in
-          let one : one_if (n == m) ≡ 1 = ap one_if here in
-          let none = so_far.1 (omega arith) in
-          (omega arith, λ below. absurd (omega arith))
-      | inr other ↦
-          let zero' : one_if (n == m) ≡ 0 = ap one_if other in
-          (omega arith, λ below. let none = so_far.1 (omega arith) in omega arith)
-    ]
-
--- an entry lists at most one call on a memory's region
-listed_once : (x : Planned) (n : ℕ) → upto (λ i. one_of (call_of (Memory i) x)) n ≤ one_if (is_on_memory x)
-listed_once (on_region (Memory m) call) n =
-    let each = upto_le (λ i. one_of (call_of (Memory i) (on_region (Memory m) call))) (λ i. one_if (i == m)) n (λ i. let e = one_if_some (i == m) call in omega arith) in
-    let once = (equal_once m n).0 in
-    omega arith
-listed_once (on_region (Table m) call) n = omega (arith, upto_none n)
-listed_once (on_region (Stack m) call) n = omega (arith, upto_none n)
-listed_once (on_region (OnDemand m) call) n = omega (arith, upto_none n)
-listed_once (on_images m) n = omega (arith, upto_none n)
-
-listed_fewer : (plan : List Planned) (n : ℕ) → upto (λ i. length (calls_of (Memory i) plan)) n ≤ length (filter is_on_memory plan)
-listed_fewer [] n = omega (arith, upto_none n)
-listed_fewer (x ∷ xs) n =
-    let each = upto_le (λ i. length (calls_of (Memory i) (x ∷ xs))) (λ i. one_of (call_of (Memory i) x) + length (calls_of (Memory i) xs)) n (λ i. let e = more_calls (call_of (Memory i) x) (calls_of (Memory i) xs) in omega arith) in
-    let both = upto_add (λ i. one_of (call_of (Memory i) x)) (λ i. length (calls_of (Memory i) xs)) n in
-    let more = more_listed (is_on_memory x) x (filter is_on_memory xs) in
-    omega (arith, listed_once x n, listed_fewer xs n)
-
-one_of_two : (x y : Bool) → (x || y) ≡ true → (x ≡ true) ⊎ (y ≡ true)
-one_of_two true y e = inl refl
-one_of_two false y e = inr e
-
-last_entry : (b : Bool) (call : ℕ) (calls : List ℕ) → list_any (λ n. n == 2 ^ 64 - 1) (cons_option (if b then Some call else None) calls) ≡ true → ((call == 2 ^ 64 - 1) ≡ true) ⊎ (list_any (λ n. n == 2 ^ 64 - 1) calls ≡ true)
-last_entry true call calls e = one_of_two (call == 2 ^ 64 - 1) (list_any (λ n. n == 2 ^ 64 - 1) calls) e
-last_entry false call calls e = inr e
-
-last_listed : (name : RegionName) (plan : List Planned) → list_any (λ n. n == 2 ^ 64 - 1) (calls_of name plan) ≡ true → list_any is_last plan ≡ true
-last_listed name [] e = e
-last_listed name (on_images m ∷ xs) e = last_listed name xs e
-last_listed name (on_region of' call ∷ xs) e = elim (last_entry (same_name name of') call (calls_of name xs) e) [
-  | inl here ↦ or_left (call == 2 ^ 64 - 1) (list_any is_last xs) here
-  | inr later ↦ or_right (call == 2 ^ 64 - 1) (list_any is_last xs) (last_listed name xs later)
-]
-
--- A maker that tells its plan tells those of all regions. It lists at most as many calls on them as the plan has entries of memories' regions;
--- and it lists a last number only where the plan does.
-module _ (maker : MakerTold) (plan : List Planned) (told : maker.plan ≡ Some plan) where
-  its_plan : (name : RegionName) → plan_for name maker ≡ Some (calls_of name plan)
-  its_plan name = ap (λ (o : Option (List Planned)). part_of name o maker.layers) told
-
-  pub are_told : (n : ℕ) → AreTold maker n
-  are_told n i below = subst IsSome (sym (its_plan (Memory i))) refl
-
-  pub listed_entries : (n : ℕ) → calls_listed maker n ≤ length (filter is_on_memory plan)
-  listed_entries n =
-      let each = upto_le (λ i. calls_in (plan_for (Memory i) maker)) (λ i. length (calls_of (Memory i) plan)) n (λ i. let e : calls_in (plan_for (Memory i) maker) ≡ length (calls_of (Memory i) plan) = ap calls_in (its_plan (Memory i)) in omega arith) in
-      omega (arith, listed_fewer plan n)
-
-  pub last_is_listed : (n : ℕ) → LastIsListed maker n → list_any is_last plan ≡ true
-  last_is_listed n last = last_listed (Memory last.slot) plan (sym (ap lists_last (its_plan (Memory last.slot))) ∙ last.last)
+      let here = paid_here (plan_for (Memory slot.slot) a.maker) (number (counted p cell_faults) v) (ends slot.slot below) (noted.paid p slot kind role) in
+      let among = listed_one a.maker n slot.slot below in
+      omega arith

@@ -243,32 +243,28 @@ module _ {P H : Type 0} where
   part_keeps g CountComponent c f place at = absurd cc
   part_keeps g UncountComponent c f place at = absurd cc
 
-  -- what the hall counts of a queue and of a shard then
+  -- what is so of two queues is so of two parts that are queues
+  of_queues : (G : PoolPart P H → PoolPart P H → Type 0) → ((q r : Queue) → G (part.Queue q) (part.Queue r)) → (x y : PoolPart P H) → IsQueuePart x → IsQueuePart y → G x y
+  of_queues G each (part.Queue q) (part.Queue r) one two = each q r
+  of_queues G each (part.Shard s) y one two = absurd one
+  of_queues G each (part.Memory cell) y one two = absurd one
+  of_queues G each (part.Table cell) y one two = absurd one
+  of_queues G each (part.Stack cell) y one two = absurd one
+  of_queues G each (part.Heaps heaps) y one two = absurd one
+  of_queues G each (part.Queue q) (part.Shard s) one two = absurd two
+  of_queues G each (part.Queue q) (part.Memory cell) one two = absurd two
+  of_queues G each (part.Queue q) (part.Table cell) one two = absurd two
+  of_queues G each (part.Queue q) (part.Stack cell) one two = absurd two
+  of_queues G each (part.Queue q) (part.Heaps heaps) one two = absurd two
+
+  -- what the hall counts of a queue then
   takes_rise : (x y : PoolPart P H) → IsQueuePart x → IsQueuePart y → KeepsTakes x y → IsSmall x → rise (slice_index (part_counts x) queue_takes) (slice_index (part_counts y) queue_takes) ≡ 0
-  takes_rise (part.Queue q) (part.Queue r) one two same small = ap (λ (n : ℕ). rise q.takes n) same ∙ no_rise q.takes (small queue_takes)
-  takes_rise (part.Shard s) y one two same small = absurd one
-  takes_rise (part.Memory cell) y one two same small = absurd one
-  takes_rise (part.Table cell) y one two same small = absurd one
-  takes_rise (part.Stack cell) y one two same small = absurd one
-  takes_rise (part.Heaps heaps) y one two same small = absurd one
-  takes_rise (part.Queue q) (part.Shard s) one two same small = absurd two
-  takes_rise (part.Queue q) (part.Memory cell) one two same small = absurd two
-  takes_rise (part.Queue q) (part.Table cell) one two same small = absurd two
-  takes_rise (part.Queue q) (part.Stack cell) one two same small = absurd two
-  takes_rise (part.Queue q) (part.Heaps heaps) one two same small = absurd two
+  takes_rise = of_queues (λ x y. KeepsTakes x y → IsSmall x → rise (slice_index (part_counts x) queue_takes) (slice_index (part_counts y) queue_takes) ≡ 0)
+      (λ q r same small. ap (λ (n : ℕ). rise q.takes n) same ∙ no_rise q.takes (small queue_takes))
 
   pub appended_rises : (x y : PoolPart P H) → IsQueuePart x → IsQueuePart y → KeepsAppended x y → IsSmall x → rise (slice_index (part_counts x) queue_appended) (slice_index (part_counts y) queue_appended) ≡ 0
-  appended_rises (part.Queue q) (part.Queue r) one two same small = ap (λ (n : ℕ). rise q.appended n) same ∙ no_rise q.appended (small queue_appended)
-  appended_rises (part.Shard s) y one two same small = absurd one
-  appended_rises (part.Memory cell) y one two same small = absurd one
-  appended_rises (part.Table cell) y one two same small = absurd one
-  appended_rises (part.Stack cell) y one two same small = absurd one
-  appended_rises (part.Heaps heaps) y one two same small = absurd one
-  appended_rises (part.Queue q) (part.Shard s) one two same small = absurd two
-  appended_rises (part.Queue q) (part.Memory cell) one two same small = absurd two
-  appended_rises (part.Queue q) (part.Table cell) one two same small = absurd two
-  appended_rises (part.Queue q) (part.Stack cell) one two same small = absurd two
-  appended_rises (part.Queue q) (part.Heaps heaps) one two same small = absurd two
+  appended_rises = of_queues (λ x y. KeepsAppended x y → IsSmall x → rise (slice_index (part_counts x) queue_appended) (slice_index (part_counts y) queue_appended) ≡ 0)
+      (λ q r same small. ap (λ (n : ℕ). rise q.appended n) same ∙ no_rise q.appended (small queue_appended))
 
 module _ {T P H : Type 0} (about : T → About) (inner : T → PoolPart P H) (Passes : List Exchange → Type 0) (old new : PartyTold) (a : About) (v w : View T) (f next : Frame P H) (o : Option (Outcome P H)) (s : SeesStep about inner Passes old new a v w f next o) where
   -- What was put keeps these counts, where the phase doesn't change them.

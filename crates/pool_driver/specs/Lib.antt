@@ -11,6 +11,8 @@ pub mod Faults
 pub mod Growing
 pub mod Laws
 pub mod Limits
+pub mod ListedCalls
+pub mod Looking
 pub mod Origins
 pub mod PageFaults
 pub mod PartsTold

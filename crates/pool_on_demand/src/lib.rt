@@ -18,8 +18,9 @@
 mod allocator;
 mod on_demand;
 
-// What is granted
+// What is granted, and what is written into it
 mod lease;
+mod memories;
 
 // An instance: its memories and tables in order
 mod given_answer;
@@ -33,6 +34,9 @@ mod table;
 
 // Rules by which a module is refused
 mod validate;
+
+// Stacks by themselves, counted
+pub mod generic_stack_pool;
 
 pub use allocator::OnDemandSeat;
 pub use lease::{OnDemandHeap, OnDemandInstance, OnDemandMemory, OnDemandStack, OnDemandTable};

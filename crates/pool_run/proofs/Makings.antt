@@ -1,6 +1,7 @@
 -- The makings of an input's regions and images, among those that are listed.
 use Rattle.std.proofs.Common.{◌≡◌, ℕ, zero, suc, ◌+◌, ◌-◌, ◌<◌, ◌≤◌, List, [], ◌∷◌, ◌++◌, length, get_or, map, refl, sym, ap, ◌∙◌, subst, arith, inl, inr, Option, Some, None, Bool, true, false, Result, Err, ◌↔◌, ◌||◌, ◌&&◌, ◌==◌, not, is_some, nat_lt, ◌⊎◌, IfSome, IsSome, slice_get, if◌then◌else◌}
-use Rattle.pool_run.proofs.Imports.{list_all, list_any, range_with_len, cases_eq, cases_lt, cases_Bool, and_parts, eqb-true, ltb-true, lt-ltb, le-ltb, or_left, or_right, or_from, length-append, get_or_append_left, get_or-append_right, length-map-range_with_len, get_or-map-range_with_len, list_any-append, or_false, MakerTold, Planned, fails_making, calls_of, plan_for, Told, Rose, ModuleInfo, Tunables, ImageError, Unsupported, ImageOffset, Image, first_misplaced, ends_in_minimum, makes_listed_images, images_from, rounded_up_above, rounded_up, first_broken_rule, slab_stripes, may_stripe, stripe_colour, fails_first_call, fails_colouring, fails_region, FaultedColouring, nth_region, region_count, region_name, fails_slot, IsSlotGivenUp, stripe_of, PartSettings, QueueKind, OfKinds, slots_of, part_settings, lists_making, fails_slots, GivesUpRegion}
+use Rattle.pool_run.proofs.Imports.{list_all, list_any, range_with_len, cases_eq, cases_lt, cases_Bool, and_parts, eqb-true, ltb-true, lt-ltb, le-ltb, or_left, or_right, or_from, length-append, get_or_append_left, get_or-append_right, length-map-range_with_len, get_or-map-range_with_len, list_any-append, or_false, MakerTold, Planned, fails_making, calls_of, plan_for, Told, Rose, ModuleInfo, Tunables, ImageError, Unsupported, ImageOffset, Image, first_misplaced, ends_in_minimum, makes_listed_images, images_from, rounded_up_above, rounded_up, first_broken_rule, slab_stripes, may_stripe, stripe_colour, fails_first_call, fails_colouring, fails_region, FaultedColouring, nth_region, region_count, region_name, fails_slot, IsSlotGivenUp, stripe_of, PartSettings, QueueKind, OfKinds, slots_of, part_settings, lists_making, fails_slots, GivesUpRegion, failing_maker, planned_faults}
+use Rattle.pool_pages.specs.declared.fault_plan.Fault.{Fault}
 use Rattle.pool_pages.specs.declared.pages.RegionName.TheVariants.{Memory, Table, Stack}
 use Rattle.pool_images.specs.declared.memory_image.ImageError.TheVariants as unmade
 use Rattle.pool_slots.specs.declared.queued_range.QueueKind.TheVariants as of_queue
@@ -367,6 +368,13 @@ nothing_listed test input modules page (Some p) same is regions images =
     let Listed : List ModuleInfo → Type 0 = λ ms. images_listed input.tunables page 0 p ms ≡ false in
     let At : ℕ → Type 0 = λ n. images_listed input.tunables n 0 p input.modules ≡ false in
     or_from (list_any (test p) (makings_for input)) (images_listed input.tunables input.page 0 p input.modules) regions (subst At is (subst Listed same images))
+
+-- A maker before which these faults stand is that with the input's faults.
+pub made_with_faults : (input : Input) (maker made : MakerTold) (page : ℕ) (faults : List Fault) → made ≡ failing_maker maker page (planned_faults faults) maker.next maker.faults → page ≡ input.page → faults ≡ input.faults → made ≡ with_faults input maker
+made_with_faults input maker made page faults is paged listed =
+    is
+    ∙ ap (λ (n : ℕ). failing_maker maker n (planned_faults faults) maker.next maker.faults) paged
+    ∙ ap (λ (fs : List Fault). failing_maker maker input.page (planned_faults fs) maker.next maker.faults) listed
 
 -- A fault over the maker with the input's faults is one that the input lists, or one of the maker behind them.
 pub fault_of_run : {P : Type 0} (told : P → Told) (input : Input) (maker left before after : MakerTold) → before ≡ with_faults input maker → FaultsInMaking told input before after → after.behind ≡ left.faults → HasFaultedMaking told input maker left

@@ -10,6 +10,7 @@ pub mod GrowthEnds
 pub mod HeapFaults
 mod Imports
 pub mod InTime
+pub mod Kept
 pub mod Limits
 pub mod Made
 pub mod Needs

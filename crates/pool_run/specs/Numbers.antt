@@ -1,7 +1,25 @@
--- The numbers of a run: the calls on all regions, wherever they are.
+-- The numbers of a run: the calls on all regions, wherever they are; and those of a run that prints none.
 use Rattle.std.specs.Prelude.{List, fold, Option, Some, None}
-use Rattle.pool_run.specs.Imports.{table_calls, PageCalls, added, slot_of, calls_of_instance, calls_kept, calls_in_frame, PoolCore, Grant, instance, component, one_memory, one_table, stack, heap, PlainHeap}
+use Rattle.pool_run.specs.Imports.{table_calls, PageCalls, added, slot_of, calls_of_instance, calls_kept, calls_in_frame, PoolCore, Grant, instance, component, one_memory, one_table, stack, heap, heap_over, PlainHeap}
+use Rattle.pool_alloc.specs.declared.metrics.Metrics.{Metrics}
 use Rattle.pool_run.specs.declared.running_party.RunningParty.{RunningParty}
+
+-- The numbers of a run that prints none.
+abbrev pub no_metrics : Metrics
+no_metrics = record {
+  core_instances = 0;
+  component_instances = 0;
+  memories = 0;
+  tables = 0;
+  stacks = 0;
+  gc_heaps = 0;
+  unused_warm_memories = 0;
+  unused_memory_bytes_resident = 0;
+  unused_warm_tables = 0;
+  unused_table_bytes_resident = 0;
+  unused_warm_stacks = 0;
+  unused_stack_bytes_resident = None;
+}
 
 module _ {P : Type 0} where
   -- Page calls with those on the regions of a live grant.
@@ -13,6 +31,7 @@ module _ {P : Type 0} where
   with_grant calls (Some (one_table lease)) = added calls (table_calls lease)
   with_grant calls (Some (stack lease)) = added calls lease.stack.slot.region.calls
   with_grant calls (Some (heap lease memory)) = added calls (slot_of memory.memory).region.calls
+  with_grant calls (Some (heap_over lease)) = calls
 
   -- Page calls with those on all regions that a party has: in its frame and in its live grants.
   abbrev pub with_party : PageCalls → RunningParty P → PageCalls

@@ -10,7 +10,7 @@ ghost use Rattle.pool_run.specs.declared.reply.Reply.TheVariants.{Size};
 ghost use Rattle.pool_run.specs.Turns.{LeaseMoves, with_lease, private_memory, seen_stack, StackStateMoves, StackStateWrites, MovesLeasedBytes};
 
 use crate::act::MemoryOp;
-use crate::copies::zeros;
+use crate::buffers::zeros;
 use crate::input::PartyLimits;
 use crate::leases::Leases;
 use crate::limiter::limiter_of;
@@ -71,9 +71,8 @@ fn act_on_grant<P: Pages>(
 {
     match grant {
         Grant::Instance(lease) => act_on_instance(alloc, lease, memory, op, limits),
-        Grant::Component | Grant::Memory(_) | Grant::Table(_) => Reply::Refused(
-            Refusal::NoSuchGrant,
-        ),
+        Grant::Component | Grant::Memory(_) | Grant::Table(_) | Grant::HeapOver(_) =>
+            Reply::Refused(Refusal::NoSuchGrant),
         Grant::Stack(lease) => act_on_stack(alloc, &mut lease.stack, memory, op),
         Grant::Heap(_, lease) => act_on_heap(alloc, lease, memory, op, limits),
     }

@@ -1,3 +1,7 @@
+ghost use Rattle.std.specs.Prelude.{◌≡◌};
+ghost use Rattle.pool_pages.specs.MakerTold.{no_calls};
+ghost use Rattle.pool_run.specs.Numbers.{no_metrics};
+
 use crate::reply::ReplyList;
 use pool_alloc::Metrics;
 use pool_pages::PageCalls;
@@ -10,6 +14,35 @@ pub struct RunOutput {
     pub replies: PlainList<ReplyList>,
     pub metrics: Metrics,
     pub calls: PageCalls,
+}
+
+impl RunOutput {
+    /// The output of a run that prints no numbers: zeros, and no bytes of resident stacks.
+    pub fn without_numbers(replies: PlainList<ReplyList>) -> RunOutput
+        ensures replies { result.replies ≡ replies }
+        ensures metrics { result.metrics ≡ no_metrics }
+        ensures calls { result.calls ≡ no_calls }
+    {
+        let metrics = Metrics {
+            core_instances: 0,
+            component_instances: 0,
+            memories: 0,
+            tables: 0,
+            stacks: 0,
+            gc_heaps: 0,
+            unused_warm_memories: 0,
+            unused_memory_bytes_resident: 0,
+            unused_warm_tables: 0,
+            unused_table_bytes_resident: 0,
+            unused_warm_stacks: 0,
+            unused_stack_bytes_resident: None,
+        };
+        RunOutput {
+            replies,
+            metrics,
+            calls: PageCalls::none(),
+        }
+    }
 }
 
 /// Why nothing was run.

@@ -1,7 +1,7 @@
 -- A run on demand leaves out those of its input's faults that are for the last numbers of regions and calls. What the others plan
 -- is what all of them plan but for these, and what holds of a run over a maker with the others is said of one with all.
-use Rattle.std.proofs.Common.{◌≡◌, ℕ, ◌+◌, ◌≤◌, Bool, true, false, cond, List, [], ◌∷◌, filter, Option, Some, None, Result, Ok, Err, ◌⊎◌, inl, inr, refl, sym, ap, ◌∙◌, subst, arith, is_some, ◌&&◌, ◌||◌, ◌==◌, if◌then◌else◌, IfOk, IfSome, sum}
-use Rattle.pool_run_on_demand.proofs.Imports.{list_any, cons_option, option_map_or, and_parts, and_from, MakerTold, Planned, on_region, on_images, failing_maker, planned_faults, Rose, MemoryDecl, ModuleInfo, Tunables, has_images, ModulesFault, images_listed, with_faults, Input}
+use Rattle.std.proofs.Common.{◌≡◌, ℕ, ◌+◌, ◌-◌, ◌^◌, ◌≤◌, nat_lt, not, Bool, true, false, cond, List, [], ◌∷◌, filter, Option, Some, None, Result, Ok, Err, ◌⊎◌, inl, inr, refl, sym, ap, ◌∙◌, subst, arith, is_some, ◌&&◌, ◌||◌, ◌==◌, if◌then◌else◌, IfOk, IfSome, sum}
+use Rattle.pool_run_on_demand.proofs.Imports.{list_any, cons_option, option_map_or, and_parts, and_from, MakerTold, Planned, on_region, on_images, Memory, Table, OnDemand, one_if, failing_maker, planned_faults, Rose, MemoryDecl, ModuleInfo, Tunables, has_images, ModulesFault, images_listed, with_faults, Input}
 use Rattle.pool_images.specs.Images.{makes_listed_images}
 use Rattle.pool_pages.specs.FaultPlans.{planned_as, planned_of}
 use Rattle.pool_pages.specs.MakerTold.{fails_images}
@@ -9,21 +9,43 @@ use Rattle.pool_pages.specs.Told.{joined_plan}
 use Rattle.pool_pages.specs.declared.fault_plan.Fault.{Fault}
 use Rattle.pool_pages.specs.declared.fault_plan.FaultKind.{FaultKind}
 use Rattle.pool_pages.specs.declared.fault_plan.FaultKind.TheVariants as as_kind
+use Rattle.pool_pages.specs.declared.pages.RegionName.TheVariants.{Stack}
 use Rattle.pool_run.specs.declared.output.RunFault.{RunFault}
 use Rattle.pool_run.specs.declared.output.RunOutput.{RunOutput}
-use Rattle.pool_run_on_demand.specs.Faults.{AreListed, IsCounted, can_come, comes_by, ends_before_last, is_before_last, listed_from}
+use Rattle.pool_run.specs.Kept.{can_come, comes_by}
+use Rattle.pool_run_on_demand.specs.Faults.{AreListed, IsCounted, ends_before_last, is_before_last, is_from, listed_from, same_entry}
 use Rattle.pool_run_on_demand.specs.Runs.{HasFaultedImages, IsOnDemand}
+use Rattle.pool_run_on_demand.proofs.Spending.{comes_again, none_more, once_first}
+
+-- An entry is for a number before the last, whatever region it is for.
+abbrev pub comes : Planned → Bool
+comes (on_region (OnDemand n) call) = nat_lt n (2 ^ 32 - 1) && nat_lt call (2 ^ 64 - 1)
+comes (on_region (Memory n) call) = nat_lt call (2 ^ 64 - 1)
+comes (on_region (Table n) call) = nat_lt call (2 ^ 64 - 1)
+comes (on_region (Stack n) call) = nat_lt call (2 ^ 64 - 1)
+comes (on_images m) = true
 
 -- what comes of a plan
 abbrev pub coming : List Planned → List Planned
-coming plan = filter is_before_last plan
+coming plan = filter comes plan
+
+-- what lists no last number for regions on demand
+abbrev ending : List Planned → List Planned
+ending plan = filter is_before_last plan
+
+ends_so : (e : Planned) → comes e ≡ true → is_before_last e ≡ true
+ends_so (on_region (OnDemand n) call) is = is
+ends_so (on_region (Memory n) call) is = refl
+ends_so (on_region (Table n) call) is = refl
+ends_so (on_region (Stack n) call) is = refl
+ends_so (on_images m) is = refl
 
 -- An entry can come true where what it plans is before the last numbers, or where it plans nothing.
-image_comes : (b : Bool) (slot : ℕ) → option_map_or is_before_last (if b then Some (on_images slot) else None) true ≡ true
+image_comes : (b : Bool) (slot : ℕ) → option_map_or comes (if b then Some (on_images slot) else None) true ≡ true
 image_comes true slot = refl
 image_comes false slot = refl
 
-comes_planned : (kind : FaultKind) (slot call : ℕ) → comes_by kind slot call ≡ option_map_or is_before_last (planned_as kind slot call) true
+comes_planned : (kind : FaultKind) (slot call : ℕ) → comes_by kind slot call ≡ option_map_or comes (planned_as kind slot call) true
 comes_planned as_kind.Memory slot call = refl
 comes_planned as_kind.Table slot call = refl
 comes_planned as_kind.Stack slot call = refl
@@ -44,8 +66,8 @@ kept_planned (f ∷ fs) = by (planned_of f) refl (kept_planned fs)
     kept : List Fault
     kept = filter can_come fs
 
-    here : (o : Option Planned) → planned_of f ≡ o → can_come f ≡ option_map_or is_before_last o true
-    here o is = comes_planned f.kind f.slot f.call ∙ ap (λ (x : Option Planned). option_map_or is_before_last x true) is
+    here : (o : Option Planned) → planned_of f ≡ o → can_come f ≡ option_map_or comes o true
+    here o is = comes_planned f.kind f.slot f.call ∙ ap (λ (x : Option Planned). option_map_or comes x true) is
 
     one : (b : Bool) (e : Planned) → planned_of f ≡ Some e → planned_faults kept ≡ coming (planned_faults fs) → planned_faults (cond b (f ∷ kept) kept) ≡ cond b (e ∷ coming (planned_faults fs)) (coming (planned_faults fs))
     one true e is rest = plans_one f kept e is ∙ ap (λ (plan : List Planned). e ∷ plan) rest
@@ -55,22 +77,71 @@ kept_planned (f ∷ fs) = by (planned_of f) refl (kept_planned fs)
     by None is rest =
         ap (λ (b : Bool). planned_faults (cond b (f ∷ kept) kept)) (here None is) ∙ plans_none f kept is ∙ rest ∙ sym (ap coming (plans_none f fs is))
     by (Some e) is rest =
-        ap (λ (b : Bool). planned_faults (cond b (f ∷ kept) kept)) (here (Some e) is) ∙ one (is_before_last e) e is rest ∙ sym (ap coming (plans_one f fs e is))
+        ap (λ (b : Bool). planned_faults (cond b (f ∷ kept) kept)) (here (Some e) is) ∙ one (comes e) e is rest ∙ sym (ap coming (plans_one f fs e is))
 
 -- What comes has no entry for a last number, and where there is none all comes.
-first_ends : (b : Bool) (e : Planned) (plan : List Planned) → is_before_last e ≡ b → ends_before_last plan ≡ true → ends_before_last (cond b (e ∷ plan) plan) ≡ true
-first_ends true e plan is rest = and_from (is_before_last e) (ends_before_last plan) is rest
+first_ends : (b : Bool) (e : Planned) (plan : List Planned) → comes e ≡ b → ends_before_last plan ≡ true → ends_before_last (cond b (e ∷ plan) plan) ≡ true
+first_ends true e plan is rest = and_from (is_before_last e) (ends_before_last plan) (ends_so e is) rest
 first_ends false e plan is rest = rest
 
 pub coming_ends : (plan : List Planned) → ends_before_last (coming plan) ≡ true
 coming_ends [] = refl
-coming_ends (e ∷ plan) = first_ends (is_before_last e) e (coming plan) refl (coming_ends plan)
+coming_ends (e ∷ plan) = first_ends (comes e) e (coming plan) refl (coming_ends plan)
 
-pub all_come : (plan : List Planned) → ends_before_last plan ≡ true → coming plan ≡ plan
-all_come [] ends = refl
-all_come (e ∷ plan) ends =
+all_end : (plan : List Planned) → ends_before_last plan ≡ true → ending plan ≡ plan
+all_end [] ends = refl
+all_end (e ∷ plan) ends =
     let parts = and_parts (is_before_last e) (ends_before_last plan) ends in
-    ap (λ (b : Bool). cond b (e ∷ coming plan) (coming plan)) parts.0 ∙ ap (λ (rest : List Planned). e ∷ rest) (all_come plan parts.1)
+    ap (λ (b : Bool). cond b (e ∷ ending plan) (ending plan)) parts.0 ∙ ap (λ (rest : List Planned). e ∷ rest) (all_end plan parts.1)
+
+-- Entries for a pool's regions are not counted, and list nothing again that is.
+again_with : (f : Planned → Bool) (b : Bool) (e : Planned) (xs ys : List Planned) → list_any f xs ≡ list_any f ys → list_any f (cond b (e ∷ xs) xs) ≡ list_any f (cond b (e ∷ ys) ys)
+again_with f true e xs ys same = ap (λ (c : Bool). f e || c) same
+again_with f false e xs ys same = same
+
+again_without : (f : Planned → Bool) (b : Bool) (e : Planned) (xs ys : List Planned) → f e ≡ false → list_any f xs ≡ list_any f ys → list_any f (cond b (e ∷ xs) xs) ≡ (f e || list_any f ys)
+again_without f true e xs ys none same = ap (λ (c : Bool). f e || c) same
+again_without f false e xs ys none same = same ∙ sym (ap (λ (c : Bool). c || list_any f ys) none)
+
+same_again : (n call : ℕ) (plan : List Planned) → comes_again same_entry (on_region (OnDemand n) call) (coming plan) ≡ comes_again same_entry (on_region (OnDemand n) call) (ending plan)
+same_again n call [] = refl
+same_again n call (on_images m ∷ plan) = same_again n call plan
+same_again n call (on_region (OnDemand m) other ∷ plan) =
+    again_with (λ (y : Planned). same_entry y (on_region (OnDemand n) call)) (nat_lt m (2 ^ 32 - 1) && nat_lt other (2 ^ 64 - 1)) (on_region (OnDemand m) other) (coming plan) (ending plan) (same_again n call plan)
+same_again n call (on_region (Memory m) other ∷ plan) =
+    again_without (λ (y : Planned). same_entry y (on_region (OnDemand n) call)) (nat_lt other (2 ^ 64 - 1)) (on_region (Memory m) other) (coming plan) (ending plan) refl (same_again n call plan)
+same_again n call (on_region (Table m) other ∷ plan) =
+    again_without (λ (y : Planned). same_entry y (on_region (OnDemand n) call)) (nat_lt other (2 ^ 64 - 1)) (on_region (Table m) other) (coming plan) (ending plan) refl (same_again n call plan)
+same_again n call (on_region (Stack m) other ∷ plan) =
+    again_without (λ (y : Planned). same_entry y (on_region (OnDemand n) call)) (nat_lt other (2 ^ 64 - 1)) (on_region (Stack m) other) (coming plan) (ending plan) refl (same_again n call plan)
+
+counted_with : (next : ℕ) (b : Bool) (e : Planned) (xs ys : List Planned) → comes_again same_entry e xs ≡ comes_again same_entry e ys → listed_from next xs ≡ listed_from next ys → listed_from next (cond b (e ∷ xs) xs) ≡ listed_from next (cond b (e ∷ ys) ys)
+counted_with next true e xs ys again same =
+    once_first same_entry (is_from next) e xs
+    ∙ ap (λ (c : Bool). one_if (not c && is_from next e) + listed_from next xs) again
+    ∙ ap (λ (n : ℕ). one_if (not (comes_again same_entry e ys) && is_from next e) + n) same
+    ∙ sym (once_first same_entry (is_from next) e ys)
+counted_with next false e xs ys again same = same
+
+not_counted : (next : ℕ) (b : Bool) (e : Planned) (xs : List Planned) → is_from next e ≡ false → listed_from next (cond b (e ∷ xs) xs) ≡ listed_from next xs
+not_counted next true e xs none =
+    let first = once_first same_entry (is_from next) e xs in
+    let here : one_if (not (comes_again same_entry e xs) && is_from next e) ≡ 0 = ap (λ (c : Bool). one_if (not (comes_again same_entry e xs) && c)) none ∙ none_more (comes_again same_entry e xs) in
+    omega (arith, first, here)
+not_counted next false e xs none = refl
+
+same_listed : (next : ℕ) (plan : List Planned) → listed_from next (coming plan) ≡ listed_from next (ending plan)
+same_listed next [] = refl
+same_listed next (on_images m ∷ plan) =
+    not_counted next true (on_images m) (coming plan) refl ∙ same_listed next plan ∙ sym (not_counted next true (on_images m) (ending plan) refl)
+same_listed next (on_region (OnDemand n) call ∷ plan) =
+    counted_with next (nat_lt n (2 ^ 32 - 1) && nat_lt call (2 ^ 64 - 1)) (on_region (OnDemand n) call) (coming plan) (ending plan) (same_again n call plan) (same_listed next plan)
+same_listed next (on_region (Memory n) call ∷ plan) =
+    not_counted next (nat_lt call (2 ^ 64 - 1)) (on_region (Memory n) call) (coming plan) refl ∙ same_listed next plan ∙ sym (not_counted next true (on_region (Memory n) call) (ending plan) refl)
+same_listed next (on_region (Table n) call ∷ plan) =
+    not_counted next (nat_lt call (2 ^ 64 - 1)) (on_region (Table n) call) (coming plan) refl ∙ same_listed next plan ∙ sym (not_counted next true (on_region (Table n) call) (ending plan) refl)
+same_listed next (on_region (Stack n) call ∷ plan) =
+    not_counted next (nat_lt call (2 ^ 64 - 1)) (on_region (Stack n) call) (coming plan) refl ∙ same_listed next plan ∙ sym (not_counted next true (on_region (Stack n) call) (ending plan) refl)
 
 -- What pays for the faults of a plan without last numbers has as many that come, if its own list has none of these.
 pub counted_paid : (maker : MakerTold) (plan : List Planned) (met left later : ℕ) → ends_before_last maker.listed ≡ true → (ends_before_last plan ≡ true → met + (left + later) ≤ 0 + listed_from maker.next plan) → IsCounted maker plan → AreListed maker.next plan met
@@ -79,13 +150,13 @@ counted_paid maker plan met left later own paid counted =
       | inl same ↦ ap ends_before_last same ∙ own
       | inr is ↦ is
     ] in
-    subst (λ (p : List Planned). met ≤ listed_from maker.next p) (sym (all_come plan ends)) (omega (arith, paid ends))
+    subst (λ (p : List Planned). met ≤ listed_from maker.next p) (sym (all_end plan ends)) (omega (arith, paid ends))
 
 -- The makings of images that are listed come.
 images_come : (id : ℕ) (plan : List Planned) → fails_images id (coming plan) ≡ fails_images id plan
 images_come id [] = refl
 images_come id (on_images m ∷ plan) = ap (λ (b : Bool). (id == m) || b) (images_come id plan)
-images_come id (on_region of call ∷ plan) = by (is_before_last (on_region of call)) (images_come id plan)
+images_come id (on_region of call ∷ plan) = by (comes (on_region of call)) (images_come id plan)
   where
     by : (b : Bool) → fails_images id (coming plan) ≡ fails_images id plan → fails_images id (cond b (on_region of call ∷ coming plan) (coming plan)) ≡ fails_images id plan
     by true rest = rest
@@ -123,7 +194,9 @@ module _ (input : Input) (behind : MakerTold) where
   counted : (met : ℕ) → IfSome with_coming.plan (λ plan. IsCounted with_coming plan → AreListed behind.next plan met) → IfSome (with_faults input behind).plan (λ plan. IsCounted (with_faults input behind) plan → AreListed behind.next plan met)
   counted met is =
       told_all behind.plan listed (λ plan. IsCounted with_coming plan → AreListed behind.next plan met) (λ plan. IsCounted (with_faults input behind) plan → AreListed behind.next plan met)
-      (λ few own. subst (λ (plan : List Planned). met ≤ listed_from behind.next plan) (all_come (coming listed) (coming_ends listed)) (few (inl refl)))
+      (λ few own.
+      let some : met ≤ listed_from behind.next (coming listed) = subst (λ (plan : List Planned). met ≤ listed_from behind.next plan) (all_end (coming listed) (coming_ends listed)) (few (inl refl)) in
+      omega (arith, some, same_listed behind.next listed))
       (λ plan none few own. few (elim own [
         | inl same ↦ inl (same ∙ none ∙ sym (ap coming none))
         | inr ends ↦ inr ends

@@ -45,10 +45,10 @@ pub counted_first : {X : Type 0} (p : X → Bool) (x : X) (xs : List X) → coun
 counted_first p x xs = sum_by-cons (λ y. one_if (p y)) x xs
 
 -- Of different elements: how many pass with one more at the front, which isn't counted where it comes again.
-abbrev comes_again : {X : Type 0} → (X → X → Bool) → X → List X → Bool
+abbrev pub comes_again : {X : Type 0} → (X → X → Bool) → X → List X → Bool
 comes_again same x xs = list_any (λ y. same y x) xs
 
-once_first : {X : Type 0} (same : X → X → Bool) (p : X → Bool) (x : X) (xs : List X) → count_by p (once same (x ∷ xs)) ≡ one_if (not (comes_again same x xs) && p x) + count_by p (once same xs)
+pub once_first : {X : Type 0} (same : X → X → Bool) (p : X → Bool) (x : X) (xs : List X) → count_by p (once same (x ∷ xs)) ≡ one_if (not (comes_again same x xs) && p x) + count_by p (once same xs)
 once_first same p x xs = by (comes_again same x xs)
   where
     by : (b : Bool) → count_by p (if b then once same xs else x ∷ once same xs) ≡ one_if (not b && p x) + count_by p (once same xs)
@@ -112,7 +112,7 @@ same_calls n call (on_region name other ∷ plan) = by (same_name (OnDemand n) n
     by true rest = ap (λ (b : Bool). (other == call) || b) rest
     by false rest = rest
 
-none_more : (b : Bool) → one_if (not b && false) ≡ 0
+pub none_more : (b : Bool) → one_if (not b && false) ≡ 0
 none_more true = refl
 none_more false = refl
 

@@ -1,8 +1,7 @@
 -- How many of a run's replies tell of a fault, where memories are made on demand, and how many different calls on regions on
 -- demand a plan lists.
 use Rattle.std.specs.Prelude.{◌≡◌, ℕ, ◌+◌, ◌-◌, ◌^◌, ◌≤◌, ◌==◌, ◌⊎◌, List, [], ◌∷◌, filter, count_by, nat_le, nat_lt, ◌&&◌, ◌||◌, if◌then◌else◌, Bool, true, false, Option, None, slice_get}
-use Rattle.pool_run_on_demand.specs.Imports.{list_all, list_any, option_map_or, Fault, FaultKind, MakerTold, Planned, on_region, on_images, same_name, minimum_byte_size, MemoryTunables, GcHeap, MemoryType, OnDemand, one_if, GrowthRule, layout_len, first_layout, moved_layout, maximum_asked, extra_on_growth, PageFault, MemoryOp, grows, Act, requests, on_memory, act_of, GrowthEnd, has_grown, PrivateMemory, PrivateGrant, heap_grant, memories_named_in, PrivateState, Grants, grant_at, growth, size_wanted, Terms, with_grants, no_grants, Command, Reply, Grown, Refused, Alloc}
-use Rattle.pool_pages.specs.declared.fault_plan.FaultKind.TheVariants as as_kind
+use Rattle.pool_run_on_demand.specs.Imports.{list_all, list_any, option_map_or, MakerTold, Planned, on_region, on_images, same_name, minimum_byte_size, MemoryTunables, GcHeap, MemoryType, OnDemand, one_if, GrowthRule, layout_len, first_layout, moved_layout, maximum_asked, extra_on_growth, PageFault, MemoryOp, grows, Act, requests, on_memory, act_of, GrowthEnd, has_grown, PrivateMemory, PrivateGrant, heap_grant, memories_named_in, PrivateState, Grants, grant_at, growth, size_wanted, Terms, with_grants, no_grants, Command, Reply, Grown, Refused, Alloc}
 use Rattle.pool_slots.specs.declared.errors.AllocError.TheVariants as alloc
 use Rattle.pool_run_on_demand.specs.OnDemand.{StepOnDemand}
 
@@ -35,15 +34,6 @@ is_before_last _ = true
 -- The plan lists no call by the last number that a count can have, which would stand for all later ones.
 abbrev pub ends_before_last : List Planned → Bool
 ends_before_last plan = list_all is_before_last plan
-
--- an entry of an input that has these can come true: its numbers are before the last ones, where it is for regions on demand
-abbrev pub comes_by : FaultKind → ℕ → ℕ → Bool
-comes_by as_kind.OnDemand slot call = nat_lt slot (2 ^ 32 - 1) && nat_lt call (2 ^ 64 - 1)
-comes_by _ slot call = true
-
--- An entry of an input can come true.
-abbrev pub can_come : Fault → Bool
-can_come fault = comes_by fault.kind fault.slot fault.call
 
 -- So many faults are as many as a plan lists different makings of regions on demand and calls on them, or fewer: of those from
 -- a number on, and before the last numbers.

@@ -6,7 +6,6 @@ pub use Rattle.pool_alloc.specs.Refusals.{first_refused, offset_refused}
 pub use Rattle.pool_alloc.specs.Requests.{IsModule}
 pub use Rattle.pool_alloc.specs.TableLeases.{HasType}
 pub use Rattle.pool_alloc.specs.WantedObjects.{MemoryWant, Want, new_heap, new_memory, new_stack, new_table}
-pub use Rattle.pool_alloc.specs.declared.metrics.Metrics.{Metrics}
 pub use Rattle.pool_images.specs.Images.{Image, start}
 pub use Rattle.pool_images.specs.Slots.{Slot}
 pub use Rattle.pool_index.specs.Shard.{one_if}
@@ -31,8 +30,6 @@ pub use Rattle.pool_on_demand.specs.declared.lease.OnDemandTable.{OnDemandTable}
 pub use Rattle.pool_on_demand.specs.declared.on_demand.OnDemandInstanceAllocator.{OnDemandInstanceAllocator}
 pub use Rattle.pool_pages.specs.FaultPlans.{planned_faults}
 pub use Rattle.pool_pages.specs.MakerTold.{MakerTold, Planned, no_calls, on_images, on_region, same_name}
-pub use Rattle.pool_pages.specs.declared.fault_plan.Fault.{Fault}
-pub use Rattle.pool_pages.specs.declared.fault_plan.FaultKind.{FaultKind}
 pub use Rattle.pool_pages.specs.declared.pages.RegionName.TheVariants.{OnDemand}
 pub use Rattle.pool_run.specs.Acts.{Act, MemoryOp, TableOp, Wanted, a_component, a_heap, a_stack, act_of, an_instance, drops, grows, heap_type, lengthens, on_memory, on_table, purges, releases, requests}
 pub use Rattle.pool_run.specs.Folds.{commands_of, replies_to}

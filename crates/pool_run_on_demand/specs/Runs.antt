@@ -1,6 +1,7 @@
 -- What a run of an input is over an allocator that makes each memory, table, stack and heap for the request that asks for it.
-use Rattle.std.specs.Prelude.{◌≡◌, ℕ, ◌+◌, ◌<◌, ◌≤◌, ◌==◌, ◌⊎◌, List, length, count_by, sum_by, sum, min, slice_index_or, if◌then◌else◌, Bool, true, false, None, IfSome}
-use Rattle.pool_run_on_demand.specs.Imports.{planned_faults, MakerTold, no_calls, Rose, ModuleAsked, Metrics, commands_of, replies_to, IsSameMaker, host_of, Terms, with_grants, no_grants, Command, World, under, open_host, world_of, with_faults, images_listed, commands_in, turns_of, NameModules, Input, RunOutput, Reply}
+use Rattle.std.specs.Prelude.{◌≡◌, ℕ, ◌+◌, ◌<◌, ◌≤◌, ◌==◌, ◌⊎◌, List, length, count_by, sum_by, sum, min, slice_index_or, if◌then◌else◌, Bool, true, false, IfSome}
+use Rattle.pool_run_on_demand.specs.Imports.{planned_faults, MakerTold, no_calls, Rose, ModuleAsked, commands_of, replies_to, IsSameMaker, host_of, Terms, with_grants, no_grants, Command, World, under, open_host, world_of, with_faults, images_listed, commands_in, turns_of, NameModules, Input, RunOutput, Reply}
+use Rattle.pool_run.specs.Numbers.{no_metrics}
 use Rattle.pool_run_on_demand.specs.Faults.{AreListed, IsCounted, StepsMeeting, IsRunOnDemand}
 use Rattle.pool_run_on_demand.specs.Left.{live_left, AreLaidLive, laying_of, Spends}
 use Rattle.pool_run_on_demand.specs.Seen.{AreCallsOnDemand, AreLive, state_seen}
@@ -84,23 +85,6 @@ module _ {M P : Type 0} where
   -- Each of the first so many parties has a reply to each of its commands.
   abbrev pub HaveAll : Input → ℕ → List (PartyOnDemand M P) → Type 0
   HaveAll input count parties = (i : ℕ) (d : PartyOnDemand M P) → i < count → replies_told parties i d ≡ length (commands_of (commands_in input.parties) i)
-
--- the numbers of a pool, where there is none
-abbrev pub no_metrics : Metrics
-no_metrics = record {
-  core_instances = 0;
-  component_instances = 0;
-  memories = 0;
-  tables = 0;
-  stacks = 0;
-  gc_heaps = 0;
-  unused_warm_memories = 0;
-  unused_memory_bytes_resident = 0;
-  unused_warm_tables = 0;
-  unused_table_bytes_resident = 0;
-  unused_warm_stacks = 0;
-  unused_stack_bytes_resident = None;
-}
 
 -- What each party was told is a private run of its commands, with as many replies as are due. All of them met at most as many
 -- faults as the maker's plan lists different makings of regions on demand, and calls on them; entries for last numbers aren't

@@ -3,10 +3,12 @@ ghost use Rattle.pool_pages.specs.MakerTold.{MakerTold, no_calls};
 ghost use Rattle.pool_types.specs.declared.bad_config.BadConfig.{BadConfig};
 ghost use Rattle.pool_run.specs.Built.{broken_rule, is_built};
 ghost use Rattle.pool_run.specs.Made.{calls_made};
-ghost use Rattle.pool_run_on_demand.specs.Faults.{can_come, ends_before_last};
-ghost use Rattle.pool_run_on_demand.specs.Runs.{AreToldOnDemand, ArePartiesOnDemand, HasFaultedImages, HaveStepped, HaveAll, HaveNone, IsBackground, IsOnDemand, no_metrics, steps_in, steps_of};
+ghost use Rattle.pool_run_on_demand.specs.Faults.{ends_before_last};
+ghost use Rattle.pool_run_on_demand.specs.Runs.{AreToldOnDemand, ArePartiesOnDemand, HasFaultedImages, HaveStepped, HaveAll, HaveNone, IsBackground, IsOnDemand, steps_in, steps_of};
 ghost use Rattle.pool_run_on_demand.specs.Seen.{IsAllocatorFor};
 ghost use Rattle.pool_run.specs.Folds.{commands_of};
+ghost use Rattle.pool_run.specs.Kept.{can_come};
+ghost use Rattle.pool_run.specs.Numbers.{no_metrics};
 ghost use Rattle.pool_run.specs.PartyRules.{host_for};
 ghost use Rattle.pool_run.specs.Rooms.{World};
 ghost use Rattle.pool_run.specs.RunsMade.{commands_in};
@@ -15,11 +17,14 @@ ghost use Rattle.pool_run.specs.Schedules.{turns_of};
 ghost use Rattle.pool_run.specs.Validity.{is_valid};
 
 use crate::party::{PartyOnDemand, make_party_on_demand, turn_on_demand};
-use pool_alloc::{Metrics, ModuleCall};
+use pool_alloc::ModuleCall;
 use pool_memory::DefaultMemoryCreator;
 use pool_on_demand::{OnDemandInstanceAllocator, OnDemandSeat};
-use pool_pages::{FailingMaker, Fault, FaultKind, PageCalls, PageMaker};
-use pool_run::{Input, Party, ReplyList, RunFault, RunOutput, ScheduleEntry, is_valid, make_calls};
+use pool_pages::{FailingMaker, Fault, PageMaker};
+use pool_run::{
+    Input, Party, ReplyList, RunFault, RunOutput, ScheduleEntry, faults_that_come, is_valid,
+    make_calls, without_memory,
+};
 use pool_types::{PageSize, PlainList};
 use std::alloc::{AllocError, Global};
 
@@ -163,25 +168,6 @@ fn finish<M: PageMaker>(
     }
 }
 
-fn no_metrics() -> Metrics
-    ensures { result ≡ no_metrics }
-{
-    Metrics {
-        core_instances: 0,
-        component_instances: 0,
-        memories: 0,
-        tables: 0,
-        stacks: 0,
-        gc_heaps: 0,
-        unused_warm_memories: 0,
-        unused_memory_bytes_resident: 0,
-        unused_warm_tables: 0,
-        unused_table_bytes_resident: 0,
-        unused_warm_stacks: 0,
-        unused_stack_bytes_resident: None,
-    }
-}
-
 // The replies to each party, in a list that has room for them.
 fn replies_of<M: PageMaker>(
     parties: Vec<PartyOnDemand<M>>,
@@ -238,11 +224,7 @@ fn run_over<M: PageMaker>(
     if input.finish {
         finish(alloc, input, &allocator, seat, calls, &mut made);
     }
-    Ok(RunOutput {
-        replies: replies_of(made, lists),
-        metrics: no_metrics(),
-        calls: PageCalls::none(),
-    })
+    Ok(RunOutput::without_numbers(replies_of(made, lists)))
 }
 
 // Makes the images of the modules, and runs the input, where no rule of its settings is broken.
@@ -296,52 +278,6 @@ fn run_seated<M: PageMaker>(
     ensures refused { IfErr result (NamesRule (broken_rule input.now)) }
 {
     run_in_seat(alloc, input, seat)
-}
-
-// Whether an entry can come true: one for regions on demand may, if its numbers are below the last that a region and a call can
-// have. No run gets to these.
-fn can_come(fault: &Fault) -> bool
-    ensures { result ≡ can_come fault.now }
-{
-    match fault.kind {
-        FaultKind::OnDemand => fault.slot < u32::MAX as u64 && fault.call < u64::MAX,
-        FaultKind::Memory | FaultKind::Table | FaultKind::Stack | FaultKind::Image => true,
-    }
-}
-
-// Adds an entry that can come true.
-fn keep(kept: &mut Vec<Fault>, fault: Fault) -> Result<(), AllocError>
-    ensures kept { IfOk result (λ _. kept.new.items ≡ kept.old.items ++ cond (can_come fault) (fault ∷ []) []) }
-{
-    if !can_come(&fault) {
-        return Ok(());
-    }
-    kept.push(fault)?;
-    Ok(())
-}
-
-// The entries that can come true.
-fn faults_that_come(alloc: Global, faults: &[Fault]) -> Result<Vec<Fault>, AllocError>
-    ensures kept { IfOk result (λ v. v.items ≡ filter can_come faults.now) }
-{
-    let mut kept = Vec::with_capacity(alloc, faults.len())?;
-    for at in 0..faults.len() {
-        keep(&mut kept, faults[at])?;
-    }
-    Ok(kept)
-}
-
-// What a run is refused with that finds no memory before its settings are tested.
-fn without_memory(input: &Input) -> RunFault
-    requires built { is_built input.now ≡ true }
-    ensures refused { NamesRule (broken_rule input.now) result }
-    ensures other { result ≢ RunFault.PageFault }
-{
-    let config = &input.config;
-    match config.check_rules(&input.tunables, input.page, input.shards, &input.offered) {
-        Err(rule) => RunFault::BadConfig(rule),
-        Ok(_) => RunFault::Memory,
-    }
 }
 
 // Runs the input over a maker before which these faults stand.

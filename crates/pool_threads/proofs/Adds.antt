@@ -17,7 +17,7 @@ use Rattle.pool_alloc.specs.StepReads.{allocator_of}
 use Rattle.pool_driver.specs.PageFaults.{CellFaulted, cell_faults}
 use Rattle.pool_driver.specs.Telling.{component_counter, instance_counter, queue_takes}
 use Rattle.pool_threads.specs.Asked.{Scarce, slots, instances, components}
-use Rattle.pool_threads.specs.Noted.{Grows, HasNotedCell, Notes, OverTimes, RoomTimes, fault_rise, faults_in, is_memory_cell, spent}
+use Rattle.pool_threads.specs.Noted.{Grows, HasNotedCell, Notes, OverTimes, RoomTimes, fault_rise, is_memory_cell, memory_faults, spent}
 
 -- a number is that of two cases, of which the second stands for it
 two_ways : (b : Bool) (x y : ℕ) → (b ≡ true → y ≡ x) → y ≡ (if b then 0 else y) + (if b then x else 0)
@@ -62,7 +62,7 @@ module _ {T : Type 0} where
   counted_more v w grows p i = grows.rises (rise_at p i)
 
   -- A fault more at the cell of a memory slot is one more of all.
-  pub fault_more : (plan : Plan) (v w : View T) (slot : SlotName) (place : ℕ) → slot.kind ≡ memory_kind → role_at plan place ≡ cell_role slot → Grows v w → number (counted place cell_faults) v + 1 ≤ number (counted place cell_faults) w → faults_in plan v + 1 ≤ faults_in plan w
+  pub fault_more : (plan : Plan) (v w : View T) (slot : SlotName) (place : ℕ) → slot.kind ≡ memory_kind → role_at plan place ≡ cell_role slot → Grows v w → number (counted place cell_faults) v + 1 ≤ number (counted place cell_faults) w → memory_faults plan v + 1 ≤ memory_faults plan w
   fault_more plan v w slot place kind cell grows more =
       let before = all_faults plan place slot kind cell v.rises in
       let after = all_faults plan place slot kind cell w.rises in
@@ -73,7 +73,7 @@ module _ {T : Type 0} where
   cell_noted plan v w grows is = record { slot = is.slot; kind = is.kind; place = is.place; cell = is.cell; noted = omega (arith, is.noted, grows.noted is.place) }
 
   -- What a call that is refused for a failed page call tells.
-  pub fault_told : (plan : Plan) (v w : View T) → Grows v w → CellFaulted v w plan → (faults_in plan v + 1 ≤ faults_in plan w) ⊎ HasNotedCell plan w
+  pub fault_told : (plan : Plan) (v w : View T) → Grows v w → CellFaulted v w plan → (memory_faults plan v + 1 ≤ memory_faults plan w) ⊎ HasNotedCell plan w
   fault_told plan v w grows told =
       elim told.faulted [
         | inl more ↦ inl (fault_more plan v w told.slot told.place told.kind told.cell grows more)
@@ -107,7 +107,7 @@ module _ {T : Type 0} where
   over_less : (u v : View T) (c m n : ℕ) → n ≤ m → OverTimes u v c m → OverTimes u v c n
   over_less u v c m n less one = record { over = omega (arith, less, one.over); counted_off = omega (arith, less, one.counted_off) }
 
-  faults_add : (plan : Plan) (m n : ℕ) (u v w : View T) → Grows v w → (faults_in plan u + m ≤ faults_in plan v) ⊎ HasNotedCell plan v → (faults_in plan v + n ≤ faults_in plan w) ⊎ HasNotedCell plan w → (faults_in plan u + (m + n) ≤ faults_in plan w) ⊎ HasNotedCell plan w
+  faults_add : (plan : Plan) (m n : ℕ) (u v w : View T) → Grows v w → (memory_faults plan u + m ≤ memory_faults plan v) ⊎ HasNotedCell plan v → (memory_faults plan v + n ≤ memory_faults plan w) ⊎ HasNotedCell plan w → (memory_faults plan u + (m + n) ≤ memory_faults plan w) ⊎ HasNotedCell plan w
   faults_add plan m n u v w grows (inr one) two = inr (cell_noted plan v w grows one)
   faults_add plan m n u v w grows (inl one) (inr two) = inr two
   faults_add plan m n u v w grows (inl one) (inl two) = inl (omega (arith, one, two))
@@ -144,7 +144,7 @@ module _ {T : Type 0} where
     queues = λ j below. omega (arith, less, room.queues j below);
   }
 
-  faults_less : (plan : Plan) (m n : ℕ) (u v : View T) → n ≤ m → (faults_in plan u + m ≤ faults_in plan v) ⊎ HasNotedCell plan v → (faults_in plan u + n ≤ faults_in plan v) ⊎ HasNotedCell plan v
+  faults_less : (plan : Plan) (m n : ℕ) (u v : View T) → n ≤ m → (memory_faults plan u + m ≤ memory_faults plan v) ⊎ HasNotedCell plan v → (memory_faults plan u + n ≤ memory_faults plan v) ⊎ HasNotedCell plan v
   faults_less plan m n u v less (inl one) = inl (omega (arith, less, one))
   faults_less plan m n u v less (inr one) = inr one
 

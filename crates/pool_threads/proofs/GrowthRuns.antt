@@ -7,12 +7,13 @@ use Rattle.pool_pages.specs.MakerTold.{plan_for}
 use Rattle.pool_pages.specs.declared.pages.RegionName.TheVariants.{Memory as memory_region}
 use Rattle.pool_slots.specs.declared.listed_heaps.PlainHeap.{PlainHeap}
 use Rattle.pool_alloc.specs.declared.frame.Grant.{Grant}
+use Rattle.pool_driver.specs.ListedCalls.{AreAtMost, calls_listed}
 use Rattle.pool_run.specs.Acts.{act_of}
 use Rattle.pool_run.specs.Private.{PrivateState, StepsBy, no_grants, with_grants}
 use Rattle.pool_run.specs.Rooms.{PooledStep, World}
 use Rattle.pool_run.specs.declared.command.Command.{Command}
 use Rattle.pool_run.specs.declared.reply.Reply.{Reply}
-use Rattle.pool_threads.specs.GrowthFaults.{AreAtMost, AreGrowthsListed, AreGrowthsPlanned, calls_listed, calls_made, growths_met, listed_of, met_at, slot_in, slot_named}
+use Rattle.pool_threads.specs.GrowthFaults.{AreGrowthsListed, AreGrowthsPlanned, calls_on_memory, growths_met, listed_of, met_at, slot_in, slot_named}
 use Rattle.pool_threads.proofs.GrowthShapes.{IsNoneAt, met_same, none_at, none_first, none_yet, same_shapes}
 use Rattle.pool_threads.proofs.ListedCalls.{listed_within, none_met, still_most}
 use Rattle.pool_threads.proofs.Optional.{if_all, if_both, if_some}
@@ -57,11 +58,11 @@ begin commands = with_grants (no_grants commands)
 module _ {P : Type 0} (w : World) (commands : List Command) (before : List Reply) where
   -- How many calls the plan lists, while these grants are live.
   abbrev Lists : List (Option (Grant P PlainHeap)) → ℕ → ℕ → List ℕ → ℕ → Type 0
-  Lists live of k plan met = AreAtMost (listed_of (calls_made of k live) plan) plan met
+  Lists live of k plan met = AreAtMost (listed_of (calls_on_memory of k live) plan) plan met
 
   -- So of each memory that was named, with so many faults more.
   abbrev pub Adds : List (Option (Grant P PlainHeap)) → List (Option (Grant P PlainHeap)) → (ℕ → ℕ → ℕ) → Type 0
-  Adds live new more = (of k slot : ℕ) → slot_named of k before ≡ Some slot → IfSome (plan_for (memory_region slot) w.maker) (λ plan. (met : ℕ) → AreAtMost (listed_of (calls_made of k live) plan) plan met → AreAtMost (listed_of (calls_made of k new) plan) plan (met + more of k))
+  Adds live new more = (of k slot : ℕ) → slot_named of k before ≡ Some slot → IfSome (plan_for (memory_region slot) w.maker) (λ plan. (met : ℕ) → AreAtMost (listed_of (calls_on_memory of k live) plan) plan met → AreAtMost (listed_of (calls_on_memory of k new) plan) plan (met + more of k))
 
   pub one_more : (live new : List (Option (Grant P PlainHeap))) (reply : Reply) (command : Command) (told : PrivateState) → StepsBy (PooledStep w) 0 commands before (begin commands) told → slice_get commands (length before) ≡ Some command → AreGrowthsListed w commands before live
       → Adds live new (λ of k. met_at w.terms.host.rule of k told.grants (act_of command) reply) → AreGrowthsListed w commands (before ++ reply ∷ []) new
@@ -85,7 +86,7 @@ module _ {P : Type 0} (w : World) (commands : List Command) (before : List Reply
         | inr later ↦
             (let none : IsNoneAt of parts.mid.grants = none_yet w 0 commands before (begin commands) parts.mid of parts.first (omega (arith, later)) (none_first commands of) in
             let zero : growths_met w of k 0 commands (before ++ reply ∷ []) (begin commands) end whole ≡ 0 = omega (arith, parts.count of k, none_before w 0 commands before (begin commands) parts.mid of k parts.first (omega (arith, later)) (none_first commands of), none_at w.terms.host.rule of k parts.mid.grants (act_of parts.command) reply none) in
-            if_all To (slot_named of k (before ++ reply ∷ [])) (λ slot. if_all _ (plan_for (memory_region slot) w.maker) (λ plan. none_met (listed_of (calls_made of k new) plan) plan _ zero)))
+            if_all To (slot_named of k (before ++ reply ∷ [])) (λ slot. if_all _ (plan_for (memory_region slot) w.maker) (λ plan. none_met (listed_of (calls_on_memory of k new) plan) plan _ zero)))
       ]
 
   -- With no reply more.
@@ -107,7 +108,7 @@ module _ {P : Type 0} (w : World) (commands : List Command) (before : List Reply
       let To : ℕ → Type 0 = λ slot. IfSome (plan_for (memory_region slot) w.maker) (λ plan. AreAtMost (calls_listed plan) plan met) in
       if_some Of To (slot_named of k before) (λ slot there.
       if_some (λ plan. Lists live of k plan met) (λ plan. AreAtMost (calls_listed plan) plan met) (plan_for (memory_region slot) w.maker)
-      (λ plan planned listed. still_most (listed_of (calls_made of k live) plan) (calls_listed plan) plan met met (listed_within (calls_made of k live) plan) (omega arith) listed))
+      (λ plan planned listed. still_most (listed_of (calls_on_memory of k live) plan) (calls_listed plan) plan met met (listed_within (calls_on_memory of k live) plan) (omega arith) listed))
       (all end run of k)
 
   -- Of no reply there is nothing to say.

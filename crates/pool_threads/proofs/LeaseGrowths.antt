@@ -19,12 +19,13 @@ use Rattle.pool_alloc.specs.BetweenSteps.{IsLeaseOf, IsPoolSlot}
 use Rattle.pool_alloc.specs.Leases.{Lease}
 use Rattle.pool_alloc.specs.declared.pool_core.Settings.{Settings}
 use Rattle.pool_alloc.proofs.HeldSlots.{held_name, held_plan}
+use Rattle.pool_driver.specs.ListedCalls.{AreAtMost}
 use Rattle.pool_run.specs.Acts.{MemoryOp, asks_size, fills, grows, reads, writes}
 use Rattle.pool_run.specs.GrowthEnds.{GrowthEnd, as_it_was, could_not, has_grown}
 use Rattle.pool_run.specs.Private.{growth, size_wanted}
 use Rattle.pool_run.specs.Turns.{GrowthLeaves, LeaseMoves, MemoryWrites, private_memory, seen_as}
 use Rattle.pool_run.specs.declared.reply.Reply.{Reply}
-use Rattle.pool_threads.specs.GrowthFaults.{AreAtMost, calls_on, growth_met, listed_of, met_by}
+use Rattle.pool_threads.specs.GrowthFaults.{calls_on, growth_met, listed_of, met_by}
 use Rattle.pool_threads.proofs.GrowthEnds.{met_could_not}
 use Rattle.pool_threads.proofs.ListedCalls.{listed_after, listed_next, still_most}
 

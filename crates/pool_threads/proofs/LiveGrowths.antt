@@ -12,9 +12,10 @@ use Rattle.pool_alloc.specs.Leases.{Lease}
 use Rattle.pool_alloc.specs.StackLeases.{LeasedStack}
 use Rattle.pool_alloc.specs.TableLeases.{LeasedTable}
 use Rattle.pool_alloc.specs.declared.frame.Grant.{Grant}
-use Rattle.pool_alloc.specs.declared.frame.Grant.TheVariants.{Instance, Component, Memory, Table, Stack, Heap}
+use Rattle.pool_alloc.specs.declared.frame.Grant.TheVariants.{Instance, Component, Memory, Table, Stack, Heap, HeapOver}
 use Rattle.pool_alloc.specs.declared.pool_core.PoolCore.{PoolCore}
 use Rattle.pool_table.specs.declared.gc_store.ListedStore.{ListedStore}
+use Rattle.pool_driver.specs.ListedCalls.{AreAtMost}
 use Rattle.pool_run.specs.Acts.{Act, MemoryOp, TableOp, on_memory}
 use Rattle.pool_run.specs.Objects.{MovesObject, object_at}
 use Rattle.pool_run.specs.PartyRules.{rule_of}
@@ -27,7 +28,7 @@ use Rattle.pool_run.proofs.Named.{moved}
 use Rattle.pool_run.proofs.Operations.{memories_seen}
 use Rattle.pool_run.proofs.Parties.{grant_inside}
 use Rattle.pool_run.proofs.Sounds.{lease_held}
-use Rattle.pool_threads.specs.GrowthFaults.{AreAtMost, calls_made, calls_on, listed_of, met_at, met_by, slot_in, slot_named}
+use Rattle.pool_threads.specs.GrowthFaults.{calls_on, calls_on_memory, listed_of, met_at, met_by, slot_in, slot_named}
 use Rattle.pool_threads.specs.Working.{NamesLive}
 use Rattle.pool_threads.proofs.GrowthShapes.{seen_object}
 use Rattle.pool_threads.proofs.LeaseGrowths.{AddsTo, op_added}
@@ -74,6 +75,7 @@ module _ {P : Type 0} where
   lease_set k l (Table lease) = refl
   lease_set k l (Stack lease) = refl
   lease_set k l (Heap lease memory) = one_set k l memory
+  lease_set k l (HeapOver lease) = refl
 
   table_same : (k : ℕ) (t : LeasedTable) (g : Grant P PlainHeap) → leases_named (with_table_lease k t g) ≡ leases_named g
   table_same k t (Instance lease) = refl
@@ -82,6 +84,7 @@ module _ {P : Type 0} where
   table_same k t (Table lease) = refl
   table_same k t (Stack lease) = refl
   table_same k t (Heap lease memory) = refl
+  table_same k t (HeapOver lease) = refl
 
   stack_same : (k : ℕ) (s : LeasedStack) (g : Grant P PlainHeap) → leases_named (with_stack_lease k s g) ≡ leases_named g
   stack_same k s (Instance lease) = refl
@@ -90,6 +93,7 @@ module _ {P : Type 0} where
   stack_same k s (Table lease) = refl
   stack_same k s (Stack lease) = refl
   stack_same k s (Heap lease memory) = refl
+  stack_same k s (HeapOver lease) = refl
 
   -- memory k of a grant that may be there
   abbrev lease_in : ℕ → Option (Grant P PlainHeap) → Option Lease
@@ -131,6 +135,7 @@ module _ {P : Type 0} where
   reply_names k (Table lease) l there = absurd cc
   reply_names k (Stack lease) l there = absurd cc
   reply_names k (Heap lease memory) l there = slot_of_one k memory l there
+  reply_names k (HeapOver lease) l there = absurd cc
 
   names_at : (replies : List Reply) (of k : ℕ) (x : Option (Grant P PlainHeap)) (l : Lease) → IfSome x (λ g. slice_get replies of ≡ Some (granted_reply g)) → lease_in k x ≡ Some l → slot_named of k replies ≡ Some l.index
   names_at replies of k None l named there = absurd cc
@@ -144,7 +149,7 @@ module _ {P : Type 0} where
   abbrev CountsAt : MakerTold → GrowthRule → Act → Reply → List (Option (Grant P PlainHeap)) → List (Option (Grant P PlainHeap)) → ℕ → ℕ → Type 0
   CountsAt maker rule act reply live new of k =
       (slot : ℕ) → ((l : Lease) → object_at memory_leases of k live ≡ Some l → l.index ≡ slot)
-      → IfSome (plan_for (memory_region slot) maker) (λ plan. (met : ℕ) → AreAtMost (listed_of (calls_made of k live) plan) plan met → AreAtMost (listed_of (calls_made of k new) plan) plan (met + met_at rule of k (grants_of live) act reply))
+      → IfSome (plan_for (memory_region slot) maker) (λ plan. (met : ℕ) → AreAtMost (listed_of (calls_on_memory of k live) plan) plan met → AreAtMost (listed_of (calls_on_memory of k new) plan) plan (met + met_at rule of k (grants_of live) act reply))
 
   -- So of each memory.
   abbrev pub Counts : MakerTold → GrowthRule → Act → Reply → List (Option (Grant P PlainHeap)) → List (Option (Grant P PlainHeap)) → Type 0
@@ -157,12 +162,12 @@ module _ {P : Type 0} where
   abbrev pub Loses : List (Option (Grant P PlainHeap)) → List (Option (Grant P PlainHeap)) → Type 0
   Loses live new = (of k : ℕ) → LosesAt live new of k
 
-  fewer_listed : (of k : ℕ) (live new : List (Option (Grant P PlainHeap))) (plan : List ℕ) → LosesAt live new of k → listed_of (calls_made of k live) plan ≤ listed_of (calls_made of k new) plan
+  fewer_listed : (of k : ℕ) (live new : List (Option (Grant P PlainHeap))) (plan : List ℕ) → LosesAt live new of k → listed_of (calls_on_memory of k live) plan ≤ listed_of (calls_on_memory of k new) plan
   fewer_listed of k live new plan (inl same) = omega (arith, ap (λ (o : Option Lease). listed_of (option_map calls_on o) plan) same)
-  fewer_listed of k live new plan (inr none) = omega (arith, ap (λ (o : Option Lease). listed_of (option_map calls_on o) plan) none, listed_within (calls_made of k live) plan)
+  fewer_listed of k live new plan (inr none) = omega (arith, ap (λ (o : Option Lease). listed_of (option_map calls_on o) plan) none, listed_within (calls_on_memory of k live) plan)
 
-  pub still_listed : (of k : ℕ) (live new : List (Option (Grant P PlainHeap))) (more : ℕ) (plan : List ℕ) → LosesAt live new of k → more ≡ 0 → (met : ℕ) → AreAtMost (listed_of (calls_made of k live) plan) plan met → AreAtMost (listed_of (calls_made of k new) plan) plan (met + more)
-  still_listed of k live new more plan loses none met few = still_most (listed_of (calls_made of k live) plan) (listed_of (calls_made of k new) plan) plan met (met + more) (fewer_listed of k live new plan loses) (omega (arith, none)) few
+  pub still_listed : (of k : ℕ) (live new : List (Option (Grant P PlainHeap))) (more : ℕ) (plan : List ℕ) → LosesAt live new of k → more ≡ 0 → (met : ℕ) → AreAtMost (listed_of (calls_on_memory of k live) plan) plan met → AreAtMost (listed_of (calls_on_memory of k new) plan) plan (met + more)
+  still_listed of k live new more plan loses none met few = still_most (listed_of (calls_on_memory of k live) plan) (listed_of (calls_on_memory of k new) plan) plan met (met + more) (fewer_listed of k live new plan loses) (omega (arith, none)) few
 
   none_counted : (maker : MakerTold) (rule : GrowthRule) (act : Act) (reply : Reply) (live new : List (Option (Grant P PlainHeap))) (of k : ℕ) → met_at rule of k (grants_of live) act reply ≡ 0 → LosesAt live new of k → CountsAt maker rule act reply live new of k
   none_counted maker rule act reply live new of k none loses slot in_slot =
@@ -257,6 +262,7 @@ module _ {P : Type 0} where
     bytes_counts (Some (Table lease)) op grant place live reply has is = memory_counts op grant place live reply is
     bytes_counts (Some (Stack lease)) op grant place live reply has is = stack_counts op lease grant place live reply has is
     bytes_counts (Some (Heap lease memory)) op grant place live reply has is = memory_counts op grant place live reply is
+    bytes_counts (Some (HeapOver lease)) op grant place live reply has is = memory_counts op grant place live reply is
 
     -- and one on a table.
     pub table_loses : (op : TableOp) (grant place : ℕ) (live : List (Option (Grant P PlainHeap))) (store : ListedStore) (reply : Reply) → MovesObject table_leases (MovesTable op (rule_of p.limits) p.store store) grant place p.live reply live → Loses p.live live

@@ -1,6 +1,5 @@
 -- How many growths of a memory met a fault in a party's run, and how many may by the plan of the memory's region.
-use Rattle.std.specs.Prelude.{◌≡◌, ℕ, ◌+◌, ◌-◌, ◌^◌, ◌≤◌, ◌==◌, ◌&&◌, ◌⊎◌, List, [], ◌∷◌, min, slice_get, Bool, true, false, not, if◌then◌else◌, Option, Some, None, IfSome, option_map}
-use Rattle.std.specs.List.{list_any}
+use Rattle.std.specs.Prelude.{ℕ, ◌+◌, ◌-◌, ◌^◌, ◌==◌, ◌&&◌, List, [], ◌∷◌, min, slice_get, Bool, true, false, not, if◌then◌else◌, Option, Some, None, IfSome, option_map}
 use Rattle.std.specs.Option.{option_and_then, option_map_or}
 use Rattle.pool_hall.specs.Sum.{one_if}
 use Rattle.pool_pages.specs.MakerTold.{plan_for}
@@ -11,6 +10,7 @@ use Rattle.pool_memory.specs.Memories.{slot_of}
 use Rattle.pool_slots.specs.declared.listed_heaps.PlainHeap.{PlainHeap}
 use Rattle.pool_alloc.specs.Leases.{Lease}
 use Rattle.pool_alloc.specs.declared.frame.Grant.{Grant}
+use Rattle.pool_driver.specs.ListedCalls.{AreAtMost, calls_listed}
 use Rattle.pool_run.specs.Acts.{Act, MemoryOp, act_of, grows, on_memory}
 use Rattle.pool_run.specs.GrowthEnds.{GrowthEnd, has_grown}
 use Rattle.pool_run.specs.Objects.{object_at}
@@ -63,19 +63,6 @@ slot_in k _ = None
 abbrev pub slot_named : ℕ → ℕ → List Reply → Option ℕ
 slot_named of k replies = option_and_then (slot_in k) (slice_get replies of)
 
--- How many different calls a plan lists.
-abbrev pub calls_listed : List ℕ → ℕ
-calls_listed [] = 0
-calls_listed (call ∷ plan) = one_if (not (list_any (λ m. m == call) plan)) + calls_listed plan
-
--- The plan lists the number at which the count of calls stands still: it is that of all later calls too.
-abbrev pub lists_last : List ℕ → Bool
-lists_last plan = list_any (λ m. m == 2 ^ 64 - 1) plan
-
--- There are so many at most, unless the plan lists all calls from one on.
-abbrev pub AreAtMost : ℕ → List ℕ → ℕ → Type 0
-AreAtMost most plan met = (met ≤ most) ⊎ (lists_last plan ≡ true)
-
 -- In each run of these commands that has these replies, and for each memory whose slot a reply names, this holds of the plan of that slot's
 -- region, where it is told, and of how many growths of the memory met a fault.
 abbrev pub ForEachMemory : World → List Command → List Reply → (ℕ → ℕ → List ℕ → ℕ → Type 0) → Type 0
@@ -99,9 +86,9 @@ calls_on l = (slot_of l.memory).region.made
 
 module _ {P : Type 0} where
   -- How many calls were made on the region of memory k of the grant of command `of`, while that grant is live.
-  abbrev pub calls_made : ℕ → ℕ → List (Option (Grant P PlainHeap)) → Option ℕ
-  calls_made of k live = option_map calls_on (object_at memory_leases of k live)
+  abbrev pub calls_on_memory : ℕ → ℕ → List (Option (Grant P PlainHeap)) → Option ℕ
+  calls_on_memory of k live = option_map calls_on (object_at memory_leases of k live)
 
   -- So many of them, which a live grant counts by the calls that were made on its regions.
   abbrev pub AreGrowthsListed : World → List Command → List Reply → List (Option (Grant P PlainHeap)) → Type 0
-  AreGrowthsListed w commands replies live = ForEachMemory w commands replies (λ of k plan met. AreAtMost (listed_of (calls_made of k live) plan) plan met)
+  AreGrowthsListed w commands replies live = ForEachMemory w commands replies (λ of k plan met. AreAtMost (listed_of (calls_on_memory of k live) plan) plan met)

@@ -38,8 +38,8 @@ call_asks f components = components_of (kind_at (stage_of f))
 
 module _ {T : Type 0} where
   -- How many faults a seat brought home to cells of memory slots.
-  abbrev pub faults_in : Plan → View T → ℕ
-  faults_in plan v = total (fault_rise plan) v.rises
+  abbrev pub memory_faults : Plan → View T → ℕ
+  memory_faults plan v = total (fault_rise plan) v.rises
 
   -- How much of what there is only so many of a seat used up: of slots, how many it took that were never used; of the others, how often it
   -- counted one while there was room.
@@ -85,4 +85,4 @@ module _ {T : Type 0} where
     pub room : (kind : SlotKind) → RoomTimes base v plan home kind stripe (refused (slots kind))
     pub over_instances : OverTimes base v instance_counter (refused instances)
     pub over_components : OverTimes base v component_counter (refused components)
-    pub faults : (faults_in plan base + failed ≤ faults_in plan v) ⊎ HasNotedCell plan v
+    pub faults : (memory_faults plan base + failed ≤ memory_faults plan v) ⊎ HasNotedCell plan v

@@ -9,6 +9,7 @@ use Rattle.pool_slots.specs.declared.listed_heaps.PlainHeap.{PlainHeap}
 use Rattle.pool_alloc.specs.PlainModules.{ModuleAsked}
 use Rattle.pool_alloc.specs.declared.pool_core.Settings.{Settings}
 use Rattle.pool_driver.specs.Ending.{HasNoted}
+use Rattle.pool_driver.specs.ListedCalls.{AllEndBeforeLast, listed_on}
 use Rattle.pool_driver.specs.declared.part.HallPart.{HallPart}
 use Rattle.pool_driver.specs.declared.shared_pool.SharedPool.{SharedPool}
 use Rattle.pool_run.specs.Made.{calls_made}
@@ -23,7 +24,6 @@ use Rattle.pool_threads.specs.GrowthFaults.{AreGrowthsPlanned}
 use Rattle.pool_threads.specs.Sharing.{IsGround, job_of, no_party, party_in, party_world, shared_world}
 use Rattle.pool_threads.specs.Working.{about_job}
 use Rattle.pool_workers.specs.Joined.{HasRun, IsJoined, asked_by_all, faulted_of_all, limit_of, shared_by}
-use Rattle.pool_workers.specs.Listed.{ArePlanned, listed_on}
 use Rattle.pool_workers.specs.Threads.{HasRunBeside, HaveRunBeside}
 use Rattle.pool_workers.proofs.AllListed.{all_listed}
 use Rattle.pool_workers.proofs.FewFaults.{few_faulted}
@@ -57,13 +57,13 @@ module _ {P M T : Type 0} (told : M → MakerTold) (input : Input) (modules : Li
             (subst (λ (w : World). limit_of w.terms k ≤ asked_by_all k modules input.parties replies) is (refused_asked told (shared_by input modules) pool v replies ground joined noted i inside ran k some'));
       }
 
-  few_faults : ArePlanned maker input.config.limits.total_memories → faulted_of_all input.parties replies ≤ listed_on maker input.config.limits.total_memories
+  few_faults : AllEndBeforeLast maker input.config.limits.total_memories → faulted_of_all input.parties replies ≤ listed_on maker input.config.limits.total_memories
   few_faults planned =
       let met : ℕ = faulted_of_all input.parties replies in
       let slots : pool.plan.totals.memory ≡ input.config.limits.total_memories = sym ground.job.world.plan.total in
       let few : met + 1 < 2 ^ 64 = few_faulted input replies ground.valid in
-      let here : ArePlanned (job_of told input pool).world.maker pool.plan.totals.memory =
-      subst (λ (m : MakerTold). ArePlanned m pool.plan.totals.memory) (sym same) (subst (λ (n : ℕ). ArePlanned maker n) (sym slots) planned) in
+      let here : AllEndBeforeLast (job_of told input pool).world.maker pool.plan.totals.memory =
+      subst (λ (m : MakerTold). AllEndBeforeLast m pool.plan.totals.memory) (sym same) (subst (λ (n : ℕ). AllEndBeforeLast maker n) (sym slots) planned) in
       let all : met ≤ listed_on (job_of told input pool).world.maker pool.plan.totals.memory =
       all_listed (about_job (job_of told input pool)) (length (made_with pool.hall)) v met ground.shared.hall.pool.plan noted here (omega (arith, few)) joined.faults in
       subst (λ (n : ℕ). met ≤ listed_on maker n) slots (subst (λ (m : MakerTold). met ≤ listed_on m pool.plan.totals.memory) same all)

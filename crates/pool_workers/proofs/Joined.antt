@@ -19,7 +19,7 @@ use Rattle.pool_run.specs.declared.command.Command.{Command}
 use Rattle.pool_run.specs.declared.input.Party.{Party}
 use Rattle.pool_run.specs.declared.reply.Reply.{Reply}
 use Rattle.pool_threads.specs.Asked.{Scarce, slots, instances, components, asked, faulted}
-use Rattle.pool_threads.specs.Noted.{HasNotedCell, faults_in, spent}
+use Rattle.pool_threads.specs.Noted.{HasNotedCell, memory_faults, spent}
 use Rattle.pool_threads.specs.Sharing.{no_party, party_in}
 use Rattle.pool_workers.specs.Joined.{HasRun, IsJoined, Joins, Shared, faulted_of_all, over_all}
 
@@ -54,7 +54,7 @@ module _ {P M T : Type 0} (told : M → MakerTold) (all : Shared) (pool : Shared
   cell_still : (v w : View T) → ((q : ℕ) → often q v.topped ≤ often q w.topped) → HasNotedCell pool.plan v → HasNotedCell pool.plan w
   cell_still v w noted is = record { slot = is.slot; kind = is.kind; place = is.place; cell = is.cell; noted = omega (arith, is.noted, noted is.place) }
 
-  faults_more : (v w : View T) (m n : ℕ) → ((q : ℕ) → often q v.topped ≤ often q w.topped) → (m ≤ faults_in pool.plan v) ⊎ HasNotedCell pool.plan v → (faults_in pool.plan v + n ≤ faults_in pool.plan w) ⊎ HasNotedCell pool.plan w → (m + n ≤ faults_in pool.plan w) ⊎ HasNotedCell pool.plan w
+  faults_more : (v w : View T) (m n : ℕ) → ((q : ℕ) → often q v.topped ≤ often q w.topped) → (m ≤ memory_faults pool.plan v) ⊎ HasNotedCell pool.plan v → (memory_faults pool.plan v + n ≤ memory_faults pool.plan w) ⊎ HasNotedCell pool.plan w → (m + n ≤ memory_faults pool.plan w) ⊎ HasNotedCell pool.plan w
   faults_more v w m n noted (inr one) two = inr (cell_still v w noted one)
   faults_more v w m n noted (inl one) (inr two) = inr two
   faults_more v w m n noted (inl one) (inl two) = inl (omega (arith, one, two))
@@ -94,5 +94,5 @@ module _ {P M T : Type 0} (told : M → MakerTold) (all : Shared) (pool : Shared
                   let its : slice_index_or (before ++ replies ∷ []) n [] ≡ replies = ap (λ (m : ℕ). slice_index_or (before ++ replies ∷ []) m []) (sym count) ∙ last_of before replies [] in
                   subst (λ (m : ℕ). HasRun told all pool w m (slice_index_or (before ++ replies ∷ []) m [])) is (subst (HasRun told all pool w n) (sym its) joins.ran)
             ];
-        faults = subst (λ (m : ℕ). (m ≤ faults_in pool.plan w) ⊎ HasNotedCell pool.plan w) (sym (more faulted)) (faults_more v w (faulted_of_all all.input.parties before) (faulted (slice_index_or all.input.parties n no_party).commands replies) joins.noted so_far.faults joins.faults);
+        faults = subst (λ (m : ℕ). (m ≤ memory_faults pool.plan w) ⊎ HasNotedCell pool.plan w) (sym (more faulted)) (faults_more v w (faulted_of_all all.input.parties before) (faulted (slice_index_or all.input.parties n no_party).commands replies) joins.noted so_far.faults joins.faults);
       }

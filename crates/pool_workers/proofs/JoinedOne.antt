@@ -18,7 +18,7 @@ use Rattle.pool_driver.specs.declared.shared_pool.SharedPool.{SharedPool}
 use Rattle.pool_run.specs.declared.command.Command.{Command}
 use Rattle.pool_run.specs.declared.reply.Reply.{Reply}
 use Rattle.pool_threads.specs.Asked.{Scarce, slots, instances, components, asked, faulted, refused}
-use Rattle.pool_threads.specs.Noted.{HasNotedCell, Notes, fault_rise, faults_in, spent}
+use Rattle.pool_threads.specs.Noted.{HasNotedCell, Notes, fault_rise, memory_faults, spent}
 use Rattle.pool_threads.specs.Sharing.{party_in}
 use Rattle.pool_workers.specs.Joined.{HasRun, Joins, Shared}
 use Rattle.pool_workers.specs.Sparing.{Spares}

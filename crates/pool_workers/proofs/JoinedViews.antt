@@ -13,7 +13,7 @@ use Rattle.pool_alloc.specs.StepReads.{allocator_of}
 use Rattle.pool_driver.specs.Spending.{cold_rise}
 use Rattle.pool_driver.specs.Telling.{component_counter, instance_counter, queue_takes}
 use Rattle.pool_threads.specs.Asked.{Scarce, slots, instances, components}
-use Rattle.pool_threads.specs.Noted.{Grows, HasNotedCell, Notes, OverTimes, RoomTimes, fault_rise, faults_in, spent}
+use Rattle.pool_threads.specs.Noted.{Grows, HasNotedCell, Notes, OverTimes, RoomTimes, fault_rise, memory_faults, spent}
 
 often_join : (n : ℕ) (ms ns : List ℕ) → often n (ms ++ ns) ≡ often n ms + often n ns
 often_join n ms ns = total_append (λ (m : ℕ). one_if (n == m)) ms ns

@@ -23,7 +23,7 @@ use Rattle.pool_run.specs.declared.input.Party.{Party}
 use Rattle.pool_run.specs.declared.reply.Reply.{Reply}
 use Rattle.pool_threads.specs.Asked.{Scarce, slots, instances, components, asked, faulted, refused}
 use Rattle.pool_threads.specs.GrowthFaults.{AreGrowthsPlanned}
-use Rattle.pool_threads.specs.Noted.{HasNotedCell, faults_in, spent}
+use Rattle.pool_threads.specs.Noted.{HasNotedCell, memory_faults, spent}
 use Rattle.pool_threads.specs.Sharing.{job_of, party_in, party_world}
 
 -- What a number of a party's commands and of their replies comes to over all parties that have replies.
@@ -58,37 +58,41 @@ abbrev pub shared_by : Input → List ModuleAsked → Shared
 shared_by input modules = record { input = input; modules = modules }
 
 module _ {P M T : Type 0} (told : M → MakerTold) (all : Shared) (pool : SharedPool (Hall (HallPart P PlainHeap M))) where
-  -- A party was told a private run of all its commands, in which growths met no more faults than plans allow. Where it was refused for want of a slot, each shard where it searched is noted as
-  -- topped; where it was refused by a counter, some addition on that counter wasn't low.
+  -- What a party was told is a private run of all its commands, and why it was refused for want of room is noted.
   pub record HasRun (v : View T) (i : ℕ) (replies : List Reply) : Type 0 where
     pub stripe : ℕ
     pub inside : stripe < length pool.plan.memories
     pub run : IsPooledRun (party_world (job_of told all.input pool) (party_in all.input i) stripe) (party_in all.input i).commands replies
     pub whole : length replies ≡ length (party_in all.input i).commands
+    -- Growths met no more faults than plans allow.
     pub growths : AreGrowthsPlanned (party_world (job_of told all.input pool) (party_in all.input i) stripe) (party_in all.input i).commands replies
+    -- Where there was no slot, each shard where it was searched for is noted as topped.
     pub full : (kind : SlotKind) → 0 < refused (slots kind) (party_in all.input i).commands replies → (j : ℕ) → j < (allocator_of pool.plan kind stripe).shards → 0 < often (shard_tried (allocator_of pool.plan kind stripe) (party_in all.input i).home j) v.topped
+    -- Where a counter refused it, some addition on that wasn't low.
     pub over_instances : 0 < refused instances (party_in all.input i).commands replies → number (low_additions instance_counter) v < number (additions instance_counter) v
     pub over_components : 0 < refused components (party_in all.input i).commands replies → number (low_additions component_counter) v < number (additions component_counter) v
 
-  -- What is so of the seat to which those of the first parties were joined that have these replies, and that gave back what they had live. It has
-  -- no unit, and counted off as often as it counted, which was low at most as often. It used up at most what these parties ask for; and of their failed page calls each is
-  -- a fault more of a memory slot's cell, or such a cell is noted as topped.
+  -- The seat to which those of the first parties were joined that have these replies. What they had live is given back.
   pub record IsJoined (v : View T) (replies : List (List Reply)) : Type 0 where
     pub units : v.units ≡ []
+    -- It counted off as often as it counted, and that was low no more often.
     pub even : IsEven v
     pub lower : (c : ℕ) → number (low_additions c) v ≤ number (additions c) v
+    -- It used up no more than these parties ask for.
     pub within : (k : Scarce) → spent pool.plan k v ≤ asked_by_all k all.modules all.input.parties replies
     pub each : (i : ℕ) → i < length replies → HasRun v i (slice_index_or replies i [])
-    pub faults : (faulted_of_all all.input.parties replies ≤ faults_in pool.plan v) ⊎ HasNotedCell pool.plan v
+    -- Each of their failed page calls is one more fault of a memory slot's cell, or such a cell is noted as topped.
+    pub faults : (faulted_of_all all.input.parties replies ≤ memory_faults pool.plan v) ⊎ HasNotedCell pool.plan v
 
-  -- What a seat has to which that of one party more was joined, with these replies, since the first view: what the party asks for at most, and
-  -- a portion more. The party's live grants are given back, and nothing is forgotten.
+  -- What a seat has since the first view, to which one party's was joined, with these replies. What that had live is given back.
   pub record Joins (v w : View T) (i : ℕ) (replies : List Reply) : Type 0 where
     pub units : w.units ≡ []
     pub even : IsEven w
     pub portions : w.portions ≡ v.portions + 1
+    -- Nothing is forgotten.
     pub noted : (q : ℕ) → often q v.topped ≤ often q w.topped
     pub over : (c : ℕ) → number (additions c) v + number (low_additions c) w ≤ number (additions c) w + number (low_additions c) v
+    -- No more is used up than the party asks for.
     pub within : (k : Scarce) → spent pool.plan k w ≤ spent pool.plan k v + asked k all.modules (party_in all.input i).commands replies
     pub ran : HasRun w i replies
-    pub faults : (faults_in pool.plan v + faulted (party_in all.input i).commands replies ≤ faults_in pool.plan w) ⊎ HasNotedCell pool.plan w
+    pub faults : (memory_faults pool.plan v + faulted (party_in all.input i).commands replies ≤ memory_faults pool.plan w) ⊎ HasNotedCell pool.plan w

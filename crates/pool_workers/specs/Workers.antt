@@ -40,14 +40,14 @@ module _ {P M : Type 0} (told : M → MakerTold) (input : Input) where
     pub nothing : IsDriven (length (made_with pool.hall)) (alone_of (about_shared told pool)) (view w.seat) w.party.frame None
     pub untold : w.replies ≡ None
 
-  -- It was told a private run of its party's commands, whatever others did meanwhile, in which growths met no more faults than plans allow,
-  -- and its seat has noted of that what it must. The seat
-  -- has what the party's live grants are of, and no call is under way.
+  -- What it was told is a private run of its party's commands, whatever others did meanwhile. No call of its is under way.
   pub record HasWorked (modules : List ModuleAsked) (pool : SharedPool (Hall (HallPart P PlainHeap M))) (w : Worker (HallSeat (HallPart P PlainHeap M)) P) (replies : List Reply) : Type 0 where
     pub run : IsPooledRun (party_world (job_of told input pool) (party_in input w.number) w.party.frame.stripe) (party_in input w.number).commands replies
     pub all : length replies ≡ length (party_in input w.number).commands
     pub named : NamesLive replies w.party.live
+    -- Growths met no more faults than plans allow.
     pub growths : AreGrowthsPlanned (party_world (job_of told input pool) (party_in input w.number) w.party.frame.stripe) (party_in input w.number).commands replies
+    -- Its seat has noted what it used up and why it was refused, and has what the party's live grants are of.
     pub notes : NotesOf pool.plan modules (party_in input w.number) w.party.frame.stripe replies (worker_view pool.hall) (view w.seat)
     pub work : IsAtWork (job_of told input pool) (length (made_with pool.hall)) (view w.seat) w.party
     pub idle : IsIdle w.party.frame

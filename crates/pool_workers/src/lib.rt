@@ -5,7 +5,6 @@
 
 mod jobs;
 mod joins;
-mod kept;
 mod padding;
 mod threads;
 mod worker;
@@ -13,6 +12,3 @@ mod workers;
 
 pub use threads::{run_over, run_threads, run_threads_with};
 pub use worker::Worker;
-
-#[cfg(test)]
-mod threads_tests;

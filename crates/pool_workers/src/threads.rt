@@ -23,14 +23,16 @@ ghost use Rattle.pool_workers.specs.Threads.{HasNoNumbers, HaveRunBeside, IsUnli
 ghost use Rattle.pool_workers.specs.Workers.{AreBack, AreReady, DrivesWorkers};
 
 use crate::joins::join_all;
-use crate::kept::{faults_that_come, without_memory};
 use crate::padding::{pad, unpad};
 use crate::worker::Worker;
 use crate::workers::{make_workers, work};
-use pool_alloc::{Metrics, ModuleCall, Parts};
+use pool_alloc::{ModuleCall, Parts};
 use pool_driver::{OpenPool, PoolHall, PoolSeat, SharedPool};
-use pool_pages::{Failing, FailingMaker, Fault, PageCalls, PageMaker, Pages};
-use pool_run::{Input, ReplyList, RunFault, RunOutput, is_valid, make_calls, make_pool};
+use pool_pages::{Failing, FailingMaker, Fault, PageMaker, Pages};
+use pool_run::{
+    Input, ReplyList, RunFault, RunOutput, faults_that_come, is_valid, make_calls, make_pool,
+    without_memory,
+};
 use pool_slots::PlainHeap;
 use pool_threads::{Gate, OpenGate};
 use pool_types::{PageSize, PlainList};
@@ -115,25 +117,7 @@ fn output_of(replies: Vec<ReplyList>) -> RunOutput
     ensures replies { result.replies ≡ replies.items }
     ensures numbers { HasNoNumbers result }
 {
-    let metrics = Metrics {
-        core_instances: 0,
-        component_instances: 0,
-        memories: 0,
-        tables: 0,
-        stacks: 0,
-        gc_heaps: 0,
-        unused_warm_memories: 0,
-        unused_memory_bytes_resident: 0,
-        unused_warm_tables: 0,
-        unused_table_bytes_resident: 0,
-        unused_warm_stacks: 0,
-        unused_stack_bytes_resident: None,
-    };
-    RunOutput {
-        replies: PlainList::from_vec(replies),
-        metrics,
-        calls: PageCalls::none(),
-    }
+    RunOutput::without_numbers(PlainList::from_vec(replies))
 }
 
 /// The parties make their commands over a pool that is open and was made for their input, and the pool is closed. Answers the output, and what

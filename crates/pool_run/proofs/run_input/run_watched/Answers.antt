@@ -1,8 +1,7 @@
-use Rattle.std.proofs.Common.{rules, ◌≡◌, ℕ, List, true, false, refl, sym, ap, ◌∙◌}
-use Rattle.pool_run.proofs.Imports.{failing_maker, planned_faults, MakerTold}
-use Rattle.pool_pages.specs.declared.fault_plan.Fault.{Fault}
+use Rattle.std.proofs.Common.{rules, ◌≡◌, true, false, refl, sym}
+use Rattle.pool_run.proofs.Imports.{MakerTold}
 use Rattle.pool_run.specs.Runs.{with_faults}
-use Rattle.pool_run.proofs.Makings.{fault_of_run}
+use Rattle.pool_run.proofs.Makings.{fault_of_run, made_with_faults}
 use Rattle.pool_run.proofs.RulesNamed.{page_named}
 use Rattle.pool_run.proofs.SameRuns.{only_ok, holds_ok}
 use Rattle.pool_run.proofs.Unhindered.{serves_ok}
@@ -12,10 +11,7 @@ use Rattle.pool_run.proofs.run_input.run_watched.Goals as goal
 pub returns-in-Ok-clause-fault : goal.returns-in-Ok-clause-fault
 returns-in-Ok-clause-fault g c is =
     let maker : MakerTold = g.M.PageMaker.told c.args.pages.now in
-    let before =
-    c.new-maker.ensures.told
-    ∙ ap (λ (page : ℕ). failing_maker maker page (planned_faults c.as_slice.result.now) maker.next maker.faults) c.in-Ok.ensures.ok
-    ∙ ap (λ (fs : List Fault). failing_maker maker c.args.input.now.page (planned_faults fs) maker.next maker.faults) c.as_slice.ensures in
+    let before = made_with_faults c.args.input.now maker _ _ _ c.new-maker.ensures.told c.in-Ok.ensures.ok c.as_slice.ensures in
     fault_of_run _ c.args.input.now maker _ _ _ before (c.run_with-answer.ensures.fault is) (search rules)
 
 pub returns-in-Err-clause-bad_config : goal.returns-in-Err-clause-bad_config
@@ -24,10 +20,7 @@ returns-in-Err-clause-bad_config g c e = page_named c.args.input.now c.in-Err.ru
 pub returns-in-Ok-clause-only : goal.returns-in-Ok-clause-only
 returns-in-Ok-clause-only g c =
     let maker : MakerTold = g.M.PageMaker.told c.args.pages.now in
-    let before =
-    c.new-maker.ensures.told
-    ∙ ap (λ (page : ℕ). failing_maker maker page (planned_faults c.as_slice.result.now) maker.next maker.faults) c.in-Ok.ensures.ok
-    ∙ ap (λ (fs : List Fault). failing_maker maker c.args.input.now.page (planned_faults fs) maker.next maker.faults) c.as_slice.ensures in
+    let before = made_with_faults c.args.input.now maker _ _ _ c.new-maker.ensures.told c.in-Ok.ensures.ok c.as_slice.ensures in
     only_ok _ c.args.input.now (with_faults c.args.input.now maker) _ c.run_with-answer.result before refl c.requires.built c.run_with-answer.ensures.rules (run_of_watched _ _ _ _ _ c.run_with-answer.result c.run_with-answer.ensures.watched)
 
 pub returns-in-Ok-clause-throughout : goal.returns-in-Ok-clause-throughout

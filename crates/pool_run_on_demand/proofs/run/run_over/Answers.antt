@@ -1,4 +1,4 @@
-use Rattle.std.proofs.Common.{rules, ◌<◌, List, sym, subst, arith, refl}
+use Rattle.std.proofs.Common.{rules, ◌<◌, List, sym, subst, ◌∙◌, arith, refl}
 use Rattle.pool_run_on_demand.proofs.Imports.{not_both, MakerTold, world_of, turns_of, ScheduleEntry, entries_below}
 use Rattle.pool_run_on_demand.specs.Runs.{AreToldOnDemand, ArePartiesOnDemand, HaveStepped, steps_given, steps_in}
 use Rattle.pool_run_on_demand.proofs.Folding.{IsAtEnd, told_at_end}
@@ -31,4 +31,4 @@ returns-clause-told g c =
       | then-input b ↦ rw b.made-is (record { now = g.M.PageMaker.told b.finish.new.seat.maker; are = b.finish.ensures.parties; all = λ yes. b.finish.ensures.all; stepped = λ no. not_both input.finish b.if-input.true no })
       | else-input b ↦ rw b.made-is (record { now = g.M.PageMaker.told c.follow.new.seat.maker; are = c.follow.ensures.parties; all = λ yes. not_both input.finish yes b.if-input.false; stepped = λ no. stepped })
     ] in
-    subst (AreToldOnDemand input g.maker) (sym c.replies_of.ensures) (told_at_end input g.maker c.requires.1.1.1.0 c.in_ok-made.made.items c.if-input.made.items c.in_ok-made.ensures.none end)
+    subst (AreToldOnDemand input g.maker) (sym (c.without_numbers.ensures.replies ∙ c.replies_of.ensures)) (told_at_end input g.maker c.requires.1.1.1.0 c.in_ok-made.made.items c.if-input.made.items c.in_ok-made.ensures.none end)

@@ -1,6 +1,7 @@
-use Rattle.std.proofs.Common.{rules, ◌≡◌, ℕ, List, ap, ◌∙◌}
+use Rattle.std.proofs.Common.{rules, List, ap, filter, ◌∙◌}
 use Rattle.pool_run_on_demand.proofs.Imports.{MakerTold, Planned, failing_maker, planned_faults}
-use Rattle.pool_pages.specs.declared.fault_plan.Fault.{Fault}
+use Rattle.pool_run.specs.Kept.{can_come}
+use Rattle.pool_run.proofs.Makings.{made_with_faults}
 use Rattle.pool_run_on_demand.specs.Faults.{ends_before_last}
 use Rattle.pool_run_on_demand.proofs.Reached.{coming_ends, faulted_all, kept_planned, run_all}
 use Rattle.pool_run_on_demand.proofs.run.run_over_faults.Goals as goal
@@ -10,9 +11,7 @@ run_seated-answer-requires-clause-listed g c =
     let maker : MakerTold = g.M.PageMaker.told c.args.pages.now in
     let input = c.args.input.now in
     let before =
-    c.new-maker.ensures.told
-    ∙ ap (λ (page : ℕ). failing_maker maker page (planned_faults c.args.faults.now) maker.next maker.faults) c.requires.page
-    ∙ ap (λ (fs : List Fault). failing_maker maker input.page (planned_faults fs) maker.next maker.faults) c.requires.faults
+    made_with_faults (record input { faults = filter can_come input.faults }) maker _ _ _ c.new-maker.ensures.told c.requires.page c.requires.faults
     ∙ ap (λ (plan : List Planned). failing_maker maker input.page plan maker.next maker.faults) (kept_planned input.faults) in
     ap (λ (m : MakerTold). ends_before_last m.listed) before ∙ coming_ends (planned_faults input.faults)
 
@@ -21,9 +20,7 @@ returns-clause-ok g c =
     let maker : MakerTold = g.M.PageMaker.told c.args.pages.now in
     let input = c.args.input.now in
     let before =
-    c.new-maker.ensures.told
-    ∙ ap (λ (page : ℕ). failing_maker maker page (planned_faults c.args.faults.now) maker.next maker.faults) c.requires.page
-    ∙ ap (λ (fs : List Fault). failing_maker maker input.page (planned_faults fs) maker.next maker.faults) c.requires.faults
+    made_with_faults (record input { faults = filter can_come input.faults }) maker _ _ _ c.new-maker.ensures.told c.requires.page c.requires.faults
     ∙ ap (λ (plan : List Planned). failing_maker maker input.page plan maker.next maker.faults) (kept_planned input.faults) in
     run_all input maker _ _ before c.run_seated-answer.ensures.ok
 
@@ -32,8 +29,6 @@ returns-clause-fault g c is =
     let maker : MakerTold = g.M.PageMaker.told c.args.pages.now in
     let input = c.args.input.now in
     let before =
-    c.new-maker.ensures.told
-    ∙ ap (λ (page : ℕ). failing_maker maker page (planned_faults c.args.faults.now) maker.next maker.faults) c.requires.page
-    ∙ ap (λ (fs : List Fault). failing_maker maker input.page (planned_faults fs) maker.next maker.faults) c.requires.faults
+    made_with_faults (record input { faults = filter can_come input.faults }) maker _ _ _ c.new-maker.ensures.told c.requires.page c.requires.faults
     ∙ ap (λ (plan : List Planned). failing_maker maker input.page plan maker.next maker.faults) (kept_planned input.faults) in
     faulted_all input maker _ _ _ before (c.run_seated-answer.ensures.fault is) (search rules)

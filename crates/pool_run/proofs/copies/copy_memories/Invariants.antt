@@ -1,6 +1,0 @@
-use Rattle.std.proofs.Common.{◌≡◌, take}
-use Rattle.pool_run.proofs.copies.copy_memories.Given as goal
-
--- the memories so far are copied
-abbrev pub invariant-loop-decl : goal.invariant-loop-decl
-invariant-loop-decl l = l.copies.items ≡ take l.decl-index l.memories

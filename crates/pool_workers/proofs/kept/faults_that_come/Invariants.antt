@@ -1,7 +1,0 @@
-use Rattle.std.proofs.Common.{◌≡◌, filter, take}
-use Rattle.pool_workers.specs.Listed.{can_come}
-use Rattle.pool_workers.proofs.kept.faults_that_come.Given as goal
-
--- what comes of the entries so far
-abbrev pub invariant-loop-at : goal.invariant-loop-at
-invariant-loop-at l = l.kept.items ≡ filter can_come (take l.at l.faults)
