@@ -212,6 +212,37 @@ impl ModuleMemoryImages {
     {
         self.images[index.0 as usize].as_ref()
     }
+
+    /// The same images in a list of its own. The images are shared: none of their bytes is copied.
+    pub fn share(&self, alloc: Global) -> Result<ModuleMemoryImages, AllocError>
+        ensures { IfOk result (λ images. images ≡ self.now) }
+    {
+        let images = share_all(alloc, self.images.as_slice())?;
+        Ok(ModuleMemoryImages { images })
+    }
+}
+
+// The same images in another list.
+fn share_all(
+    alloc: Global,
+    images: &[Option<Arc<MemoryImage>>],
+) -> Result<Vec<Option<Arc<MemoryImage>>>, AllocError>
+    ensures { IfOk result (λ list. map (option_map arc_value) list.items ≡ map (option_map arc_value) images.now) }
+{
+    let mut list = Vec::with_capacity(alloc, images.len())?;
+    for image in images {
+        list.push(share_one(image)?)?;
+    }
+    Ok(list)
+}
+
+fn share_one(image: &Option<Arc<MemoryImage>>) -> Result<Option<Arc<MemoryImage>>, AllocError>
+    ensures { IfOk result (λ shared. option_map arc_value shared ≡ option_map arc_value image.now) }
+{
+    match image {
+        Some(image) => Ok(Some(Arc::clone(image)?)),
+        None => Ok(None),
+    }
 }
 
 // The offset of the memory's image, where that is inside a page.
