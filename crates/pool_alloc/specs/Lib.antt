@@ -7,6 +7,7 @@ pub mod Freeing
 pub mod GrantedRequests
 pub mod GuardPages
 pub mod HeapLeases
+pub mod Held
 mod Imports
 pub mod InHand
 pub mod Leases

@@ -69,6 +69,7 @@ pub use frame::{
     TakenSlot,
 };
 pub use instance_allocator::InstanceAllocator;
+pub use instance_allocator::memories::{GrantedMemory, InstanceMemories};
 pub use instance_allocator::request::InstanceAllocationRequest;
 pub use leases::element::{Element, element_at, set_elements};
 pub use leases::heap::HeapLease;

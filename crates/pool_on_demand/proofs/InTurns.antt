@@ -50,3 +50,10 @@ module _ {D X S : Type 0} (One : ℕ → D → Result X AllocError → S → S �
   step_end ds n xs from to past within turn =
       let all : take n ds ≡ ds = ap (λ (i : ℕ). take i ds) {x = n} {y = length ds} (omega arith) ∙ take-length ds in
       subst (λ (l : List D). InTurn One 0 l xs from to) all turn
+
+  -- as many were allocated as there were to be
+  pub as_many : (k : ℕ) (ds : List D) (xs : List X) (from to : S) → InTurn One k ds xs from to → length xs ≡ length ds
+  as_many k [] [] from to turn = refl
+  as_many k [] (x ∷ xs) from to turn = absurd turn
+  as_many k (d ∷ ds) [] from to turn = absurd turn
+  as_many k (d ∷ ds) (x ∷ xs) from to turn = omega (arith, as_many (k + 1) ds xs turn.0 to turn.1.1)

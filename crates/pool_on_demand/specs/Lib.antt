@@ -5,3 +5,4 @@ pub mod InTurn
 pub mod Instances
 pub mod Refusals
 pub mod Stacks
+pub mod Writes

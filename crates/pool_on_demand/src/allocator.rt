@@ -42,16 +42,24 @@ impl<M: PageMaker, C: RuntimeMemoryCreator<M>, R: ResourceLimiter, K: HeapMaker>
 
     type Instance = OnDemandInstance<M, C::Linear, M::Region>;
 
-    ghost use Rattle.std.specs.Prelude.{None, ◌≡◌};
+    ghost use Rattle.std.specs.Prelude.{None, Ok, option_map, ◌≡◌};
     ghost use Rattle.pool_limits.specs.LimiterTold.{limiter_told};
     ghost use Rattle.pool_types.specs.declared.module_types.MemoryKind.TheVariants.{LinearMemory};
     ghost use Rattle.pool_on_demand.specs.Answers.{Allocates, IsHeapTurn};
     ghost use Rattle.pool_on_demand.specs.Instances.{IsMemoryTurn, IsTableTurn, GrantsInstance};
     ghost use Rattle.pool_on_demand.specs.Stacks.{IsStackMade, AsksForStack, stack_room};
     ghost use Rattle.pool_on_demand.specs.Refusals.{module_refused, type_refused, stack_refused};
-    ghost use Rattle.pool_alloc.specs.Requests.{refused_by, if_leads};
+    ghost use Rattle.pool_alloc.specs.Requests.{refused_by, if_leads, lent, kind_for, image_for};
 
-    ghost page = { λ seat. (M.told seat.maker).page };
+    ghost fits = { λ _ _. Unit {0} };
+
+    ghost gives = { λ _ _ _. Unit {0} };
+
+    ghost holds = { λ _ _ _ _. Unit {0} };
+
+    ghost memory_under = { λ heap. heap.memory.0 };
+
+    ghost page = { λ _ seat. (M.told seat.maker).page };
 
     ghost module_rule = { λ _ m. module_refused m };
 
@@ -59,15 +67,51 @@ impl<M: PageMaker, C: RuntimeMemoryCreator<M>, R: ResourceLimiter, K: HeapMaker>
 
     ghost component_rule = { λ _ _. None };
 
-    ghost memory_turn = { λ a tunables image ty result seat limiter seat_left limiter_left. IsMemoryTurn (limiter_told R.told) (if_leads R.leads) (C.refuses a.creator) (C.designs a.creator) tunables image ty result (record { maker = M.told seat.maker; limiter = limiter }) (record { maker = M.told seat_left.maker; limiter = limiter_left }) × (M.borrows seat_left.maker ≡ M.borrows seat.maker) };
+    ghost may_ask_for = { λ _ _. Unit {0} };
 
-    ghost table_turn = { λ a tunables ty result seat limiter seat_left limiter_left. IsTableTurn (limiter_told R.told) (if_leads R.leads) tunables.table_lazy_init ty result (record { maker = M.told seat.maker; limiter = limiter }) (record { maker = M.told seat_left.maker; limiter = limiter_left }) × (seat_left ≡ seat) };
+    ghost has_stripe = { λ _ _. Unit {0} };
 
-    ghost stack_turn = { λ a result seat left. Allocates (stack_refused a.stack_size) (IsStackMade a.stack_size a.stack_zeroing (M.told seat.maker)) result (M.told seat.maker) (M.told left.maker) × (AsksForStack (stack_refused a.stack_size) (stack_room (M.told seat.maker).page a.stack_size).bytes result (M.told seat.maker) (M.told left.maker) × (M.borrows left.maker ≡ M.borrows seat.maker)) };
+    ghost memory_turn = { λ a _ request ty index result seat seat_left limiter_left. IsMemoryTurn (limiter_told R.told) (if_leads R.leads) (C.refuses a.creator) (C.designs a.creator) (record { tunables = request.tunables.now; kind = kind_for index }) (image_for (option_map (λ i. i.now) request.images) index) ty result (record { maker = M.told seat.maker; limiter = lent request.limiter }) (record { maker = M.told seat_left.maker; limiter = limiter_left }) × (M.borrows seat_left.maker ≡ M.borrows seat.maker) };
 
-    ghost instance_turn = { λ a tunables m images result seat limiter seat_left limiter_left. GrantsInstance (limiter_told R.told) (if_leads R.leads) (C.refuses a.creator) (C.designs a.creator) (record { tunables = tunables; kind = LinearMemory }) m images result (record { maker = M.told seat.maker; limiter = limiter }) (record { maker = M.told seat_left.maker; limiter = limiter_left }) × (M.borrows seat_left.maker ≡ M.borrows seat.maker) };
+    ghost table_turn = { λ a _ request ty result seat seat_left limiter_left. IsTableTurn (limiter_told R.told) (if_leads R.leads) request.tunables.now.table_lazy_init ty result (record { maker = M.told seat.maker; limiter = lent request.limiter }) (record { maker = M.told seat_left.maker; limiter = limiter_left }) × (seat_left ≡ seat) };
 
-    ghost heap_turn = { λ _ memory result old new. IsHeapTurn memory (λ lease. lease.index.0) (λ lease. lease.memory.0) (λ lease. K.Heap.attached lease.heap) result old new };
+    ghost stack_turn = { λ a _ result seat left. Allocates (stack_refused a.stack_size) (IsStackMade a.stack_size a.stack_zeroing (M.told seat.maker)) result (M.told seat.maker) (M.told left.maker) × (AsksForStack (stack_refused a.stack_size) (stack_room (M.told seat.maker).page a.stack_size).bytes result (M.told seat.maker) (M.told left.maker) × (M.borrows left.maker ≡ M.borrows seat.maker)) };
+
+    ghost instance_turn = { λ a _ request result seat seat_left limiter_left. GrantsInstance (limiter_told R.told) (if_leads R.leads) (C.refuses a.creator) (C.designs a.creator) (record { tunables = request.tunables.now; kind = LinearMemory }) request.module.now (option_map (λ i. i.now) request.images) result (record { maker = M.told seat.maker; limiter = lent request.limiter }) (record { maker = M.told seat_left.maker; limiter = limiter_left }) × (M.borrows seat_left.maker ≡ M.borrows seat.maker) };
+
+    ghost heap_turn = { λ _ _ memory result seat left old new. IsHeapTurn memory (λ lease. lease.index.0) (λ lease. lease.memory.0) (λ lease. K.Heap.attached lease.heap) result old new × (left ≡ seat) };
+
+    ghost memory_return = { λ _ _ seat left. left ≡ seat };
+
+    ghost table_return = { λ _ _ seat left. left ≡ seat };
+
+    ghost stack_return = { λ _ _ seat left. left ≡ seat };
+
+    ghost heap_return = { λ _ _ seat left. left ≡ seat };
+
+    ghost instance_return = { λ _ _ seat left. left ≡ seat };
+
+    ghost core_count = { λ _ result seat left. (result ≡ Ok tt) × (left ≡ seat) };
+
+    ghost component_count = { λ _ result seat left. (result ≡ Ok tt) × (left ≡ seat) };
+
+    ghost core_uncount = { λ _ seat left. left ≡ seat };
+
+    ghost component_uncount = { λ _ seat left. left ≡ seat };
+
+    ghost purge_turn = { λ _ _ result seat left. (result ≡ 0) × (left ≡ seat) };
+
+    ghost stripe_turn = { λ _ result seat left. (result ≡ None) × (left ≡ seat) };
+
+    ghost passing = { λ _ _ _. tt };
+
+    ghost holds_none = { λ _ _ _. tt };
+
+    ghost holds_gives = { λ _ _ _ _ _ _. tt };
+
+    ghost holds_moved = { λ _ _ _ _ _ _ _. tt };
+
+    ghost holds_written = { λ _ _ _ _ _ _ _ _ _ _ _ _. tt };
 
     fn validate_component(
         &self,

@@ -88,6 +88,8 @@ impl<M: PageMaker, C: RuntimeMemoryCreator<M>, R: ResourceLimiter> AllocatesInst
         ensures granted { GrantsInstance (limiter_told R.told) (if_leads R.leads) (C.refuses self.now.creator) (C.designs self.now.creator) (record { tunables = request.old.tunables.now; kind = MemoryKind.LinearMemory }) request.old.module.now (option_map (λ i. i.now) request.old.images) result (record { maker = M.told maker.old; limiter = lent request.old.limiter }) (record { maker = M.told maker.new; limiter = lent request.new.limiter }) }
         ensures borrows { M.borrows maker.new ≡ M.borrows maker.old }
         ensures request { IsSameRequest request.old request.new }
+        ensures page { (M.told maker.new).page ≡ (M.told maker.old).page }
+        ensures memories { IfOk result (λ instance. length instance.memories ≡ length request.old.module.now.memories) }
     {
         let module = request.module;
         if let Some(rule) = module_refused(module) {

@@ -18,8 +18,9 @@
 mod allocator;
 mod on_demand;
 
-// What is granted
+// What is granted, and what is written into it
 mod lease;
+mod memories;
 
 // An instance: its memories and tables in order
 mod given_answer;
