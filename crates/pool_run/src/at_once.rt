@@ -10,7 +10,7 @@ ghost use Rattle.pool_run.specs.declared.reply.Reply.TheVariants.{Size};
 ghost use Rattle.pool_run.specs.Turns.{LeaseMoves, with_lease, private_memory, seen_stack, StackStateMoves, StackStateWrites, MovesLeasedBytes};
 
 use crate::act::MemoryOp;
-use crate::copies::zeros;
+use crate::buffers::zeros;
 use crate::input::PartyLimits;
 use crate::leases::Leases;
 use crate::limiter::limiter_of;

@@ -7,7 +7,6 @@ ghost use Rattle.pool_run.specs.Made.{call_made, calls_made};
 ghost use Rattle.pool_run.specs.Runs.{ModuleFaults, ModulesFault, module_listed, images_listed, is_refused};
 ghost use Rattle.pool_run.specs.Validity.{is_valid_module};
 
-use crate::copies::copy_of;
 use crate::images::make_images;
 use crate::output::RunFault;
 use pool_alloc::ModuleCall;
@@ -87,7 +86,7 @@ fn call_of(
 ) -> Result<ModuleCall, AllocError>
     ensures { IfOk result (λ call. call ≡ record { info = info.now; images = images; id = id }) }
 {
-    let info = copy_of(alloc, info)?;
+    let info = info.copy(alloc)?;
     Ok(ModuleCall {
         info: Arc::new(alloc, info).map_err(AllocError::from)?,
         images: shared(alloc, images)?,

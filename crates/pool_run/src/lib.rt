@@ -28,8 +28,8 @@ mod replies;
 mod reply;
 
 // A run from its input to its output
+mod buffers;
 mod calls;
-mod copies;
 mod images;
 mod pools;
 mod run;
@@ -63,10 +63,10 @@ pub use act::{Act, MemoryOp, TableOp, Wanted, act_of, heap_type};
 pub use at_once::act_on_stack;
 pub use begin::{Begun, begin_next};
 pub use bounds::StepBounds;
+pub use buffers::zeros;
 pub use built::is_built;
 pub use calls::make_calls;
 pub use command::{Command, TableValue};
-pub use copies::zeros;
 pub use input::{Input, Party, PartyLimits, ScheduleEntry};
 pub use laws::{
     heap_faults_are_listed, made_runs_turn, replies_come_in_time, runs_agree, slots_have_places,

@@ -21,6 +21,7 @@ mod byte_count_forms;
 mod numerals;
 
 // Modules and their types
+mod copies;
 mod module_types;
 mod table_type;
 

@@ -1,5 +1,5 @@
 use Rattle.std.proofs.Common.{◌≡◌, take}
-use Rattle.pool_run.proofs.copies.copy_memories.Given as goal
+use Rattle.pool_types.proofs.copies.copy_memories.Given as goal
 
 -- the memories so far are copied
 abbrev pub invariant-loop-decl : goal.invariant-loop-decl

@@ -1,5 +1,5 @@
 use Rattle.std.proofs.Common.{◌≡◌, take}
-use Rattle.pool_run.proofs.copies.copy_parts.Given as goal
+use Rattle.pool_types.proofs.copies.copy_parts.Given as goal
 
 -- the parts so far are copied
 abbrev pub invariant-loop-part : goal.invariant-loop-part

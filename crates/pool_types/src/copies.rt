@@ -1,18 +1,23 @@
-ghost use Rattle.std.specs.Prelude.{◌≡◌, IfOk, option_map, vec_len};
+//! Copies of what is known of a module.
+ghost use Rattle.std.specs.Prelude.{◌≡◌, IfOk};
 
-use pool_types::{ByteList, ImageDecl, MemoryDecl, ModuleInfo, Part, PlainList, Text};
+use crate::module_types::{ImageDecl, MemoryDecl, ModuleInfo, Part};
+use crate::plain_list::{ByteList, PlainList};
+use crate::text::Text;
 use std::alloc::{AllocError, Global};
 
-/// A copy of what is known of a module.
-pub(crate) fn copy_of(alloc: Global, info: &ModuleInfo) -> Result<ModuleInfo, AllocError>
-    ensures { IfOk result (λ copy. copy ≡ info.now) }
-{
-    Ok(ModuleInfo {
-        memories: copy_memories(alloc, info.memories.as_slice())?,
-        tables: PlainList::from_vec(Vec::from_slice(alloc, info.tables.as_slice())?),
-        state_bytes: info.state_bytes,
-        parts: copy_parts(alloc, info.parts.as_slice())?,
-    })
+impl ModuleInfo {
+    /// The same once more, with copies of its images' bytes.
+    pub fn copy(&self, alloc: Global) -> Result<ModuleInfo, AllocError>
+        ensures { IfOk result (λ copy. copy ≡ self.now) }
+    {
+        Ok(ModuleInfo {
+            memories: copy_memories(alloc, self.memories.as_slice())?,
+            tables: PlainList::from_vec(Vec::from_slice(alloc, self.tables.as_slice())?),
+            state_bytes: self.state_bytes,
+            parts: copy_parts(alloc, self.parts.as_slice())?,
+        })
+    }
 }
 
 fn copy_parts(alloc: Global, parts: &[Part]) -> Result<PlainList<Part>, AllocError>
@@ -67,11 +72,4 @@ fn copy_image(alloc: Global, image: &ImageDecl) -> Result<ImageDecl, AllocError>
         offset: image.offset,
         bytes: ByteList::from_vec(bytes),
     })
-}
-
-/// As many zeros.
-pub fn zeros(alloc: Global, len: usize) -> Result<Vec<u8>, AllocError>
-    ensures { IfOk result (λ v. vec_len v ≡ len) }
-{
-    vec![in alloc; 0; len]
 }

@@ -1,0 +1,10 @@
+ghost use Rattle.std.specs.Prelude.{◌≡◌, IfOk, vec_len};
+
+use std::alloc::{AllocError, Global};
+
+/// As many zeros.
+pub fn zeros(alloc: Global, len: usize) -> Result<Vec<u8>, AllocError>
+    ensures { IfOk result (λ v. vec_len v ≡ len) }
+{
+    vec![in alloc; 0; len]
+}
