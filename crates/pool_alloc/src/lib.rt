@@ -4,7 +4,7 @@
 //! `Call`, and each `PoolCore::step` makes one step of it, until one answers with an `Outcome`. A step changes at most
 //! one part. A `Grant` holds leases (`InstanceLease`, `MemoryLease`, `TableLease`, `StackLease`, `HeapLease`), which
 //! are read and written without the pool and given back with `Call::GiveBack`. `InstanceAllocator` is the trait of
-//! allocators with one call for each request; `pool_on_demand` implements it, and this pool doesn't.
+//! allocators with one call for each request; `pool_on_demand` implements it, and `pool_callers` for pools that threads share.
 //!
 //! `PoolCore` has all parts and counters for itself. Whoever has them otherwise, as behind locks, makes the same steps by
 //! the same functions: `next_target` says what the frame's next step changes, and the step is then `step_part` on a part,

@@ -1,4 +1,5 @@
 pub mod Answers
+pub mod GivenFirst
 pub mod Giving
 pub mod GrantUnits
 pub mod Granted
@@ -8,4 +9,6 @@ pub mod Seats
 pub mod Sent
 pub mod Settling
 pub mod SingleCalls
+pub mod Stripes
+pub mod Waited
 pub mod Writing

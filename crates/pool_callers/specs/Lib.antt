@@ -1,3 +1,10 @@
 pub mod Callers
+pub mod GivenFirst
+pub mod GivingLaws
 pub mod GrantUnits
+pub mod HeldLaws
+pub mod Lending
 pub mod NoHeapsTold
+pub mod UnitLaws
+pub mod Waiting
+pub mod WritingLaws

@@ -29,9 +29,15 @@ mod others;
 mod singles;
 mod stacks;
 
+// The allocator as one of those of the trait
+mod given_answers;
+mod instance_allocator;
+mod waiting;
+
 // Its numbers
 mod metrics;
 
 pub use allocator::PoolingInstanceAllocator;
 pub use metrics::PoolingAllocatorMetrics;
 pub use seat::CallerSeat;
+pub use waiting::WaitingAllocator;

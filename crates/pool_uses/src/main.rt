@@ -18,6 +18,7 @@
 #![tactic(auto)]
 
 // Callers
+mod any_allocator;
 mod instances;
 mod one_caller;
 mod singles;
@@ -33,6 +34,8 @@ mod measure;
 mod counted_pages;
 
 // Whole pools
+#[cfg(test)]
+mod any_allocator_tests;
 #[cfg(test)]
 mod one_caller_tests;
 #[cfg(test)]
