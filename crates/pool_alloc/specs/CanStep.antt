@@ -16,7 +16,7 @@ use Rattle.pool_alloc.specs.declared.frame.Object.{Object}
 use Rattle.pool_alloc.specs.declared.frame.Object.TheVariants.{Memory, Table, Stack}
 use Rattle.pool_alloc.specs.StackLeases.{LeasedStack, stack_slot}
 use Rattle.pool_alloc.specs.declared.frame.Asked.{Asked}
-use Rattle.pool_alloc.specs.declared.frame.Asked.TheVariants.{Memory as memory_asked, Table as table_asked}
+use Rattle.pool_alloc.specs.declared.frame.Asked.TheVariants.{Memory as memory_asked, Table as table_asked, HeapOver as heap_over_asked}
 use Rattle.pool_alloc.specs.declared.leases.instance.InstanceLease.{InstanceLease}
 use Rattle.pool_alloc.specs.declared.frame.Phase.{Phase}
 use Rattle.pool_alloc.specs.declared.frame.Phase.TheVariants.{Idle, Key, Validate, TestStack, TestHeap, CountInstance, Pick, TakeQueue, TakeRegion, Empty, Instantiate, MakeMemory, MakeTable, CountObject, TakeHeap, MakeHeap, CountHeap, PutNoHeap, PutBack, FreeOne, UncountObject, UncountHeap, PutHeap, FreeHeap, Reset, Merge, Flush, UncountInstance, ValidateComponent, CountComponent, UncountComponent, Purge, Release}
@@ -106,6 +106,11 @@ CanKeepMemory _ objects = length objects.memories.items < objects.memories.room
 abbrev pub CanKeepTable : {P : Type 0} → Asked → InstanceLease P → Type 0
 CanKeepTable (table_asked ty) objects = Unit {0}
 CanKeepTable _ objects = length objects.tables.items < objects.tables.room
+
+-- The memory of the heap was granted. A heap over one that there is needs none.
+abbrev pub CanTakeMemory : {P : Type 0} → Asked → InstanceLease P → Type 0
+CanTakeMemory (heap_over_asked memory) objects = Unit {0}
+CanTakeMemory _ objects = 0 < length objects.memories.items
 
 -- the region has room for the table
 pub record CanMakeTable (s : Settings) (region : Told) (ty : TableType) : Type 0 where
@@ -275,7 +280,7 @@ module _ {P H : Type 0} where
   CanStepAt (PutBack at held) c f = CanPutOf at.name held c
   CanStepAt (TakeHeap name) c f = CanTakeHeapOf name.slot c
   CanStepAt (MakeHeap at) c f = Unit {0}
-  CanStepAt (CountHeap lease) c f = (c.counters.gc_heaps + 1 < 2 ^ 64) × (0 < length f.objects.memories.items)
+  CanStepAt (CountHeap lease) c f = (c.counters.gc_heaps + 1 < 2 ^ 64) × CanTakeMemory f.asked f.objects
   CanStepAt (PutNoHeap at) c f = CanPutHeapOf at.name.slot c
   CanStepAt (FreeOne name) c f = IsAt IsShardPart (home_of c.plan name).place c.parts × CanFreeOne name c.plan (shard_at (home_of c.plan name).place c)
   CanStepAt (UncountObject (Memory lease)) c f = 0 < c.counters.memories
