@@ -18,7 +18,7 @@ use Rattle.pool_alloc.specs.declared.leases.instance.InstanceLease.{InstanceLeas
 use Rattle.pool_alloc.specs.Searches.{AreFull, AreEmpty, IsSearchedBy, IsSearchedAt, IsSearched}
 use Rattle.pool_alloc.specs.BetweenSteps.{queue_room, AreSupported, AreTablesSupported, IsLocal, IsLeaseOf, IsObjectOf, AreLeasesOf, AreOfOneKind, IsCore, IsFrame, IsToGrant, Aims, HasNoneWaiting, IsAtRest, IsAiming, IsAllocating, IsReturning, IsShapedAt, AreBegun, IsFreedOf}
 use Rattle.pool_alloc.specs.CallStages.{Progress, untested, uncounted, admitted, seeks_single, seeks_stack, tests_heap, seeks_heap, counts_heap, Stage, no_call, keys, asks, returning, refusing, progress_by, stage_by, stage_at, stage_of, Follows, Goes, tests_component, counts_component, purging, reserving, releasing}
-use Rattle.pool_alloc.specs.StepReads.{memories_wanted, images_wanted, tables_wanted, stacks_wanted, singles_wanted, memories_kept, tables_kept, IsForObjects, IsForInstance, kind_next, allocator_for, queues_searched, queues_next}
+use Rattle.pool_alloc.specs.StepReads.{memories_wanted, images_wanted, tables_wanted, stacks_wanted, singles_wanted, memories_kept, tables_kept, IsForInstance, kind_next, allocator_for, queues_searched, queues_next}
 use Rattle.pool_alloc.specs.Stepping.{Conserves, RiseByOne, count_granted, grant_weight, is_idle}
 use Rattle.pool_alloc.specs.Turns.{Turn, goes, ends, next, flush, search, Row, Left, After, is_granting, failing, returned_next, all_returned, answer_of, next_by, is_flushed, after, finished, stepped, gone_to, stays, ends_with}
 use Rattle.pool_alloc.specs.declared.pool_core.PoolCore.{PoolCore}

@@ -2,7 +2,6 @@
 -- granted, or finds no memory.
 use Rattle.std.proofs.Common.{◌≡◌, ℕ, ◌+◌, ◌<◌, ◌==◌, ◌||◌, ◌⊎◌, Bool, true, false, List, [], ◌∷◌, length, drop, Option, Some, None, Result, Ok, Err, refl, sym, ap, ◌∙◌, subst, inl, inr, arith, nat_lt, nat_le, if◌then◌else◌, IfErr, IfSome}
 use Rattle.std.proofs.lemmas.Bool.{ne_eqb}
-use Rattle.pool_slots.specs.declared.errors.AllocError.TheVariants as refusal
 use Rattle.pool_slots.specs.declared.heap_maker.HeapMakeFault.TheVariants as no_heap
 use Rattle.pool_alloc.proofs.Imports.{MakerTold, ShardState, SlotId, pick_answer, slot_number, Slot, MemoryState, Told, Unsupported, Queue, Queued, first_of_kind, others_of_kind, AllocError, HeapMakeFault, LimiterError, Cell, unmapped, unknown, previously_used, taken, slot_of, Plan, SlotKind, memory_kind, table_kind, stack_kind, heap_kind, SlotName, heap_in, cell_numbers, heap_slot}
 use Rattle.pool_alloc.specs.CallStages.{untested, seeks_single, seeks_stack, tests_heap, seeks_heap, counts_heap, Stage, no_call, keys, asks as asking, tests_component, counts_component, returning, refusing, purging, reserving, releasing, Goes, stage_at, stage_by, stage_of}
@@ -10,7 +9,7 @@ use Rattle.pool_alloc.specs.BetweenSteps.{IsShapedAt}
 use Rattle.pool_alloc.specs.Calls.{MayBegin, begun_call}
 use Rattle.pool_alloc.specs.GrantedRequests.{IsWant, CanBeMade, BreaksNoRule, NothingFails, GoesWell, AllGoWell, IsGranted}
 use Rattle.pool_alloc.specs.HeapLeases.{LeasedHeap, heap_numbers, memory_under}
-use Rattle.pool_alloc.specs.Leases.{Lease, first_index, slot_taken}
+use Rattle.pool_alloc.specs.Leases.{Lease, slot_taken}
 use Rattle.pool_alloc.specs.MemorySteps.{heap_refusal, memory_made, reset_into}
 use Rattle.pool_alloc.specs.Objects.{objects_in, objects_wanted}
 use Rattle.pool_alloc.specs.PartyTold.{PartyTold}

@@ -1,24 +1,21 @@
 -- What follows for the slot of a heap that the next step of a call has, and for what a call for a heap asks.
-use Rattle.std.proofs.Common.{◌≡◌, ℕ, ◌+◌, ◌<◌, ◌≤◌, Bool, true, false, refl, sym, subst, arith, length, if◌then◌else◌, nat_lt, Option}
-use Rattle.pool_alloc.proofs.Imports.{ltb-true, SlotKind, memory_kind, heap_kind, MakerTold, MemoryType, IsHere, heap_slot, of_kind, Plan, RegionNumbers, SlotName}
+use Rattle.std.proofs.Common.{◌≡◌, ℕ, ◌<◌, ◌≤◌, Bool, true, false, refl, sym, subst, arith, length, if◌then◌else◌, nat_lt, Option}
+use Rattle.pool_alloc.proofs.Imports.{ltb-true, SlotKind, memory_kind, heap_kind, MakerTold, IsHere, heap_slot, of_kind, Plan, RegionNumbers, SlotName}
 use Rattle.pool_alloc.specs.HeapLeases.{LeasedHeap}
 use Rattle.pool_alloc.specs.Leases.{Lease}
-use Rattle.pool_alloc.specs.Objects.{objects_in}
-use Rattle.pool_alloc.specs.Places.{right_to, region_of, frame_count}
+use Rattle.pool_alloc.specs.Places.{right_to, frame_count}
 use Rattle.pool_alloc.specs.BetweenSteps.{HasCells, IsCore, FitsCore, IsHeapName, IsAllocating}
-use Rattle.pool_alloc.specs.StepReads.{memories_wanted, memories_kept, heaps_wanted, heaps_at, kind_by, kind_next, IsHeapAsked}
+use Rattle.pool_alloc.specs.StepReads.{memories_wanted, memories_kept, heaps_wanted, heaps_at, kind_by, kind_next}
 use Rattle.pool_alloc.specs.declared.frame.Asked.{Asked}
 use Rattle.pool_alloc.specs.declared.frame.Asked.TheVariants.{Memory as memory_asked, Table as table_asked, Stack as stack_asked, Heap as heap_asked, HeapOver as heap_over_asked}
 use Rattle.pool_alloc.specs.declared.frame.Frame.{Frame}
-use Rattle.pool_alloc.specs.declared.frame.Phase.{Phase}
 use Rattle.pool_alloc.specs.declared.frame.Phase.TheVariants.{Idle, TakeHeap, PutNoHeap, PutHeap}
-use Rattle.pool_alloc.specs.declared.frame.TakenSlot.{TakenSlot}
 use Rattle.pool_alloc.specs.declared.pool_core.PoolCore.{PoolCore}
 use Rattle.pool_alloc.specs.declared.pool_core.Settings.{Settings}
 use Rattle.pool_alloc.specs.CanStep.{CanTakeMemory}
 use Rattle.pool_alloc.proofs.BeforeTheTurn.{CountsNone, in_phase}
 use Rattle.pool_alloc.proofs.SlotCounts.{slot_once, slot_regions}
-use Rattle.pool_alloc.proofs.SlotsOfFrames.{IsHeapOut, unit_weight, unit_once, frame_regions, held_once, heap_is_home, heap_is_away}
+use Rattle.pool_alloc.proofs.SlotsOfFrames.{IsHeapOut, unit_once, frame_regions, held_once, heap_is_home, heap_is_away}
 use Rattle.pool_alloc.specs.declared.leases.instance.InstanceLease.{InstanceLease}
 
 -- the name of a heap's slot

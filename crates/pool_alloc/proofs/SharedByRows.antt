@@ -8,7 +8,7 @@ use Rattle.pool_alloc.specs.Objects.{objects_in, objects_wanted}
 use Rattle.pool_alloc.specs.declared.leases.instance.InstanceLease.{InstanceLease}
 use Rattle.pool_alloc.specs.Searches.{IsSearchedBy}
 use Rattle.pool_alloc.specs.BetweenSteps.{IsCore, Aims, IsToGrant}
-use Rattle.pool_alloc.specs.CallStages.{Progress, asks, seeks_single, FailsObject, HasObject, no_call, refusing, progress_by, stage_by, FindsNone, IsPageFaulted, Makes, Follows, Raises, Goes}
+use Rattle.pool_alloc.specs.CallStages.{Progress, asks, seeks_single, FailsObject, HasObject, no_call, refusing, progress_by, stage_by, FindsNone, IsPageFaulted, Makes, Raises, Goes}
 use Rattle.pool_alloc.specs.StepReads.{stacks_wanted, singles_wanted, IsForObjects, IsForInstance}
 use Rattle.pool_alloc.specs.Stepping.{CanStep}
 use Rattle.pool_alloc.specs.Turns.{is_granting, answer_of}

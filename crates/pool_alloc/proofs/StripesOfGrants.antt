@@ -1,9 +1,9 @@
 -- What a call picks is one of its allocator's slots, so that its memories lie in its party's stripe.
-use Rattle.std.proofs.Common.{◌≡◌, ℕ, ◌+◌, ◌*◌, ◌-◌, ◌<◌, ◌==◌, ◌&&◌, ◌||◌, ◌%◌, Bool, true, false, not, List, [], ◌∷◌, ◌++◌, length, drop, Option, Some, None, Result, Ok, Err, refl, sym, ap, ◌∙◌, subst, arith, nat_lt, nat_le, if◌then◌else◌, IfSome}
+use Rattle.std.proofs.Common.{◌≡◌, ℕ, ◌+◌, ◌*◌, ◌<◌, ◌==◌, ◌&&◌, ◌||◌, ◌%◌, Bool, true, false, not, List, [], ◌∷◌, ◌++◌, length, drop, Option, Some, None, Result, Ok, Err, refl, sym, ap, ◌∙◌, subst, arith, nat_lt, nat_le, if◌then◌else◌, IfSome}
 use Rattle.pool_alloc.proofs.Imports.{sum_by-cons, sum_by_push, one_if, same_kind, MakerTold, ShardState, SlotId, pick_answer, slot_number, Slot, MemoryState, Told, Unsupported, Queue, Queued, first_of_kind, others_of_kind, AllocError, HeapMakeFault, Cell, unmapped, unknown, previously_used, taken, Allocator, Plan, has_number, number_in, SlotKind, memory_kind, table_kind, stack_kind, heap_kind, SlotName, RegionNumbers, heap_in, cell_numbers, slot_of, IsShardOf, told_weaker}
 use Rattle.pool_alloc.specs.CallStages.{keys, stage_of}
 use Rattle.pool_alloc.specs.HeapLeases.{LeasedHeap, heap_slot_taken, heap_numbers, memory_under}
-use Rattle.pool_alloc.specs.Leases.{Lease, first_index, memory_slot, slot_taken}
+use Rattle.pool_alloc.specs.Leases.{Lease, memory_slot, slot_taken}
 use Rattle.pool_alloc.specs.MemorySteps.{memory_made, reset_into}
 use Rattle.pool_alloc.specs.Objects.{objects_in, objects_wanted, no_objects}
 use Rattle.pool_alloc.specs.PartyTold.{PartyTold}

@@ -1,5 +1,5 @@
 -- A party's calls: its frame as made, what a call begins with, and what it grants.
-use Rattle.std.specs.Prelude.{◌≡◌, ℕ, ◌*◌, ◌<◌, [], length, Option, Some, None}
+use Rattle.std.specs.Prelude.{◌≡◌, ℕ, ◌<◌, [], length, Option, Some, None}
 use Rattle.pool_alloc.specs.Imports.{MakerTold, MemoryAllocationIndex, empty_queue, Plan, MemoryType, TableType, SlotKind, memory_kind, table_kind, refused_limits}
 use Rattle.pool_alloc.specs.Objects.{no_objects}
 use Rattle.pool_alloc.specs.HeapLeases.{LeasedHeap, heap_numbers, IsHeapLease, memory_noted}
@@ -21,7 +21,7 @@ use Rattle.pool_alloc.specs.declared.frame.Phase.TheVariants.{Idle, Key, Validat
 use Rattle.pool_alloc.specs.declared.frame.Ending.TheVariants.{Granted as granted, Returned as returned}
 use Rattle.pool_alloc.specs.declared.frame.Grant.{Grant}
 use Rattle.pool_alloc.specs.declared.frame.Grant.TheVariants.{Instance, Memory, Table, Stack, Heap, HeapOver, Component}
-use Rattle.pool_alloc.specs.PlainModules.{ModuleAsked, MemoryAsked}
+use Rattle.pool_alloc.specs.PlainModules.{MemoryAsked}
 use Rattle.pool_alloc.specs.declared.frame.Call.{Call}
 use Rattle.pool_alloc.specs.declared.frame.Call.TheVariants as call
 use Rattle.pool_alloc.specs.declared.frame.Outcome.{Outcome}

@@ -1,6 +1,6 @@
 -- Just what the code of each step needs of the pool's parts and of the frame.
 use Rattle.std.specs.Prelude.{◌≡◌, ℕ, ◌+◌, ◌^◌, ◌<◌, ◌≤◌, ◌%◌, List, [], length, slice_get, All, false, Option, None, IsSome, IfSome, true, Some}
-use Rattle.pool_alloc.specs.Imports.{count, rounded_up, Told, minimum_byte_size, refused_limits, MemoryDecl, Image, Slot, IsClean, IsFresh, FitsInto, IsRangeOf, ShardState, use_of, memory_kind, stack_kind, slot_of, CanHold, is_taken, unmapped, IsCleanOnceUsed, stripe_colour, CellState, IsAwaited, plain_slot, Queue, Queued, first_of_kind, HasOwners, IsSpareOf, Plan, cell_of, cell_place, home_of, IsPlacedAllocator, SlotName, TableType, room_of, IsRoom, type_maximum, Allocator, SlotKind, CanMerge, IsAt, IsShardPart, IsCellPart, IsHere, IsOut, IsPlain, ImageSlot, Unmapped, Unknown, PreviouslyUsed, Taken}
+use Rattle.pool_alloc.specs.Imports.{count, rounded_up, Told, minimum_byte_size, refused_limits, MemoryDecl, Image, Slot, IsClean, IsFresh, FitsInto, IsRangeOf, ShardState, use_of, memory_kind, stack_kind, slot_of, CanHold, is_taken, unmapped, IsCleanOnceUsed, stripe_colour, CellState, IsAwaited, plain_slot, Queue, Queued, first_of_kind, HasOwners, IsSpareOf, Plan, cell_of, cell_place, home_of, IsPlacedAllocator, SlotName, TableType, room_of, IsRoom, type_maximum, Allocator, CanMerge, IsAt, IsShardPart, IsCellPart, IsHere, IsOut, IsPlain, ImageSlot, Unknown, PreviouslyUsed}
 use Rattle.pool_alloc.specs.Freeing.{AreUsedInTurn, HasHome, CanBeFreed}
 use Rattle.pool_alloc.specs.TableLeases.{LeasedTable, table_slot}
 use Rattle.pool_alloc.specs.TableSteps.{IsInRegion, CanQueue, table_bytes}

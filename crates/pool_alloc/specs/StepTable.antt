@@ -26,11 +26,8 @@ use Rattle.pool_alloc.specs.declared.frame.Phase.TheVariants.{Idle, Key, Validat
 use Rattle.pool_alloc.specs.declared.frame.Grant.TheVariants.{Component, Memory as memory_granted, Table as table_granted, Stack, Heap, HeapOver}
 use Rattle.pool_alloc.specs.declared.frame.Asked.{Asked}
 use Rattle.pool_alloc.specs.declared.frame.Asked.TheVariants.{Memory as memory_asked, Table as table_asked, HeapOver as heap_over_asked}
-use Rattle.pool_alloc.specs.declared.frame.Ending.{Ending}
-use Rattle.pool_alloc.specs.declared.frame.Ending.TheVariants.{Refused as refused}
 use Rattle.pool_alloc.specs.declared.frame.Object.{Object}
 use Rattle.pool_alloc.specs.declared.frame.Object.TheVariants as object
-use Rattle.pool_alloc.specs.declared.frame.Outcome.{Outcome}
 use Rattle.pool_alloc.specs.declared.frame.Outcome.TheVariants as answer
 use Rattle.pool_alloc.specs.Purges.{purge_row}
 use Rattle.pool_alloc.specs.Releases.{release_row}

@@ -1,4 +1,4 @@
-use Rattle.std.proofs.Common.{◌≡◌, Bool, sym, ap, ◌∙◌}
+use Rattle.std.proofs.Common.{Bool, sym, ap, ◌∙◌}
 use Rattle.pool_alloc.specs.StepReads.{under}
 use Rattle.pool_alloc.specs.StepTable.{heaps_tested}
 use Rattle.pool_alloc.specs.Turns.{stepped}

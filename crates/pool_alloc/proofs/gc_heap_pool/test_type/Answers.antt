@@ -1,10 +1,9 @@
-use Rattle.std.proofs.Common.{◌≡◌, Bool, true, Option, None, refl, sym, ap, ◌∙◌}
+use Rattle.std.proofs.Common.{◌≡◌, Option, None, sym, ap, ◌∙◌}
 use Rattle.pool_types.specs.declared.unsupported.Unsupported.{Unsupported}
 use Rattle.pool_alloc.specs.Refusals.{heap_refused}
 use Rattle.pool_alloc.specs.StepReads.{under}
-use Rattle.pool_alloc.specs.StepTable.{memory_tested, validated}
+use Rattle.pool_alloc.specs.StepTable.{validated}
 use Rattle.pool_alloc.specs.Turns.{stepped}
-use Rattle.pool_alloc.specs.declared.frame.Asked.{Asked}
 use Rattle.pool_alloc.specs.declared.frame.Phase.TheVariants.{Pick}
 use Rattle.pool_alloc.proofs.gc_heap_pool.test_type.Goals as goal
 
