@@ -9,7 +9,7 @@ use Rattle.pool_slots.specs.declared.part.PoolPart.{PoolPart}
 use Rattle.pool_slots.specs.declared.plan.Plan.{Plan}
 use Rattle.pool_alloc.specs.HeapLeases.{LeasedHeap}
 use Rattle.pool_alloc.specs.Leases.{Lease}
-use Rattle.pool_alloc.specs.OnCounters.{CanStepCounted, counted_on, heap_found}
+use Rattle.pool_alloc.specs.OnCounters.{CanStepCounted, counted_on, heap_found, heap_found_for}
 use Rattle.pool_alloc.specs.PartyTold.{PartyTold}
 use Rattle.pool_alloc.specs.Places.{Counter, frame_counted, only}
 use Rattle.pool_alloc.specs.StepsAlone.{CanStepAlone, StepsAlone}
@@ -23,6 +23,8 @@ use Rattle.pool_alloc.specs.declared.frame.Object.TheVariants.{Memory, Table, St
 use Rattle.pool_alloc.specs.declared.frame.Outcome.{Outcome}
 use Rattle.pool_alloc.specs.declared.frame.Phase.{Phase}
 use Rattle.pool_alloc.specs.declared.frame.Phase.TheVariants.{Key, CountInstance, CountObject, CountHeap, UncountObject, CountComponent}
+use Rattle.pool_alloc.specs.declared.frame.Asked.{Asked}
+use Rattle.pool_alloc.specs.declared.frame.Asked.TheVariants.{HeapOver as heap_over_asked}
 use Rattle.pool_alloc.specs.declared.pool_core.Counters.{Counters}
 use Rattle.pool_alloc.specs.declared.pool_core.PoolCore.{PoolCore}
 use Rattle.pool_alloc.specs.declared.pool_core.Settings.{Settings}
@@ -56,6 +58,10 @@ module _ {P H : Type 0} (s : Settings) (plan : Plan) where
   heap_alike [] lease n m f = refl
   heap_alike (memory ∷ rest) lease n m f = refl
 
+  heap_for_alike : (what : Asked) (lease : LeasedHeap H) (n m : ℕ) (f : Frame P H) → left_by (heap_found_for what lease n f) ≡ left_by (heap_found_for what lease m f)
+  heap_for_alike (heap_over_asked memory) lease n m f = refl
+  heap_for_alike what lease n m f = heap_alike f.objects.memories.items lease n m f
+
   -- elsewhere the step goes on alike, whatever the number
   left_alike : (p : Phase P H) (f e : Frame P H) (n m : ℕ) → decides (next_target s plan p f) ≡ false → left_by (counted_on s plan p n e) ≡ left_by (counted_on s plan p m e)
   left_alike Key f e n m free' = absurd (true≢false free')
@@ -64,7 +70,7 @@ module _ {P H : Type 0} (s : Settings) (plan : Plan) where
   left_alike (CountObject (Memory lease)) f e n m free' = refl
   left_alike (CountObject (Table lease)) f e n m free' = refl
   left_alike (CountObject (Stack lease)) f e n m free' = refl
-  left_alike (CountHeap lease) f e n m free' = heap_alike e.objects.memories.items lease n m e
+  left_alike (CountHeap lease) f e n m free' = heap_for_alike e.asked lease n m e
   left_alike p f e n m free' = refl
 
 module _ {T P H : Type 0} (about : T → About) (inner : T → PoolPart P H) (made : List T) (limits : List ℕ) (g : Given) (of : about_made about made ≡ Some g.about) (pool : IsPool g.about (length made)) (v : View T) (f : Frame P H) (driven : IsDriven (length made) g v f None) (moment : Moment (pool_meaning about inner) made limits v.units) (name : CounterName) where

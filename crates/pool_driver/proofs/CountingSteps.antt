@@ -107,6 +107,10 @@ module _ {P H : Type 0} (s : Settings) (plan : Plan) where
   first_component f (UncountObject (Memory lease)) = refl
   first_component f (UncountObject (Table lease)) = refl
   first_component f (UncountObject (Stack lease)) = refl
+  first_component f (UncountHeap lease (Some memory)) = refl
+  first_component f (UncountHeap lease None) = refl
+  first_component f (PutHeap lease (Some memory)) = refl
+  first_component f (PutHeap lease None) = refl
   first_component f Flush = omega arith
   first_component f (Purge c step) = omega arith
   first_component f (Release step) = omega arith

@@ -24,7 +24,7 @@ use Rattle.pool_alloc.specs.Turns.{After, resting, after, Left}
 use Rattle.pool_alloc.specs.declared.frame.Call.{Call}
 use Rattle.pool_alloc.specs.declared.frame.Ending.TheVariants.{Returned as returned}
 use Rattle.pool_alloc.specs.declared.frame.Frame.{Frame}
-use Rattle.pool_alloc.specs.declared.frame.Grant.TheVariants.{Instance, Component, Memory, Table, Stack, Heap}
+use Rattle.pool_alloc.specs.declared.frame.Grant.TheVariants.{Instance, Component, Memory, Table, Stack, Heap, HeapOver}
 use Rattle.pool_alloc.specs.declared.frame.Outcome.{Outcome}
 use Rattle.pool_alloc.specs.declared.frame.Phase.{Phase}
 use Rattle.pool_alloc.specs.declared.frame.Phase.TheVariants.{Idle, Key, Validate, TestStack, TestHeap, CountInstance, Pick, TakeQueue, TakeRegion, Empty, Instantiate, MakeMemory, MakeTable, CountObject, TakeHeap, MakeHeap, CountHeap, PutNoHeap, PutBack, FreeOne, UncountObject, UncountHeap, PutHeap, FreeHeap, Reset, Merge, Flush, UncountInstance, ValidateComponent, CountComponent, UncountComponent, Purge, Release}
@@ -65,7 +65,7 @@ use Rattle.pool_alloc.specs.MemorySteps.{made_for, slot_ended}
 use Rattle.pool_alloc.specs.declared.frame.Object.{Object}
 use Rattle.pool_driver.proofs.QueueFaults.{joined_each, others_each, first_zeroed_each, pushed_each}
 use Rattle.pool_driver.proofs.UnknownSlots.{AllStill, PutsKnown, all_known, decide_unknown, first_faulted, first_zeroed_faulted, is_cell, known_returned, ranges_run, run_fails, run_faulted, run_known, still_at, zeroed_known}
-use Rattle.pool_driver.proofs.UnknownRows.{FlushLeaves, ResetCaused, RowCaused, component_caused, component_counted_caused, count_object_caused, counted_caused, flush_row_caused, heap_granted_caused, heaps_caused, make_heap_caused, merged_caused, paged_caused, picked_caused, purge_caused, release_caused, reset_row_caused, stacks_caused, take_queue_caused, uncount_object_caused, validated_caused, was_made_caused, was_made_table_caused}
+use Rattle.pool_driver.proofs.UnknownRows.{FlushLeaves, ResetCaused, RowCaused, component_caused, component_counted_caused, count_object_caused, counted_caused, flush_row_caused, heap_counted_caused, heaps_caused, make_heap_caused, merged_caused, paged_caused, picked_caused, purge_caused, release_caused, reset_row_caused, stacks_caused, take_queue_caused, uncount_object_caused, validated_caused, was_made_caused, was_made_table_caused}
 use Rattle.pool_driver.proofs.Refusing.{IfFails, memory_fails}
 use Rattle.pool_driver.proofs.UnknownTurns.{LeftCaused, after_caused, answer_caused, ending_more, ending_so, heap_caused, region_caused, returned_caused}
 use Rattle.pool_driver.proofs.Holding.{counted_put}
@@ -363,13 +363,14 @@ module _ {T P H : Type 0} (about : T → About) (inner : T → PoolPart P H) (Pa
   row_caused (CountObject thing) is on_way k = count_object_caused Is Flushing c e (goes_on (CountObject thing) is tt k) thing
   row_caused (TakeHeap name) is on_way k = heap_caused P H Is (Flushing f.local.slots) f.ending _ (heap_in name.slot (heaps_at c)) (goes_on (TakeHeap name) is tt k)
   row_caused (MakeHeap at) is on_way k = make_heap_caused Is Flushing c e (goes_on (MakeHeap at) is tt k) given.heap at
-  row_caused (CountHeap lease) is on_way k = heap_granted_caused Is Flushing c e (goes_on (CountHeap lease) is tt k) f.objects.memories.items lease
+  row_caused (CountHeap lease) is on_way k = heap_counted_caused Is Flushing c e (goes_on (CountHeap lease) is tt k) f.asked lease
   row_caused (PutNoHeap at) is on_way k = back (PutNoHeap at) is tt k
   row_caused (PutBack at held) is on_way k = ending_more (Was × HandCaused at held) Is (put_back at held is) f.ending k
   row_caused (FreeOne name) is on_way k = back (FreeOne name) is tt k
   row_caused (UncountObject thing) is on_way k = uncount_object_caused Is Flushing c e (back (UncountObject thing) is tt k) thing
   row_caused (UncountHeap lease memory) is on_way k = back (UncountHeap lease memory) is tt k
-  row_caused (PutHeap lease memory) is on_way k = back (PutHeap lease memory) is tt k
+  row_caused (PutHeap lease (Some memory)) is on_way k = back (PutHeap lease (Some memory)) is tt k
+  row_caused (PutHeap lease None) is on_way k = back (PutHeap lease None) is tt k
   row_caused (FreeHeap name memory) is on_way k = back (FreeHeap name memory) is tt k
   row_caused (Reset thing) is on_way k = let on = back (Reset thing) is tt k in reset_row_caused Is Flushing c e on given thing (reset_known thing is thing refl)
   row_caused Merge is on_way k =
@@ -411,11 +412,13 @@ caused_begins v plan (call.Memory m) f = inr (λ place slot role. refl)
 caused_begins v plan (call.Table ty) f = inr (λ place slot role. refl)
 caused_begins v plan call.Stack f = inr (λ place slot role. refl)
 caused_begins v plan (call.Heap ty) f = inr (λ place slot role. refl)
+caused_begins v plan (call.HeapOver memory) f = inr (λ place slot role. refl)
 caused_begins v plan (call.GiveBack (Instance lease)) f = (returned_caused (UnknownCaused v v plan) (FlushCaused v v plan) lease.memories.items lease.tables.items (record f { asked = asked.Nothing; objects = lease; ending = returned }) (inr (λ place slot role. refl))).frame
 caused_begins v plan (call.GiveBack Component) f = inr (λ place slot role. refl)
 caused_begins v plan (call.GiveBack (Memory lease)) f = inr (λ place slot role. refl)
 caused_begins v plan (call.GiveBack (Table lease)) f = inr (λ place slot role. refl)
 caused_begins v plan (call.GiveBack (Stack lease)) f = inr (λ place slot role. refl)
 caused_begins v plan (call.GiveBack (Heap lease memory)) f = inr (λ place slot role. refl)
+caused_begins v plan (call.GiveBack (HeapOver lease)) f = inr (λ place slot role. refl)
 caused_begins v plan (call.Purge id) f = inr (λ place slot role. refl)
 caused_begins v plan call.Release f = inr (λ place slot role. refl)

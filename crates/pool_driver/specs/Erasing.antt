@@ -30,6 +30,7 @@ module _ {P H : Type 0} where
   GrantErased (grant.Table lease) = Unit {0}
   GrantErased (grant.Stack lease) = Unit {0}
   GrantErased (grant.Heap lease memory) = LeaseErased memory
+  GrantErased (grant.HeapOver lease) = Unit {0}
 
   -- The same of the region that a call for a memory has in hand; one that is emptied next may be erased once more.
   abbrev pub PhaseErased : Phase P H → Type 0
