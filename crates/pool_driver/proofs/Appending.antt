@@ -1,5 +1,5 @@
 -- A call that gives back appends a slot for each object of which its reset leaves something, and one for one object appends none.
-use Rattle.std.proofs.Common.{◌≡◌, ◌⊎◌, ⊎_elim, inl, inr, ℕ, ◌+◌, ◌*◌, ◌<◌, ◌≤◌, Bool, true, false, List, [], ◌∷◌, ◌++◌, length, map, sym, refl, ap, subst, ◌∙◌, arith, true≢false, Option, Some, None, Result, Ok, Err}
+use Rattle.std.proofs.Common.{◌≡◌, ⊎_elim, ℕ, ◌+◌, ◌<◌, ◌≤◌, Bool, true, false, List, [], ◌∷◌, ◌++◌, length, map, sym, refl, ap, subst, ◌∙◌, arith, true≢false, Option, Some, None, Result, Ok, Err}
 use Rattle.std.specs.Prelude.{◌-◌, ◌==◌, ◌||◌, ◌%◌, ◌^◌, nat_lt, nat_le, slice_index, if◌then◌else◌}
 use Rattle.std.proofs.lemmas.Bool.{leb-true, lt-ltb, ltb-true}
 use Rattle.pool_limits.specs.Exchanges.{Exchange}
@@ -35,25 +35,22 @@ use Rattle.pool_slots.specs.declared.slot_name.SlotName.{SlotName}
 use Rattle.pool_slots.specs.HeapLists.{heap_in}
 use Rattle.pool_types.specs.declared.unsupported.Unsupported.{Unsupported}
 use Rattle.pool_alloc.specs.BetweenSteps.{HasNoneWaiting, IsAtRest, IsLeaseOf, IsObjectOf, IsShapedAt, memory_region}
-use Rattle.pool_alloc.specs.CallStages.{stage_at, stage_back, stage_by, stage_of, stage_of_release}
+use Rattle.pool_alloc.specs.CallStages.{stage_at, stage_by, stage_of, stage_of_release}
 use Rattle.pool_alloc.specs.Calls.{begun_call}
 use Rattle.pool_alloc.specs.Leases.{Lease, slot_taken}
-use Rattle.pool_alloc.specs.MemorySteps.{image_made, reset_into}
+use Rattle.pool_alloc.specs.MemorySteps.{reset_into}
 use Rattle.pool_alloc.specs.Objects.{objects_in, objects_wanted}
 use Rattle.pool_alloc.specs.PageCallAnswers.{MayBeTold, ResetTold, Resets}
 use Rattle.pool_alloc.specs.PartyTold.{PartyTold}
-use Rattle.pool_alloc.specs.PoolStacks.{stack_made, stack_reset}
-use Rattle.pool_alloc.specs.PoolTables.{IsTableLease}
-use Rattle.pool_alloc.specs.Reserved.{with_item}
+use Rattle.pool_alloc.specs.PoolStacks.{stack_reset}
 use Rattle.pool_alloc.specs.SoundSteps.{IsSoundStep}
 use Rattle.pool_alloc.specs.StackLeases.{LeasedStack}
-use Rattle.pool_alloc.specs.StepReads.{IsForObjects, IsHeapAsked, IsModule, IsQueuePart, StepGiven, allocator_for, cell_named, heaps_wanted, memories_kept, memories_wanted, queue_at, queue_in, queue_tried, shard_at, shard_tried, stacks_wanted, wanted, heaps_at}
+use Rattle.pool_alloc.specs.StepReads.{IsForObjects, IsHeapAsked, IsModule, IsQueuePart, StepGiven, allocator_for, cell_named, heaps_wanted, memories_kept, memories_wanted, queue_at, queue_in, queue_tried, shard_at, shard_tried, heaps_at}
 use Rattle.pool_alloc.specs.StepTable.{FlushStep, run, zero, put, free, component_tested, component_counted, flush_row, flush_step, in_queue, memory_kept, memory_turn, merged, paged, picked, put_first, region_next, reset_turn, row_of, stacks_tested, table_kept, table_turn, taken_next, unmapped_next, was_made, was_made_table, was_reset, heap_counted, heap_next, heaps_tested, make_heap_row, memory_tested}
-use Rattle.pool_alloc.specs.Stepping.{is_idle}
 use Rattle.pool_alloc.specs.TableLeases.{LeasedTable}
-use Rattle.pool_alloc.specs.TableSteps.{bytes_used, reset_in, table_marks, table_reset_into}
+use Rattle.pool_alloc.specs.TableSteps.{bytes_used, reset_in, table_reset_into}
 use Rattle.pool_alloc.specs.Targets.{next_target}
-use Rattle.pool_alloc.specs.Turns.{After, Left, Row, Turn, after, all_returned, ends, flush as flushes, flush_next, goes as turns_to, granted_next, is_flushed, is_granting, next as goes_next, next_by, no_slot_left, resting, returned_next, search as searches, search_next, slot_search, stays}
+use Rattle.pool_alloc.specs.Turns.{After, Left, Row, Turn, after, all_returned, ends, flush as flushes, flush_next, goes as turns_to, granted_next, is_flushed, is_granting, next as goes_next, next_by, resting, returned_next, search as searches, search_next, slot_search, stays}
 use Rattle.pool_alloc.specs.declared.frame.Asked.{Asked}
 use Rattle.pool_alloc.specs.declared.frame.Asked.TheVariants as asked
 use Rattle.pool_alloc.specs.declared.frame.Call.{Call}
@@ -76,13 +73,13 @@ use Rattle.pool_alloc.specs.declared.release.ReleaseStep.{ReleaseStep}
 use Rattle.pool_alloc.specs.declared.release.ReleaseStep.TheVariants as releasing_step
 use Rattle.pool_alloc.specs.HeapLeases.{LeasedHeap}
 use Rattle.pool_alloc.proofs.BegunFrames.{at_rest}
-use Rattle.pool_alloc.proofs.PlanPlaces.{IsQueuePlace, tried_is_queue}
+use Rattle.pool_alloc.proofs.PlanPlaces.{tried_is_queue}
 use Rattle.pool_alloc.proofs.PoolParts.{part_same, queue_part}
 use Rattle.pool_alloc.proofs.SoundSteps.{sound_step}
 use Rattle.pool_driver.specs.Appending.{Dues, IsForOne, NoneAppended, PutsOff, appended_in, bytes_of_table, each_one, frame_dues, grant_dues, instance_dues, is_queue, object_dues, owed_by, phase_dues, queue_appended, heap_memory_dues}
 use Rattle.pool_driver.specs.Calling.{Appends, Becomes, CallKind, GoesOnSince, HasAppended, IsAsking, asks_for, gives_back, is_refused, kind_at, kind_of, purges, releases}
 use Rattle.pool_driver.specs.Driving.{Change, changed, counted as counter_up, uncounted as counter_down, unchanged, view_after, IsChangeOf, SeesStep}
-use Rattle.pool_driver.specs.Placed.{About, IsSmall, part_counts, pool_meaning}
+use Rattle.pool_driver.specs.Placed.{About, part_counts, pool_meaning}
 use Rattle.pool_driver.proofs.Naming.{left_is, placed_at}
 use Rattle.pool_driver.proofs.Sparing.{appended_rises, appends_slots, put_keeps_both, queue_stays}
 use Rattle.pool_slots.specs.declared.heap_maker.HeapMakeFault.{HeapMakeFault}

@@ -16,7 +16,7 @@ use Rattle.pool_alloc.specs.SoundSteps.{IsSoundStep}
 use Rattle.pool_alloc.specs.Stepping.{count_granted, grant_count, grant_counted, grant_weight, is_idle}
 use Rattle.pool_alloc.specs.TableLeases.{LeasedTable}
 use Rattle.pool_alloc.specs.Targets.{next_target}
-use Rattle.pool_alloc.specs.Turns.{After, all_returned, returned_next}
+use Rattle.pool_alloc.specs.Turns.{all_returned, returned_next}
 use Rattle.pool_alloc.specs.declared.frame.Asked.{Asked}
 use Rattle.pool_alloc.specs.declared.frame.Asked.TheVariants as asked
 use Rattle.pool_alloc.specs.declared.frame.Call.{Call}

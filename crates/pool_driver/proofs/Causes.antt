@@ -1,5 +1,5 @@
 -- What stands behind a refusal for which the limiter or the maker of heaps is the reason: a count that rose.
-use Rattle.std.proofs.Common.{◌≡◌, ◌⊎◌, ⊎_elim, ℕ, ◌-◌, ◌<◌, ◌≤◌, ◌^◌, min, Bool, true, false, List, [], ◌∷◌, ◌++◌, length, refl, sym, ap, subst, ◌∙◌, arith, Option, Some, None, Result, Ok, Err, slice_get}
+use Rattle.std.proofs.Common.{◌≡◌, ⊎_elim, ℕ, ◌-◌, ◌<◌, ◌≤◌, ◌^◌, min, Bool, true, false, List, [], ◌∷◌, ◌++◌, length, refl, sym, ap, subst, ◌∙◌, arith, Option, Some, None, Result, Ok, Err, slice_get}
 use Rattle.pool_types.specs.Rising.{Rose, risen}
 use Rattle.pool_types.specs.declared.unsupported.Unsupported.{Unsupported}
 use Rattle.pool_pages.specs.MakerTold.{MakerTold}
@@ -25,7 +25,6 @@ use Rattle.pool_alloc.specs.declared.pool_core.PoolCore.{PoolCore}
 use Rattle.pool_alloc.proofs.ToldElements.{told_there}
 use Rattle.pool_driver.specs.Asking.{HasCause}
 use Rattle.pool_driver.proofs.Refusing.{failed_so, memory_fails, table_fails}
-use Rattle.pool_driver.proofs.Questions.{long}
 
 -- exchanges after others
 pub exchanged_on : {L : Type 0} (leads : L → Exchange → L → Type 0) (xs ys : List Exchange) (a b c : L) → Exchanged leads xs a b → Exchanged leads ys b c → Exchanged leads (xs ++ ys) a c

@@ -1,5 +1,5 @@
 -- What a frame has counted, as counters that count nothing else. They are far from their end: a pool has less than 2^64 slots.
-use Rattle.std.proofs.Common.{◌≡◌, ℕ, zero, suc, ◌+◌, ◌*◌, ◌<◌, ◌≤◌, List, [], ◌∷◌, length, refl, arith, add-mul, Option, Some, None}
+use Rattle.std.proofs.Common.{◌≡◌, ℕ, suc, ◌+◌, ◌*◌, ◌<◌, ◌≤◌, List, [], ◌∷◌, length, refl, arith, add-mul, Option, Some, None}
 use Rattle.std.specs.Prelude.{◌^◌, if◌then◌else◌}
 use Rattle.pool_hall.specs.Sum.{total}
 use Rattle.pool_hall.specs.declared.unit_name.SlotKind.{SlotKind}
@@ -23,7 +23,7 @@ use Rattle.pool_slots.specs.declared.part.PoolPart.TheVariants as part
 use Rattle.pool_slots.specs.declared.slot_name.RegionNumbers.{RegionNumbers}
 use Rattle.pool_slots.specs.declared.slot_name.SlotName.{SlotName}
 use Rattle.pool_alloc.specs.Leases.{Lease, memory_slot}
-use Rattle.pool_alloc.specs.Places.{Thing, Counter, Counts, counted_instance, counted_component, counted_object, only, away_count, both_count, frame_count, frame_counted, frame_instances, instances_for, leased_count, tables_count, phase_count, phase_counted, phase_instances, counters_counted, number_counted}
+use Rattle.pool_alloc.specs.Places.{Thing, Counter, Counts, counted_instance, counted_component, counted_object, only, away_count, both_count, frame_count, instances_for, leased_count, tables_count, phase_count, phase_counted, phase_instances, number_counted}
 use Rattle.pool_alloc.specs.BetweenSteps.{IsCore, IsPartFor}
 use Rattle.pool_alloc.specs.TableLeases.{LeasedTable, table_slot}
 use Rattle.pool_alloc.specs.declared.frame.Asked.{Asked}

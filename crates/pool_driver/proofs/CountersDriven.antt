@@ -1,5 +1,5 @@
 -- A seat whose frame's next step counts, or is made without any part: the step can be made, and what it leaves is driven.
-use Rattle.std.proofs.Common.{◌≡◌, ℕ, ◌+◌, ◌-◌, ◌<◌, Bool, true, false, List, [], ◌∷◌, length, map, refl, sym, ap, subst, ◌∙◌, arith, Option, Some, None, true≢false}
+use Rattle.std.proofs.Common.{◌≡◌, ℕ, ◌-◌, ◌<◌, Bool, true, false, List, [], ◌∷◌, length, map, refl, sym, ap, subst, ◌∙◌, arith, Option, Some, None, true≢false}
 use Rattle.pool_hall.specs.Moment.{Moment}
 use Rattle.pool_hall.specs.Step.{add_view, subtract_view}
 use Rattle.pool_hall.specs.Tally.{additions, subtractions, number}
@@ -11,10 +11,9 @@ use Rattle.pool_alloc.specs.HeapLeases.{LeasedHeap}
 use Rattle.pool_alloc.specs.Leases.{Lease}
 use Rattle.pool_alloc.specs.OnCounters.{CanStepCounted, counted_on, heap_found, heap_found_for}
 use Rattle.pool_alloc.specs.PartyTold.{PartyTold}
-use Rattle.pool_alloc.specs.Places.{Counter, frame_counted, only}
 use Rattle.pool_alloc.specs.StepsAlone.{CanStepAlone, StepsAlone}
 use Rattle.pool_alloc.specs.Stepping.{CanStep, StepsTo, StepsAsking}
-use Rattle.pool_alloc.specs.Targets.{CanFindTarget, counted_up, counting, next_target, number_at}
+use Rattle.pool_alloc.specs.Targets.{counted_up, counting, next_target, number_at}
 use Rattle.pool_alloc.specs.Turns.{After, Left, left_by, resting}
 use Rattle.pool_alloc.specs.declared.counters.CounterName.{CounterName}
 use Rattle.pool_alloc.specs.declared.counters.CounterName.TheVariants as counter
@@ -22,7 +21,7 @@ use Rattle.pool_alloc.specs.declared.frame.Frame.{Frame}
 use Rattle.pool_alloc.specs.declared.frame.Object.TheVariants.{Memory, Table, Stack}
 use Rattle.pool_alloc.specs.declared.frame.Outcome.{Outcome}
 use Rattle.pool_alloc.specs.declared.frame.Phase.{Phase}
-use Rattle.pool_alloc.specs.declared.frame.Phase.TheVariants.{Key, CountInstance, CountObject, CountHeap, UncountObject, CountComponent}
+use Rattle.pool_alloc.specs.declared.frame.Phase.TheVariants.{Key, CountInstance, CountObject, CountHeap, CountComponent}
 use Rattle.pool_alloc.specs.declared.frame.Asked.{Asked}
 use Rattle.pool_alloc.specs.declared.frame.Asked.TheVariants.{HeapOver as heap_over_asked}
 use Rattle.pool_alloc.specs.declared.pool_core.Counters.{Counters}
@@ -34,7 +33,7 @@ use Rattle.pool_alloc.proofs.OnCounters.{steps_up, steps_down}
 use Rattle.pool_alloc.proofs.StepNeeds.{step_ok}
 use Rattle.pool_alloc.proofs.NextTargets.{can_up, can_down, can_alone}
 use Rattle.pool_driver.specs.Beside.{StepsBeside, StepsBesideAlike}
-use Rattle.pool_driver.specs.Driving.{Given, IsDriven, StandsOn, StandsFor, SeesStep, SeesAlike, Decides, counted, uncounted, unchanged, counted_by, counter_number, counter_of}
+use Rattle.pool_driver.specs.Driving.{Given, IsDriven, StandsOn, StandsFor, SeesStep, SeesAlike, Decides, counted, uncounted, unchanged, counted_by, counter_number}
 use Rattle.pool_driver.specs.Growing.{AreKept}
 use Rattle.pool_driver.specs.Placed.{About, about_made, pool_meaning}
 use Rattle.pool_driver.specs.Pools.{IsPool, core_of}

@@ -19,7 +19,7 @@ use Rattle.pool_hall.specs.declared.unit_name.SlotKind.TheVariants.{Memory as me
 use Rattle.pool_hall.specs.declared.view.View.{View}
 use Rattle.pool_images.specs.Images.{Image}
 use Rattle.pool_images.specs.declared.image_slot.ImageName.{ImageName}
-use Rattle.pool_images.specs.Slots.{Slot, coloured, hides, renewed, replaced, resized, reused, size_of, with_image, without_image, without_mapped, wiped}
+use Rattle.pool_images.specs.Slots.{Slot, coloured, hides, renewed, replaced, resized, size_of, with_image, without_image, without_mapped, wiped}
 use Rattle.pool_index.specs.Shard.{ShardState}
 use Rattle.pool_index.specs.declared.ids.SlotId.{SlotId}
 use Rattle.pool_memory.specs.Making.{limits_answer}
@@ -28,7 +28,7 @@ use Rattle.pool_memory.specs.Static.{static_capacity}
 use Rattle.pool_memory.specs.declared.memory_error.MemoryError.{MemoryError}
 use Rattle.pool_slots.specs.Cells.{Cell, unmapped, unknown, previously_used, taken}
 use Rattle.pool_slots.specs.HeapLists.{heap_in}
-use Rattle.pool_slots.specs.RegionCells.{CellState, erases_told, numbers_by}
+use Rattle.pool_slots.specs.RegionCells.{erases_told, numbers_by}
 use Rattle.pool_slots.specs.SlotQueues.{Queue, Queued, first_of_kind, others_of_kind}
 use Rattle.pool_slots.specs.declared.errors.AllocError.{AllocError}
 use Rattle.pool_slots.specs.declared.heap_maker.HeapMakeFault.{HeapMakeFault}
@@ -47,7 +47,7 @@ use Rattle.pool_alloc.specs.Modules.{IfAllocated}
 use Rattle.pool_alloc.specs.Objects.{objects_in, objects_wanted}
 use Rattle.pool_alloc.specs.PageCallAnswers.{Empties, InstantiatesFor, IsInstantiated, MayBeTold}
 use Rattle.pool_alloc.specs.PartyTold.{PartyTold}
-use Rattle.pool_alloc.specs.StepReads.{StepGiven, allocator_for, cell_named, counting_memories, counting_tables, heaps_at, image_wanted, memories_wanted, queue_at, queue_tried, shard_at, shard_tried}
+use Rattle.pool_alloc.specs.StepReads.{StepGiven, allocator_for, cell_named, heaps_at, image_wanted, memories_wanted, queue_at, queue_tried, shard_at, shard_tried}
 use Rattle.pool_alloc.specs.StepTable as rows
 use Rattle.pool_alloc.specs.StepTable.{row_of}
 use Rattle.pool_alloc.specs.TableLeases.{LeasedTable}
@@ -59,7 +59,6 @@ use Rattle.pool_alloc.specs.declared.frame.Call.TheVariants as call
 use Rattle.pool_alloc.specs.declared.frame.Ending.{Ending}
 use Rattle.pool_alloc.specs.declared.frame.Ending.TheVariants.{Granted as granted, Returned as returned, Refused as refused}
 use Rattle.pool_alloc.specs.declared.frame.Frame.{Frame}
-use Rattle.pool_alloc.specs.declared.frame.Grant.{Grant}
 use Rattle.pool_alloc.specs.declared.frame.Grant.TheVariants as grant
 use Rattle.pool_alloc.specs.declared.frame.Object.TheVariants as object
 use Rattle.pool_alloc.specs.declared.frame.Outcome.{Outcome}

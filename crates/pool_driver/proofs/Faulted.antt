@@ -41,7 +41,7 @@ use Rattle.pool_driver.specs.Faults.{AnswerKeeps, FrameKeeps, KeepsFaults, PartK
 use Rattle.pool_driver.specs.Growing.{AreKept}
 use Rattle.pool_driver.proofs.QueueFaults.{by_choice}
 use Rattle.pool_driver.proofs.RegionFaults.{drains_keep, forgets_keep}
-use Rattle.pool_driver.proofs.RowFaults.{at_each, QueuesKeep, cell_set, shard_set, AreSmall, small_cell, RowKeeps, AfterKeeps, stepped_keeps, key_keeps, validated_keeps, stacks_keep, heaps_keep, component_keeps, counted_keeps, component_counted_keeps, uncount_instance_keeps, uncount_component_keeps, pick_keeps, take_queue_keeps, take_region_keeps, empty_keeps, instantiate_keeps, make_memory_keeps, make_table_keeps, count_object_keeps, take_heap_keeps, make_heap_keeps, heap_granted_keeps, put_heap_keeps, put_back_keeps, free_one_keeps, uncount_heap_keeps, free_heap_keeps, uncount_object_keeps, reset_row_keeps, merge_keeps, flush_row_keeps, heap_counted_keeps, freed_keeps}
+use Rattle.pool_driver.proofs.RowFaults.{at_each, QueuesKeep, cell_set, shard_set, AreSmall, small_cell, RowKeeps, AfterKeeps, stepped_keeps, key_keeps, validated_keeps, stacks_keep, heaps_keep, component_keeps, counted_keeps, component_counted_keeps, uncount_instance_keeps, uncount_component_keeps, pick_keeps, take_queue_keeps, take_region_keeps, empty_keeps, instantiate_keeps, make_memory_keeps, make_table_keeps, count_object_keeps, take_heap_keeps, make_heap_keeps, put_heap_keeps, put_back_keeps, free_one_keeps, uncount_heap_keeps, free_heap_keeps, uncount_object_keeps, reset_row_keeps, merge_keeps, flush_row_keeps, heap_counted_keeps, freed_keeps}
 use Rattle.pool_driver.proofs.TurnFaults.{HandKeeps, TurnKeeps}
 
 -- What is taken out of a cell for a purge or a release goes with its own count.

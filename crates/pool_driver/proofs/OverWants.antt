@@ -1,5 +1,5 @@
 -- Want of memory for a heap over a memory that there is comes from its maker, and from nobody else.
-use Rattle.std.proofs.Common.{◌≡◌, ◌⊎◌, ⊎_elim, inl, inr, ℕ, refl, sym, ap, subst, ◌∙◌, arith, Option, Some, None, Result, Ok, Err, length, Bool, true, false}
+use Rattle.std.proofs.Common.{◌≡◌, ◌⊎◌, ⊎_elim, inl, inr, ℕ, refl, sym, ap, subst, ◌∙◌, arith, Option, Some, None, Err, length}
 use Rattle.pool_types.specs.declared.unsupported.Unsupported.{Unsupported}
 use Rattle.pool_pages.specs.MakerTold.{MakerTold}
 use Rattle.pool_slots.specs.HeapsTold.{HeapsTold}
@@ -9,10 +9,9 @@ use Rattle.pool_slots.specs.declared.errors.AllocError.TheVariants as refusal
 use Rattle.pool_slots.specs.declared.errors.PoolConcurrencyLimitError.{PoolConcurrencyLimitError}
 use Rattle.pool_slots.specs.declared.heap_maker.HeapMakeFault.{HeapMakeFault}
 use Rattle.pool_slots.specs.declared.heap_maker.HeapMakeFault.TheVariants as no_heap
-use Rattle.pool_alloc.specs.CallStages.{FailsHeap, FindsNone, IsBroken, IsPageFaulted, IsUntested, Makes, Progress, Raises, untested, uncounted, admitted, seeks_single, seeks_stack, tests_heap, seeks_heap, counts_heap}
+use Rattle.pool_alloc.specs.CallStages.{FailsHeap, FindsNone, IsBroken, IsPageFaulted, Makes, Progress, Raises, untested, uncounted, admitted, seeks_single, seeks_stack, tests_heap, seeks_heap, counts_heap}
 use Rattle.pool_alloc.specs.MemorySteps.{heap_refusal}
 use Rattle.pool_alloc.specs.PartyTold.{PartyTold, MakesHeap}
-use Rattle.pool_alloc.specs.Refusals.{heap_refused}
 use Rattle.pool_alloc.specs.StepReads.{HasMemories, IsModule, memories_wanted, singles_wanted}
 use Rattle.pool_alloc.specs.declared.frame.Asked.{Asked}
 use Rattle.pool_alloc.specs.declared.frame.Asked.TheVariants as asked_for

@@ -1,6 +1,6 @@
 -- What is so of each error with which a step may refuse a call: of each that is no limit, of the refusal for room, and of those by a
 -- counter.
-use Rattle.std.proofs.Common.{◌≡◌, ◌⊎◌, ⊎_elim, ℕ, length, sym, refl, subst, true, false, Option, Some, None, Result, Err}
+use Rattle.std.proofs.Common.{◌≡◌, ⊎_elim, ℕ, length, sym, refl, subst, true, false, Option, Some, None, Result, Err}
 use Rattle.std.specs.Prelude.{slice_get}
 use Rattle.pool_types.specs.declared.unsupported.Unsupported.{Unsupported}
 use Rattle.pool_pages.specs.MakerTold.{MakerTold}

@@ -1,5 +1,5 @@
 -- A call puts regions of which nothing is known into their cells only where it also puts one back that has faulted: each step keeps that.
-use Rattle.std.proofs.Common.{◌≡◌, ◌⊎◌, ⊎_elim, ℕ, Bool, true, false, List, length, refl, sym, ap, subst, Option, slice_get, ◌+◌, ◌<◌, [], ◌∷◌, ◌++◌, arith, Some, None, nat_le, inl, inr, map, IfSome, ◌^◌, slice_index, ◌∙◌}
+use Rattle.std.proofs.Common.{◌≡◌, ⊎_elim, ℕ, Bool, true, false, List, length, refl, sym, ap, subst, Option, slice_get, ◌+◌, ◌<◌, [], ◌∷◌, ◌++◌, arith, Some, None, nat_le, inl, inr, map, IfSome, ◌^◌, slice_index, ◌∙◌}
 use Rattle.std.specs.Prelude.{if◌then◌else◌, ◌==◌}
 use Rattle.pool_hall.specs.declared.view.View.{View}
 use Rattle.pool_limits.specs.Exchanges.{Exchange}
@@ -20,7 +20,7 @@ use Rattle.pool_alloc.specs.PartyTold.{PartyTold}
 use Rattle.pool_alloc.specs.StepReads.{StepGiven, cell_named, heaps_at, memories_wanted, queue_at, queue_tried, shard_at, shard_tried, wanted, cell_returned, with_cell, with_part}
 use Rattle.pool_alloc.specs.StepTable.{flush_step, row_of}
 use Rattle.pool_alloc.specs.Stepping.{is_idle}
-use Rattle.pool_alloc.specs.Turns.{After, resting, after, Left}
+use Rattle.pool_alloc.specs.Turns.{After, resting, Left}
 use Rattle.pool_alloc.specs.declared.frame.Call.{Call}
 use Rattle.pool_alloc.specs.declared.frame.Ending.TheVariants.{Returned as returned}
 use Rattle.pool_alloc.specs.declared.frame.Frame.{Frame}
@@ -43,7 +43,7 @@ use Rattle.pool_driver.proofs.OwnNumbers.{IsOwn, OwnPut, own_numbers}
 use Rattle.pool_driver.proofs.CellPuts.{faulted_home, still_faulted}
 use Rattle.pool_pages.specs.Told.{Told}
 use Rattle.pool_hall.specs.declared.unit_name.SlotKind.{SlotKind}
-use Rattle.pool_slots.specs.Cells.{Cell, unknown}
+use Rattle.pool_slots.specs.Cells.{Cell}
 use Rattle.pool_slots.specs.Parts.{part_at, IsCellPart}
 use Rattle.pool_slots.specs.declared.slot_name.SlotName.{SlotName}
 use Rattle.pool_slots.specs.declared.slot_name.RegionNumbers.{RegionNumbers}
@@ -83,7 +83,6 @@ use Rattle.pool_alloc.specs.declared.frame.Asked.TheVariants as asked
 use Rattle.pool_alloc.specs.declared.frame.Call.TheVariants as call
 use Rattle.pool_alloc.specs.declared.purge.PurgeStep.TheVariants as purging_step
 use Rattle.pool_alloc.specs.declared.release.ReleaseStep.TheVariants as releasing_step
-use Rattle.pool_slots.specs.declared.part.PoolPart.TheVariants as part
 use Rattle.pool_alloc.specs.StepTable as rows
 use Rattle.pool_alloc.specs.declared.frame.Object.TheVariants as object
 use Rattle.pool_alloc.specs.TableSteps.{reset_in, table_queued}

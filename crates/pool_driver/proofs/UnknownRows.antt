@@ -7,7 +7,6 @@ use Rattle.pool_index.specs.Shard.{ShardState}
 use Rattle.pool_index.specs.declared.ids.SlotId.{SlotId}
 use Rattle.pool_images.specs.Slots.{Slot, forgotten}
 use Rattle.pool_memory.specs.Memories.{MemoryState, slot_of}
-use Rattle.pool_slots.specs.Cells.{unknown}
 use Rattle.pool_slots.specs.SlotQueues.{Queue, Queued, drained, first_of_kind, others_of_kind, first_zeroed}
 use Rattle.pool_slots.specs.declared.errors.AllocError.{AllocError}
 use Rattle.pool_slots.specs.declared.errors.AllocError.TheVariants as refusal
@@ -27,7 +26,6 @@ use Rattle.pool_alloc.specs.TableSteps.{table_reset_into}
 use Rattle.pool_alloc.specs.Turns.{Row, flush, goes, slot_search}
 use Rattle.pool_alloc.specs.declared.frame.Asked.{Asked}
 use Rattle.pool_alloc.specs.declared.frame.Asked.TheVariants.{Memory as memory_asked, Table as table_asked, HeapOver as heap_over_asked}
-use Rattle.pool_alloc.specs.declared.frame.Ending.TheVariants.{Refused as refused}
 use Rattle.pool_alloc.specs.declared.frame.Frame.{Frame}
 use Rattle.pool_alloc.specs.declared.frame.Object.{Object}
 use Rattle.pool_alloc.specs.declared.frame.Object.TheVariants as object

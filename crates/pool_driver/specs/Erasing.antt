@@ -1,6 +1,6 @@
 -- The region of a memory that is granted was erased no more often than its unit tells: a slot of which something is known isn't erased before
 -- its next use.
-use Rattle.std.specs.Prelude.{ℕ, ◌-◌, ◌^◌, ◌≤◌, min, Option}
+use Rattle.std.specs.Prelude.{ℕ, ◌-◌, ◌^◌, ◌≤◌, min}
 use Rattle.std.specs.List.{AllByRecursion}
 use Rattle.pool_types.specs.Rising.{risen}
 use Rattle.pool_pages.specs.Told.{Told}
