@@ -1,5 +1,5 @@
 -- A pick by affinity alone leaves a shard, and gives out the slot that it answers.
-use Rattle.std.proofs.Common.{◌≡◌, ℕ, ◌+◌, ◌^◌, ◌<◌, length, refl, arith, Option, Some, None, ◌%◌, IfSome, option_map}
+use Rattle.std.proofs.Common.{◌≡◌, ℕ, ◌+◌, ◌^◌, ◌<◌, refl, arith, Option, Some, None, ◌%◌, IfSome, option_map}
 use Rattle.pool_alloc.proofs.Imports.{option_map_or, mod-lt, IsChoice, affine_taken, total, shard_units, slot_unit, ShardState, IsShard, IsSameShard, Choice, warm_at, next_cold, affine_choice, affine_answer, after_affine_pick, after_choice, entry_at, slot_and_bytes, MemoryInModule, SlotId, IsFree, warm_slot_free, after_warm_sound, after_cold_sound}
 use Rattle.pool_alloc.specs.Places.{Thing}
 use Rattle.pool_alloc.proofs.SlotCounts.{choice_more}

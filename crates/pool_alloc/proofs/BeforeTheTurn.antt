@@ -18,7 +18,7 @@ use Rattle.pool_alloc.specs.declared.leases.instance.InstanceLease.{InstanceLeas
 use Rattle.pool_alloc.specs.Searches.{AreFull, AreEmpty, IsSearchedBy, IsSearchedAt, IsSearched}
 use Rattle.pool_alloc.specs.BetweenSteps.{queue_room, AreSupported, AreTablesSupported, IsLocal, IsLeaseOf, IsObjectOf, AreLeasesOf, AreOfOneKind, IsCore, IsFrame, IsToGrant, Aims, HasNoneWaiting, IsAtRest, IsAiming, IsAllocating, IsReturning, IsShapedAt, AreBegun, IsFreedOf}
 use Rattle.pool_alloc.specs.CallStages.{Progress, untested, uncounted, admitted, seeks_single, seeks_stack, tests_heap, seeks_heap, counts_heap, Stage, no_call, keys, asks, returning, refusing, progress_by, stage_by, stage_at, stage_of, Follows, Goes, tests_component, counts_component, purging, reserving, releasing}
-use Rattle.pool_alloc.specs.StepReads.{memories_wanted, images_wanted, tables_wanted, stacks_wanted, singles_wanted, memories_kept, tables_kept, IsForObjects, IsForInstance, kind_next, allocator_for, queues_searched, queues_next}
+use Rattle.pool_alloc.specs.StepReads.{memories_wanted, images_wanted, tables_wanted, stacks_wanted, singles_wanted, memories_kept, tables_kept, IsForInstance, kind_next, allocator_for, queues_searched, queues_next}
 use Rattle.pool_alloc.specs.Stepping.{Conserves, RiseByOne, count_granted, grant_weight, is_idle}
 use Rattle.pool_alloc.specs.Turns.{Turn, goes, ends, next, flush, search, Row, Left, After, is_granting, failing, returned_next, all_returned, answer_of, next_by, is_flushed, after, finished, stepped, gone_to, stays, ends_with}
 use Rattle.pool_alloc.specs.declared.pool_core.PoolCore.{PoolCore}
@@ -30,7 +30,7 @@ use Rattle.pool_alloc.specs.declared.frame.FreedSlot.{FreedSlot}
 use Rattle.pool_alloc.specs.declared.frame.Grant.{Grant}
 use Rattle.pool_alloc.specs.declared.frame.Grant.TheVariants.{Instance}
 use Rattle.pool_alloc.specs.declared.frame.Asked.{Asked}
-use Rattle.pool_alloc.specs.declared.frame.Asked.TheVariants.{Memory as memory_asked, Table as table_asked, Stack as stack_asked, Heap as heap_asked}
+use Rattle.pool_alloc.specs.declared.frame.Asked.TheVariants.{Memory as memory_asked, Table as table_asked, Stack as stack_asked, Heap as heap_asked, HeapOver as heap_over_asked}
 use Rattle.pool_alloc.specs.declared.frame.Outcome.{Outcome}
 use Rattle.pool_alloc.specs.declared.frame.Outcome.TheVariants as answer
 use Rattle.pool_alloc.specs.declared.frame.Phase.{Phase}
@@ -112,6 +112,7 @@ counts_one (memory_asked m) one = absurd (omega (arith, one.no_single))
 counts_one (table_asked ty) one = absurd (omega (arith, one.no_single))
 counts_one stack_asked one = absurd (omega (arith, one.no_stack))
 counts_one (heap_asked ty) one = absurd (omega (arith, one.no_heap))
+counts_one (heap_over_asked memory) one = absurd (omega (arith, one.no_heap))
 counts_one asked one = refl
 
 pub is_admitted : (asked : Asked) (n : ℕ) → IsForInstance asked → progress_by asked n ≡ admitted n
@@ -119,6 +120,7 @@ is_admitted (memory_asked m) n one = absurd (omega (arith, one.no_single))
 is_admitted (table_asked ty) n one = absurd (omega (arith, one.no_single))
 is_admitted stack_asked n one = absurd (omega (arith, one.no_stack))
 is_admitted (heap_asked ty) n one = absurd (omega (arith, one.no_heap))
+is_admitted (heap_over_asked memory) n one = absurd (omega (arith, one.no_heap))
 is_admitted asked n one = refl
 
 -- A call that counts no instance is for an object by itself. It may end at a stage of such a call, with no object left; one that
@@ -400,6 +402,7 @@ module _ {P H : Type 0} (maker : MakerTold) (old new : PartyTold) (d : PoolCore 
   all_ok (table_asked ty) c f is rest back may = none_left_ok (table_asked ty) c f is refl rest back may
   all_ok stack_asked c f is rest back may = none_left_ok stack_asked c f is refl rest back may
   all_ok (heap_asked ty) c f is rest back may = none_left_ok (heap_asked ty) c f is refl rest back may
+  all_ok (heap_over_asked memory) c f is rest back may = none_left_ok (heap_over_asked memory) c f is refl rest back may
   all_ok asked c f is rest back may =
       goes_ok c f UncountInstance (record { kept = back.0; shape = (refl, (rest, back.2, rw is (record { no_stack = refl; no_heap = refl; no_single = refl }))); even = λ w. omega (arith, back.3 w); fewer = omega (arith, back.4); way = back.5; searched = λ s. tt })
 

@@ -19,7 +19,7 @@ use Rattle.pool_alloc.specs.declared.frame.Frame.{Frame}
 use Rattle.pool_alloc.specs.declared.frame.Phase.{Phase}
 use Rattle.pool_alloc.specs.declared.frame.Phase.TheVariants.{Key}
 use Rattle.pool_alloc.specs.declared.frame.Grant.{Grant}
-use Rattle.pool_alloc.specs.declared.frame.Grant.TheVariants.{Instance, Memory, Table, Stack, Component, Heap}
+use Rattle.pool_alloc.specs.declared.frame.Grant.TheVariants.{Instance, Memory, Table, Stack, Component, Heap, HeapOver}
 use Rattle.pool_alloc.specs.declared.frame.Call.{Call}
 use Rattle.pool_alloc.specs.declared.frame.Call.TheVariants as call
 use Rattle.pool_alloc.proofs.BeforeTheTurn.{Held, held_of, frame_of, one_more, none_weighs}
@@ -87,6 +87,7 @@ module _ {P H : Type 0} where
   call_has of (call.Table ty) = 0
   call_has of call.Stack = 0
   call_has of (call.Heap ty) = 0
+  call_has of (call.HeapOver memory) = 0
   call_has of (call.Component info) = 0
   call_has of (call.GiveBack grant) = of grant
   call_has of (call.Purge id) = 0
@@ -103,6 +104,7 @@ module _ {P H : Type 0} where
   idle_of maker s plan (call.Table ty) f may = may.0
   idle_of maker s plan call.Stack f may = may
   idle_of maker s plan (call.Heap ty) f may = may.0
+  idle_of maker s plan (call.HeapOver memory) f may = may
   idle_of maker s plan (call.Component info) f may = may
   idle_of maker s plan (call.GiveBack grant) f may = may.0
   idle_of maker s plan (call.Purge id) f may = may
@@ -184,7 +186,9 @@ module _ {P H : Type 0} where
       )
   begun_at maker call.Stack s plan f held rest may = frame_of maker s plan (begun_call call.Stack f) held (rest, (refl, refl, refl))
   begun_at maker (call.Heap ty) s plan f held rest may = frame_of maker s plan (begun_call (call.Heap ty) f) held (rest, (refl, refl, may.1))
+  begun_at maker (call.HeapOver memory) s plan f held rest may = frame_of maker s plan (begun_call (call.HeapOver memory) f) held (rest, (refl, refl, tt))
   begun_at maker (call.GiveBack (Heap lease memory)) s plan f held rest may = frame_of maker s plan (begun_call (call.GiveBack (Heap lease memory)) f) held (rest.settled, refl, may.1.0, may.1.1)
+  begun_at maker (call.GiveBack (HeapOver lease)) s plan f held rest may = frame_of maker s plan (begun_call (call.GiveBack (HeapOver lease)) f) held (rest.settled, refl, may.1, tt)
   begun_at maker (call.GiveBack (Memory lease)) s plan f held rest may = frame_of maker s plan (begun_call (call.GiveBack (Memory lease)) f) held (rest.settled, refl, may.1)
   begun_at maker (call.GiveBack (Table lease)) s plan f held rest may = frame_of maker s plan (begun_call (call.GiveBack (Table lease)) f) held (rest.settled, refl, may.1)
   begun_at maker (call.GiveBack (Stack lease)) s plan f held rest may = frame_of maker s plan (begun_call (call.GiveBack (Stack lease)) f) held (rest.settled, refl, may.1)
@@ -238,7 +242,9 @@ module _ {P H : Type 0} where
   weight_at w call.Stack f idle rest = omega (arith, idle_nothing w f idle)
   weight_at w (call.GiveBack (Stack lease)) f idle rest = omega (arith, idle_nothing w f idle)
   weight_at w (call.Heap ty) f idle rest = omega (arith, idle_nothing w f idle)
+  weight_at w (call.HeapOver memory) f idle rest = omega (arith, idle_nothing w f idle)
   weight_at w (call.GiveBack (Heap lease memory)) f idle rest = omega (arith, idle_nothing w f idle)
+  weight_at w (call.GiveBack (HeapOver lease)) f idle rest = omega (arith, idle_nothing w f idle)
   weight_at w (call.Component info) f idle rest = omega (arith, idle_nothing w f idle)
   weight_at w (call.GiveBack Component) f idle rest = omega (arith, idle_nothing w f idle)
   weight_at w (call.Purge id) f idle rest = omega (arith, idle_nothing w f idle)
@@ -283,7 +289,9 @@ module _ {P H : Type 0} where
   begun_bounded c (call.GiveBack (Table lease)) f rest stripes = none_bounded (sizes_of c.settings c.plan) f.objects rest.no_memories rest.no_tables
   begun_bounded c (call.GiveBack (Stack lease)) f rest stripes = none_bounded (sizes_of c.settings c.plan) f.objects rest.no_memories rest.no_tables
   begun_bounded c (call.GiveBack (Heap lease memory)) f rest stripes = omega (arith, none_bounded (sizes_of c.settings c.plan) f.objects rest.no_memories rest.no_tables)
+  begun_bounded c (call.GiveBack (HeapOver lease)) f rest stripes = omega (arith, none_bounded (sizes_of c.settings c.plan) f.objects rest.no_memories rest.no_tables)
   begun_bounded c (call.Heap ty) f rest stripes = omega arith
+  begun_bounded c (call.HeapOver memory) f rest stripes = omega arith
   begun_bounded c (call.GiveBack (Instance lease)) f rest stripes = returned_bounded (sizes_of c.settings c.plan) lease.memories.items lease.tables.items (record f { objects = lease; ending = returned })
   begun_bounded c (call.Component info) f rest stripes = omega arith
   begun_bounded c (call.GiveBack Component) f rest stripes = omega arith

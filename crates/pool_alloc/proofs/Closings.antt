@@ -18,7 +18,7 @@ use Rattle.pool_alloc.specs.PoolAndHolders.{Holding, HasSlots, held_by, IsUntouc
 use Rattle.pool_alloc.specs.declared.pool_core.PoolCore.{PoolCore}
 use Rattle.pool_alloc.specs.declared.pool_core.Settings.{Settings}
 use Rattle.pool_alloc.specs.declared.frame.Asked.{Asked}
-use Rattle.pool_alloc.specs.declared.frame.Asked.TheVariants.{Nothing as nothing_asked, Module as module_asked, Memory as memory_asked, Table as table_asked, Stack as stack_asked, Heap as heap_asked}
+use Rattle.pool_alloc.specs.declared.frame.Asked.TheVariants.{Nothing as nothing_asked, Module as module_asked, Memory as memory_asked, Table as table_asked, Stack as stack_asked, Heap as heap_asked, HeapOver as heap_over_asked}
 use Rattle.pool_alloc.specs.declared.frame.Ending.{Ending}
 use Rattle.pool_alloc.specs.declared.frame.Ending.TheVariants.{Granted as granted, Returned as returned, Refused as refused}
 use Rattle.pool_alloc.specs.declared.frame.Frame.{Frame}
@@ -98,6 +98,7 @@ module _ {P H : Type 0} where
   all_leaves (table_asked ty) f none bare = absurd cc
   all_leaves stack_asked f none bare = absurd cc
   all_leaves (heap_asked ty) f none bare = absurd cc
+  all_leaves (heap_over_asked memory) f none bare = absurd cc
 
   back_leaves : (memories : List Lease) (tables : List LeasedTable) (f : Frame P H) → memories ≡ [] → tables ≡ [] → Bare f → Leaves (returned_next memories tables f)
   back_leaves [] [] f none none_more bare = all_leaves f.asked f bare.asked bare

@@ -1,8 +1,7 @@
 -- What the next part of a flush finds: of which kinds slots are queued, and wait to be freed.
-use Rattle.std.proofs.Common.{◌≡◌, ◌≢◌, ℕ, ◌<◌, Bool, true, false, List, [], ◌∷◌, ◌++◌, length, refl, sym, ap, ◌∙◌, subst, arith, inl, inr, ◌⊎◌, Option, None, Some, true≢false, All, ◌==◌, ◌&&◌, not, is_some, IsSome, IfSome, if◌then◌else◌}
-use Rattle.pool_alloc.proofs.Imports.{of_kind, AllByRecursion, list_any, cases_Bool, or_parts, All-nil, All-cons, All-head, All-tail, All-same, All-push, SlotKind, memory_kind, table_kind, stack_kind, heap_kind, Role, shard_role, role_at, home_of, Queue, Queued, IsQueue, IsLeftBy, CanBeZeroed, same_kind, same_slot, first_slot, after_run, is_to_zero, first_of_kind, others_of_kind, first_zeroed, Allocator, Plan, SlotName, kind_self, can_zero}
+use Rattle.std.proofs.Common.{◌≡◌, ◌≢◌, ℕ, ◌<◌, Bool, true, false, List, [], ◌∷◌, ◌++◌, length, refl, sym, ap, ◌∙◌, subst, arith, inl, inr, Option, None, Some, true≢false, All, ◌==◌, ◌&&◌, not, is_some, IfSome, if◌then◌else◌}
+use Rattle.pool_alloc.proofs.Imports.{of_kind, AllByRecursion, list_any, cases_Bool, or_parts, All-nil, All-cons, All-head, All-tail, All-same, All-push, SlotKind, memory_kind, table_kind, stack_kind, Role, shard_role, role_at, home_of, Queue, Queued, IsQueue, CanBeZeroed, same_kind, is_to_zero, first_of_kind, Allocator, Plan, SlotName, kind_self, can_zero}
 use Rattle.pool_alloc.specs.BetweenSteps.{IsPoolPlan, HasCells, IsSlotName, IsFreedOf, AreOfOneKind}
-use Rattle.pool_alloc.specs.PageCallAnswers.{Decommits}
 use Rattle.pool_alloc.specs.Places.{right_to, queued_count}
 use Rattle.pool_alloc.specs.StepReads.{no_allocator, first_shard}
 use Rattle.pool_alloc.specs.StepTable.{FlushStep, run, zero, put, free, flush_kinds, some_queued, kind_queued, kind_settled, settled_step, flush_step}

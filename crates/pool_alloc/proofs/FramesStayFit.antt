@@ -8,7 +8,7 @@ use Rattle.pool_alloc.specs.Turns.{After}
 use Rattle.pool_alloc.specs.Stepping.{Conserves, IsSameSize, count_granted, grant_count}
 use Rattle.pool_alloc.specs.declared.pool_core.PoolCore.{PoolCore}
 use Rattle.pool_alloc.specs.declared.frame.Frame.{Frame}
-use Rattle.pool_alloc.specs.declared.frame.Grant.TheVariants.{Instance, Memory, Table, Stack, Heap, Component}
+use Rattle.pool_alloc.specs.declared.frame.Grant.TheVariants.{Instance, Memory, Table, Stack, Heap, HeapOver, Component}
 use Rattle.pool_alloc.specs.declared.frame.Outcome.{Outcome}
 use Rattle.pool_alloc.specs.declared.frame.Outcome.TheVariants as answer
 use Rattle.pool_alloc.specs.StackLeases.{stack_slot}
@@ -27,6 +27,7 @@ module _ {P H : Type 0} where
   granted_regions k (Some (answer.Granted (Table lease))) = both_regions k (table_slot lease.index) lease.numbers
   granted_regions k (Some (answer.Granted (Stack lease))) = both_regions k (stack_slot lease.stack.index) lease.numbers
   granted_regions k (Some (answer.Granted (Heap lease memory))) = omega (arith, both_regions k (heap_slot lease.index) lease.numbers, both_regions k (memory_slot memory.index) memory.numbers)
+  granted_regions k (Some (answer.Granted (HeapOver lease))) = both_regions k (heap_slot lease.index) lease.numbers
   granted_regions k (Some (answer.Granted Component)) = refl
   granted_regions k (Some answer.Returned) = refl
   granted_regions k (Some (answer.Purged n)) = refl

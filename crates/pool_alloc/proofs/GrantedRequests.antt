@@ -2,15 +2,14 @@
 -- granted, or finds no memory.
 use Rattle.std.proofs.Common.{◌≡◌, ℕ, ◌+◌, ◌<◌, ◌==◌, ◌||◌, ◌⊎◌, Bool, true, false, List, [], ◌∷◌, length, drop, Option, Some, None, Result, Ok, Err, refl, sym, ap, ◌∙◌, subst, inl, inr, arith, nat_lt, nat_le, if◌then◌else◌, IfErr, IfSome}
 use Rattle.std.proofs.lemmas.Bool.{ne_eqb}
-use Rattle.pool_slots.specs.declared.errors.AllocError.TheVariants as refusal
 use Rattle.pool_slots.specs.declared.heap_maker.HeapMakeFault.TheVariants as no_heap
-use Rattle.pool_alloc.proofs.Imports.{MakerTold, ShardState, SlotId, pick_answer, slot_number, Slot, MemoryState, Told, Unsupported, Queue, Queued, first_of_kind, others_of_kind, AllocError, HeapMakeFault, LimiterError, Cell, unmapped, unknown, previously_used, taken, slot_of, Plan, SlotKind, memory_kind, table_kind, stack_kind, heap_kind, SlotName, heap_in, cell_numbers}
+use Rattle.pool_alloc.proofs.Imports.{MakerTold, ShardState, SlotId, pick_answer, slot_number, Slot, MemoryState, Told, Unsupported, Queue, Queued, first_of_kind, others_of_kind, AllocError, HeapMakeFault, LimiterError, Cell, unmapped, unknown, previously_used, taken, slot_of, Plan, SlotKind, memory_kind, table_kind, stack_kind, heap_kind, SlotName, heap_in, cell_numbers, heap_slot}
 use Rattle.pool_alloc.specs.CallStages.{untested, seeks_single, seeks_stack, tests_heap, seeks_heap, counts_heap, Stage, no_call, keys, asks as asking, tests_component, counts_component, returning, refusing, purging, reserving, releasing, Goes, stage_at, stage_by, stage_of}
 use Rattle.pool_alloc.specs.BetweenSteps.{IsShapedAt}
 use Rattle.pool_alloc.specs.Calls.{MayBegin, begun_call}
 use Rattle.pool_alloc.specs.GrantedRequests.{IsWant, CanBeMade, BreaksNoRule, NothingFails, GoesWell, AllGoWell, IsGranted}
-use Rattle.pool_alloc.specs.HeapLeases.{LeasedHeap, heap_numbers}
-use Rattle.pool_alloc.specs.Leases.{Lease, first_index, slot_taken}
+use Rattle.pool_alloc.specs.HeapLeases.{LeasedHeap, heap_numbers, memory_under}
+use Rattle.pool_alloc.specs.Leases.{Lease, slot_taken}
 use Rattle.pool_alloc.specs.MemorySteps.{heap_refusal, memory_made, reset_into}
 use Rattle.pool_alloc.specs.Objects.{objects_in, objects_wanted}
 use Rattle.pool_alloc.specs.PartyTold.{PartyTold}
@@ -19,14 +18,14 @@ use Rattle.pool_alloc.specs.Purges.{purge_row, purge_to, affine_picked, pick_aff
 use Rattle.pool_alloc.specs.Refusals.{heap_refused, module_refused, component_refused}
 use Rattle.pool_alloc.specs.Releases.{release_row, reserve_row, warm_taken, drain_from, drain_at, free_first, behind_stripe, not_resident, released_stripe, taking}
 use Rattle.pool_alloc.specs.StepReads.{StepGiven, allocator_for, info_wanted, memories_wanted, tables_wanted, shard_at, shard_tried, queue_at, queue_tried, heaps_at, wanted, cell_named}
-use Rattle.pool_alloc.specs.StepTable.{FlushStep, run, zero, put, free, flush_step, memory_kept, memory_turn, table_kept, table_turn, merged, validated, counted, stacks_tested, heaps_tested, heap_granted, heap_next, make_heap_row, component_tested, component_counted, paged, was_made, was_made_table, was_reset, reset_turn, put_first, flush_row, row_of, picked, taken_next, region_next, unmapped_next}
+use Rattle.pool_alloc.specs.StepTable.{FlushStep, run, zero, put, free, flush_step, memory_kept, memory_turn, table_kept, table_turn, merged, validated, counted, stacks_tested, heaps_tested, heap_granted, heap_next, make_heap_row, component_tested, component_counted, paged, was_made, was_made_table, was_reset, reset_turn, put_first, flush_row, row_of, picked, taken_next, region_next, unmapped_next, heap_freed, memory_tested, heap_counted}
 use Rattle.pool_alloc.specs.Stepping.{CanStep, StepsTo, Takes}
 use Rattle.pool_alloc.specs.TableLeases.{LeasedTable}
 use Rattle.pool_alloc.specs.TableSteps.{table_made, table_reset_into}
 use Rattle.pool_alloc.specs.Turns.{After, Left, Row, Turn, goes, ends, next, flush, search, stays, after, answer_of, ends_with, goes_to, is_flushed, all_returned, returned_next, next_by, slot_search}
 use Rattle.pool_alloc.specs.UnhinderedRequests.{is_for_room, asked_by, HasAllItNeeds, IsForGrant}
 use Rattle.pool_alloc.specs.declared.frame.Asked.{Asked}
-use Rattle.pool_alloc.specs.declared.frame.Asked.TheVariants.{Module as module_asked, Memory as memory_asked, Table as table_asked, Stack as stack_asked, Heap as heap_asked}
+use Rattle.pool_alloc.specs.declared.frame.Asked.TheVariants.{Module as module_asked, Memory as memory_asked, Table as table_asked, Stack as stack_asked, Heap as heap_asked, HeapOver as heap_over_asked}
 use Rattle.pool_alloc.specs.declared.frame.Call.{Call}
 use Rattle.pool_alloc.specs.declared.frame.Call.TheVariants as call
 use Rattle.pool_alloc.specs.declared.frame.Ending.{Ending}
@@ -120,6 +119,7 @@ module _ {P H : Type 0} where
   all_fine (table_asked ty) f fine = ends_fine f (answer_of f.ending) (answer_fine f f.ending fine)
   all_fine stack_asked f fine = ends_fine f (answer_of f.ending) (answer_fine f f.ending fine)
   all_fine (heap_asked ty) f fine = ends_fine f (answer_of f.ending) (answer_fine f f.ending fine)
+  all_fine (heap_over_asked memory) f fine = ends_fine f (answer_of f.ending) (answer_fine f f.ending fine)
   all_fine _ f fine = goes_fine f UncountInstance fine tt
 
   returned_fine : (ms : List Lease) (ts : List LeasedTable) (f : Frame P H) → FineEnding f.ending → FineLeft (returned_next ms ts f)
@@ -166,9 +166,13 @@ module _ {P H : Type 0} where
   stacks_fine true c f enabled fine = absurd cc
   stacks_fine false c f enabled fine = (fine, tt)
 
+  asked_fine : (asked : Asked) (wants : Bool) (c : PoolCore P H) (f : Frame P H) → heap_refused c.settings asked ≡ None → FineEnding f.ending → FineTurn (memory_tested asked wants c f).frame (memory_tested asked wants c f).turn
+  asked_fine (heap_over_asked memory) wants c f none fine = (fine, tt)
+  asked_fine asked wants c f none fine = validated_fine (heap_refused c.settings asked) wants (Pick 0) c f none tt fine
+
   heaps_fine : (b wants : Bool) (c : PoolCore P H) (f : Frame P H) → b ≡ true → heap_refused c.settings f.asked ≡ None → FineEnding f.ending → FineTurn (heaps_tested b wants c f).frame (heaps_tested b wants c f).turn
   heaps_fine false wants c f enabled none fine = absurd cc
-  heaps_fine true wants c f enabled none fine = validated_fine (heap_refused c.settings f.asked) wants (Pick 0) c f none tt fine
+  heaps_fine true wants c f enabled none fine = asked_fine f.asked wants c f none fine
 
   taken_past : (f : Frame P H) (kind : SlotKind) (name : SlotName) → PastTests (taken_next {P = P} {H = H} kind name)
   taken_past f heap_kind name = tt
@@ -223,6 +227,14 @@ module _ {P H : Type 0} where
   granted_fine : (ms : List Lease) (lease : LeasedHeap H) (c : PoolCore P H) (f : Frame P H) → FineEnding f.ending → FineTurn (heap_granted ms lease c f).frame (heap_granted ms lease c f).turn
   granted_fine [] lease c f fine = (fine, tt)
   granted_fine (memory ∷ rest) lease c f fine = tt
+
+  heap_counted_fine : (asked : Asked) (lease : LeasedHeap H) (c : PoolCore P H) (f : Frame P H) → FineEnding f.ending → FineTurn (heap_counted asked lease c f).frame (heap_counted asked lease c f).turn
+  heap_counted_fine (heap_over_asked memory) lease c f fine = tt
+  heap_counted_fine asked lease c f fine = granted_fine f.objects.memories.items lease c f fine
+
+  freed_past : (f : Frame P H) (name : SlotName) (memory : Option Lease) → PastTests (heap_freed {P = P} {H = H} name memory)
+  freed_past f name (Some memory) = tt
+  freed_past f name None = tt
 
   put_fine : (o : Option Queued) (rest : List Queued) (c : PoolCore P H) (f : Frame P H) → FineEnding f.ending → FineTurn (put_first o rest c f).frame (put_first o rest c f).turn
   put_fine None rest c f fine = (fine, tt)
@@ -324,9 +336,9 @@ module _ {P H : Type 0} where
   row_fine g (CountObject (object.Memory lease)) c f past fine can well = memory_fine f.asked lease (in_phase Idle f) fine
   row_fine g (CountObject (object.Table lease)) c f past fine can well = kept_fine f.asked lease (in_phase Idle f) fine
   row_fine g (CountObject (object.Stack lease)) c f past fine can well = tt
-  row_fine g (TakeHeap name) c f past fine can well = heap_fine (record { name = name; numbers = heap_numbers (first_index f.objects.memories.items) }) (heap_in name.slot (heaps_at c)) (in_phase Idle f) fine
+  row_fine g (TakeHeap name) c f past fine can well = heap_fine (record { name = name; numbers = heap_numbers (memory_under f.asked f.objects.memories.items) }) (heap_in name.slot (heaps_at c)) (in_phase Idle f) fine
   row_fine g (MakeHeap at) c f past fine can well = maker_fine g.heap at c (in_phase Idle f) well fine
-  row_fine g (CountHeap lease) c f past fine can well = granted_fine f.objects.memories.items lease c (in_phase Idle f) fine
+  row_fine g (CountHeap lease) c f past fine can well = heap_counted_fine f.asked lease c (in_phase Idle f) fine
   row_fine g (PutNoHeap at) c f past fine can well = (fine, tt)
   row_fine g (PutBack at held) c f past fine can well = (fine, tt)
   row_fine g (FreeOne name) c f past fine can well = fine
@@ -334,7 +346,7 @@ module _ {P H : Type 0} where
   row_fine g (UncountObject (object.Table lease)) c f past fine can well = (fine, tt)
   row_fine g (UncountObject (object.Stack lease)) c f past fine can well = (fine, tt)
   row_fine g (UncountHeap lease memory) c f past fine can well = (fine, tt)
-  row_fine g (PutHeap lease memory) c f past fine can well = (fine, tt)
+  row_fine g (PutHeap lease memory) c f past fine can well = (fine, freed_past f (heap_slot lease.index) memory)
   row_fine g (FreeHeap name memory) c f past fine can well = (fine, tt)
   row_fine g (Reset (object.Memory lease)) c f past fine can well = reset_fine g.fault g.slot lease c (in_phase Idle f) fine
   row_fine g (Reset (object.Table lease)) c f past fine can well = queue_fine c.settings.batch (table_reset_into c.settings lease f.local) (in_phase Idle f) fine
@@ -356,6 +368,7 @@ module _ {P H : Type 0} where
   first_fine (call.Table ty) g c f is rules well = row_fine g (Pick 0) c (begun_call (call.Table ty) f) tt tt tt well
   first_fine call.Stack g c f is rules well = stacks_fine (c.settings.stack_size == 0) c (in_phase Idle (begun_call call.Stack f)) (enabled c.settings.stack_size rules) tt
   first_fine (call.Heap ty) g c f is rules well = heaps_fine c.settings.tunables.tunables.collector g.wants c (in_phase Idle (begun_call (call.Heap ty) f)) rules.0 rules.1 tt
+  first_fine (call.HeapOver memory) g c f is rules well = heaps_fine c.settings.tunables.tunables.collector g.wants c (in_phase Idle (begun_call (call.HeapOver memory) f)) rules refl tt
   first_fine _ g c f is rules well = absurd is
 
   -- So each step leaves it.
@@ -383,6 +396,7 @@ module _ {P H : Type 0} (maker : MakerTold) (first : PoolCore P H) (stripe : ℕ
   ended old new c f (asking p) no_call (Some (answer.Granted (grant.Stack lease))) at way fine none = tt
   ended old new c f (asking p) no_call (Some (answer.Granted (grant.Instance lease))) at way fine none = tt
   ended old new c f (asking counts_heap) no_call (Some (answer.Granted (grant.Heap lease memory))) at way fine none = tt
+  ended old new c f (asking counts_heap) no_call (Some (answer.Granted (grant.HeapOver lease))) at way fine none = tt
   ended old new c f (asking untested) no_call (Some (answer.Refused e)) at way fine none = no_room e fine (none e refl)
   ended old new c f (asking seeks_stack) no_call (Some (answer.Refused e)) at way fine none = no_room e fine (none e refl)
   ended old new c f (asking tests_heap) no_call (Some (answer.Refused e)) at way fine none = no_room e fine (none e refl)

@@ -1,8 +1,6 @@
 -- A region behind its first page, which is hidden.
-use Rattle.std.proofs.Common.{◌≡◌, ℕ, ◌+◌, ◌-◌, ◌*◌, ◌/◌, ◌%◌, ◌^◌, ◌<◌, ◌≤◌, Bool, true, false, List, length, refl, sym, ap, ◌∙◌, subst, inr, arith, slice_range, replicate, get_or, Option, Some, None, Err, IfSome, ◌++◌, ◌||◌, ◌==◌, not, option_map}
-use Rattle.pool_alloc.proofs.Imports.{list_any, zero-div, le-div_iff_mul-le, length-replicate, get_or-replicate, get_or_append_left, nat_tests, count, IsPageSize, rounded_up, Contents, CanReach, hidden, put_all, MakerTold, fresh, plan_for, Told, TellsShaped, hiding, succeeded, page_below, sub_whole, IsFresh, HasColour, rounded_up_above, fresh_keeps, fresh_clean, marked_above, range-zeros, rounded_same, followed, HasFaulted, Layout, IsMadeRegion, IsRefusedFor, next_name, mapped_leaves, IsPlain, plain_slot}
-use Rattle.pool_pages.specs.declared.maker.MakeFault.TheVariants as making
-use Rattle.pool_memory.specs.declared.memory_error.MemoryError.TheVariants as refused
+use Rattle.std.proofs.Common.{◌≡◌, ℕ, ◌+◌, ◌-◌, ◌*◌, ◌/◌, ◌%◌, ◌^◌, ◌<◌, ◌≤◌, Bool, true, false, length, refl, sym, ap, ◌∙◌, subst, arith, slice_range, replicate, get_or, Option, Some, None, IfSome, ◌++◌, option_map}
+use Rattle.pool_alloc.proofs.Imports.{zero-div, le-div_iff_mul-le, length-replicate, get_or-replicate, get_or_append_left, count, IsPageSize, rounded_up, Contents, CanReach, hidden, put_all, fresh, Told, TellsShaped, succeeded, page_below, sub_whole, IsFresh, HasColour, fresh_keeps, fresh_clean, marked_above, range-zeros, rounded_same, followed, IsPlain, plain_slot}
 use Rattle.pool_alloc.specs.GuardPages.{IsOpen, guarding}
 
 -- what the region tells behind its guard page

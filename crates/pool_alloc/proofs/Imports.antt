@@ -110,6 +110,7 @@ pub use Rattle.pool_slots.specs.SlotQueues.{AreApart, AreDistinct, CanBeZeroed, 
 pub use Rattle.pool_slots.specs.SlotSteps.{after_first_of}
 pub use Rattle.pool_slots.specs.StripedPlans.{IsStripedPlanOf, divided, stripe_allocator}
 pub use Rattle.pool_slots.specs.TableSizes.{data_size}
+pub use Rattle.pool_slots.specs.declared.allocation_index.MemoryAllocationIndex.{MemoryAllocationIndex}
 pub use Rattle.pool_slots.specs.declared.cells.ImageSlot.{ImageSlot}
 pub use Rattle.pool_slots.specs.declared.cells.ImageSlot.TheVariants.{PreviouslyUsed, Taken, Unknown, Unmapped}
 pub use Rattle.pool_slots.specs.declared.errors.AllocError.{AllocError}

@@ -1,5 +1,5 @@
 -- A pool is made with the numbers of its settings: what the making of its parts says of those it says of the settings.
-use Rattle.std.proofs.Common.{◌≡◌, ℕ, ◌<◌, ◌^◌, Bool, false, List, Option, refl, sym, ap, subst, ◌∙◌, IfSome}
+use Rattle.std.proofs.Common.{◌≡◌, ℕ, ◌<◌, ◌^◌, Bool, List, Option, sym, ap, subst, ◌∙◌, IfSome}
 use Rattle.pool_alloc.proofs.Imports.{told_weaker, MakerTold, Planned, Told, slab_stripes, PoolingAllocationConfig, Tunables, Offered, RaisesUnlessGivenUp, RaisesBehindUnlessGivenUp, IsListedPoolFault, AreMadeTo, fails_some_slot, lists_some_making, SomeGivenUp, places_planned, divided, IsStripedPlanOf, PoolNewError, PartSettings, PoolPart, Plan, StripedPlanSettings}
 use Rattle.pool_alloc.specs.Made.{slots_of, plan_settings, part_settings, lists_making, fails_slots, GivesUpRegion}
 

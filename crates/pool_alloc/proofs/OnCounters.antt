@@ -3,9 +3,9 @@ use Rattle.std.proofs.Common.{◌≡◌, ◌∙◌, ℕ, ◌+◌, ◌-◌, ◌<�
 use Rattle.pool_alloc.proofs.Imports.{Exchange, Exchanged}
 use Rattle.pool_alloc.specs.HeapLeases.{LeasedHeap}
 use Rattle.pool_alloc.specs.Leases.{Lease}
-use Rattle.pool_alloc.specs.OnCounters.{CanStepCounted, component_found, counted_on, heap_found, instance_found}
+use Rattle.pool_alloc.specs.OnCounters.{CanStepCounted, component_found, counted_on, heap_found, instance_found, heap_found_for}
 use Rattle.pool_alloc.specs.PartyTold.{PartyTold}
-use Rattle.pool_alloc.specs.StepTable.{component_counted, counted, heap_granted, row_of}
+use Rattle.pool_alloc.specs.StepTable.{component_counted, counted, heap_granted, row_of, heap_counted}
 use Rattle.pool_alloc.specs.Stepping.{StepsAsking}
 use Rattle.pool_alloc.specs.Targets.{counted_up, counting, next_target, number_at}
 use Rattle.pool_alloc.specs.Turns.{After, Left, finished, left_by, resting, stepped}
@@ -16,8 +16,11 @@ use Rattle.pool_alloc.specs.declared.frame.Object.TheVariants.{Memory, Table, St
 use Rattle.pool_alloc.specs.declared.frame.Outcome.{Outcome}
 use Rattle.pool_alloc.specs.declared.frame.Phase.{Phase}
 use Rattle.pool_alloc.specs.declared.frame.Phase.TheVariants.{Idle, Key, CountInstance, CountObject, CountHeap, UncountObject, UncountHeap, Flush, UncountInstance, CountComponent, UncountComponent, Purge, Release}
+use Rattle.pool_alloc.specs.declared.frame.Asked.{Asked}
+use Rattle.pool_alloc.specs.declared.frame.Asked.TheVariants.{HeapOver as heap_over_asked}
 use Rattle.pool_alloc.specs.declared.pool_core.PoolCore.{PoolCore}
 use Rattle.pool_alloc.specs.declared.step.targets.Target.TheVariants.{Up, Down}
+use Rattle.pool_alloc.specs.CanStep.{CanTakeMemory}
 use Rattle.pool_alloc.proofs.NextTargets.{no_down, no_up, same_down, same_up}
 use Rattle.pool_alloc.proofs.StepsAsRows.{quiet, nothing_told}
 
@@ -38,6 +41,10 @@ module _ {P H : Type 0} where
   heap_row [] lease n c f some = let none : 0 < length {A = Lease} [] = some in absurd (omega (arith, none))
   heap_row (memory ∷ rest) lease n c f some = refl
 
+  heap_counted_row : (asked : Asked) (lease : LeasedHeap H) (n : ℕ) (c : PoolCore P H) (f : Frame P H) → CanTakeMemory asked f.objects → finished (counting counter.GcHeaps (c.counters.gc_heaps + 1) c) (left_by (heap_found_for asked lease n f)) ≡ stepped (heap_counted asked lease c f)
+  heap_counted_row (heap_over_asked memory) lease n c f can = refl
+  heap_counted_row asked lease n c f can = heap_row f.objects.memories.items lease n c f can
+
   module _ {R : Type 0} (leads : R → Exchange → R → Type 0) (limiter : R) (told : PartyTold) where
     -- What the code leaves of the frame, and the step that it is then.
     abbrev StepsWith : ℕ → Phase P H → PoolCore P H → Frame P H → Frame P H → Option (Outcome P H) → CounterName → Type 0
@@ -55,7 +62,7 @@ module _ {P H : Type 0} where
     up_as name (CountObject (Memory lease)) c f next o there can is = subst (StepsUp (CountObject (Memory lease)) c f next o) (same_up name _ there) (λ row. quiet leads limiter told nothing_told (CountObject (Memory lease)) c f _ Idle is refl tt tt refl refl refl (on_core _ counter.Memories (CountObject (Memory lease)) c f next o refl row))
     up_as name (CountObject (Table lease)) c f next o there can is = subst (StepsUp (CountObject (Table lease)) c f next o) (same_up name _ there) (λ row. quiet leads limiter told nothing_told (CountObject (Table lease)) c f _ Idle is refl tt tt refl refl refl (on_core _ counter.Tables (CountObject (Table lease)) c f next o refl row))
     up_as name (CountObject (Stack lease)) c f next o there can is = subst (StepsUp (CountObject (Stack lease)) c f next o) (same_up name _ there) (λ row. quiet leads limiter told nothing_told (CountObject (Stack lease)) c f _ Idle is refl tt tt refl refl refl (on_core _ counter.Stacks (CountObject (Stack lease)) c f next o refl row))
-    up_as name (CountHeap lease) c f next o there can is = subst (StepsUp (CountHeap lease) c f next o) (same_up name _ there) (λ row. quiet leads limiter told nothing_told (CountHeap lease) c f _ Idle is refl tt tt refl refl refl (on_core _ counter.GcHeaps (CountHeap lease) c f next o (heap_row f.objects.memories.items lease c.counters.gc_heaps c (resting f) can) row))
+    up_as name (CountHeap lease) c f next o there can is = subst (StepsUp (CountHeap lease) c f next o) (same_up name _ there) (λ row. quiet leads limiter told nothing_told (CountHeap lease) c f _ Idle is refl tt tt refl refl refl (on_core _ counter.GcHeaps (CountHeap lease) c f next o (heap_counted_row f.asked lease c.counters.gc_heaps c (resting f) can) row))
     up_as name CountComponent c f next o there can is = subst (StepsUp CountComponent c f next o) (same_up name _ there) (λ row. quiet leads limiter told nothing_told CountComponent c f _ Idle is refl tt tt refl refl refl (on_core _ counter.ComponentInstances CountComponent c f next o (component_row (nat_lt c.counters.component_instances c.settings.max_component_instances) c.counters.component_instances c (resting f)) row))
     up_as name Flush c f next o there can is = absurd can
     up_as name (Purge p step) c f next o there can is = absurd can

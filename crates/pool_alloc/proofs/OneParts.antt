@@ -6,7 +6,7 @@ use Rattle.pool_alloc.specs.Refusals.{heap_refused}
 use Rattle.pool_alloc.specs.PartyTold.{PartyTold}
 use Rattle.pool_alloc.specs.Leases.{Lease}
 use Rattle.pool_alloc.specs.TableLeases.{LeasedTable}
-use Rattle.pool_alloc.specs.StepTable.{stacks_tested, FlushStep, run, zero, put, free, flush_step, merged, in_queue, reserved, validated, counted, paged, was_made, was_made_table, was_reset, put_first, flush_row, row_of, component_tested, component_counted, heaps_tested, make_heap_row, heap_granted}
+use Rattle.pool_alloc.specs.StepTable.{stacks_tested, FlushStep, run, zero, put, free, flush_step, merged, in_queue, reserved, validated, counted, paged, was_made, was_made_table, was_reset, put_first, flush_row, row_of, component_tested, component_counted, heaps_tested, make_heap_row, heap_granted, heap_counted, memory_tested}
 use Rattle.pool_alloc.specs.StepReads.{StepGiven, queue_at, queue_tried, with_shard, with_cell, with_queue, with_heaps, counting_keys, counting_instances, counting_components, counting_memories, counting_tables, counting_stacks, counting_heaps}
 use Rattle.pool_alloc.specs.Stepping.{StepsTo, ChangesOnePart}
 use Rattle.pool_alloc.specs.Turns.{After}
@@ -16,6 +16,8 @@ use Rattle.pool_alloc.specs.declared.frame.Phase.{Phase}
 use Rattle.pool_alloc.specs.declared.frame.Object.TheVariants.{Memory, Table, Stack}
 use Rattle.pool_alloc.specs.declared.frame.TakenSlot.{TakenSlot}
 use Rattle.pool_alloc.specs.declared.frame.Phase.TheVariants.{Idle, Key, Validate, TestStack, CountInstance, Pick, TakeQueue, TakeRegion, Empty, Instantiate, MakeMemory, MakeTable, CountObject, PutBack, FreeOne, UncountObject, Reset, Merge, Flush, UncountInstance, ValidateComponent, CountComponent, UncountComponent, Purge, Release, TestHeap, TakeHeap, MakeHeap, CountHeap, PutNoHeap, UncountHeap, PutHeap, FreeHeap}
+use Rattle.pool_alloc.specs.declared.frame.Asked.{Asked}
+use Rattle.pool_alloc.specs.declared.frame.Asked.TheVariants.{HeapOver as heap_over_asked}
 use Rattle.pool_alloc.specs.Purges.{has_turns, pick_affine_row, purge_row}
 use Rattle.pool_alloc.specs.Releases.{reserve_row, release_row}
 use Rattle.pool_alloc.specs.declared.purge.PurgeCursor.{PurgeCursor}
@@ -45,9 +47,13 @@ module _ {P H : Type 0} where
   one_validated (Some rule) wants p c f = inl refl
   one_validated None wants p c f = one_reserved wants p c f
 
+  one_memory_tested : (asked : Asked) (wants : Bool) (c : PoolCore P H) (f : Frame P H) → ChangesOnePart c (memory_tested asked wants c f).part
+  one_memory_tested (heap_over_asked memory) wants c f = inl refl
+  one_memory_tested asked wants c f = one_validated (heap_refused c.settings asked) wants (Pick 0) c f
+
   one_heap_tested : (b wants : Bool) (c : PoolCore P H) (f : Frame P H) → ChangesOnePart c (heaps_tested b wants c f).part
   one_heap_tested false wants c f = inl refl
-  one_heap_tested true wants c f = one_validated (heap_refused c.settings f.asked) wants (Pick 0) c f
+  one_heap_tested true wants c f = one_memory_tested f.asked wants c f
 
   one_heap_made : (r : Result H HeapMakeFault) (at : TakenSlot) (c : PoolCore P H) (f : Frame P H) → ChangesOnePart c (make_heap_row r at c f).part
   one_heap_made (Ok heap) at c f = inl refl
@@ -56,6 +62,10 @@ module _ {P H : Type 0} where
   one_heap_granted : (leases : List Lease) (lease : LeasedHeap H) (c : PoolCore P H) (f : Frame P H) → ChangesOnePart c (heap_granted leases lease c f).part
   one_heap_granted [] lease c f = inl refl
   one_heap_granted (memory ∷ rest) lease c f = inr (inr (inr (inr (inr (_, inr (inr (inr (inr (inr (inl refl))))))))))
+
+  one_heap_counted : (asked : Asked) (lease : LeasedHeap H) (c : PoolCore P H) (f : Frame P H) → ChangesOnePart c (heap_counted asked lease c f).part
+  one_heap_counted (heap_over_asked memory) lease c f = inr (inr (inr (inr (inr (_, inr (inr (inr (inr (inr (inl refl))))))))))
+  one_heap_counted asked lease c f = one_heap_granted f.objects.memories.items lease c f
 
   one_counted : (b : Bool) (c : PoolCore P H) (f : Frame P H) → ChangesOnePart c (counted b c f).part
   one_counted true c f = inr (inr (inr (inr (inr (c.counters.core_instances + 1, inr (inl refl))))))
@@ -133,7 +143,7 @@ module _ {P H : Type 0} where
   one_part g TestHeap c f = one_heap_tested c.settings.tunables.tunables.collector g.wants c f
   one_part g (TakeHeap name) c f = one_heaps _ c
   one_part g (MakeHeap at) c f = one_heap_made g.heap at c f
-  one_part g (CountHeap lease) c f = one_heap_granted f.objects.memories.items lease c f
+  one_part g (CountHeap lease) c f = one_heap_counted f.asked lease c f
   one_part g (PutNoHeap at) c f = one_heaps _ c
   one_part g (UncountHeap lease memory) c f = inr (inr (inr (inr (inr (_, inr (inr (inr (inr (inr (inl refl))))))))))
   one_part g (PutHeap lease memory) c f = one_heaps _ c

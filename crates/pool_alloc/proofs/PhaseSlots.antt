@@ -1,9 +1,9 @@
 -- What follows for a slot, and for a region, that the next step of a call has.
-use Rattle.std.proofs.Common.{◌≡◌, ℕ, ◌+◌, ◌≤◌, true, false, arith}
-use Rattle.pool_alloc.proofs.Imports.{MakerTold, is_used, is_taken, home_of, RegionNumbers, SlotName}
+use Rattle.std.proofs.Common.{◌≡◌, ◌≤◌, false, arith}
+use Rattle.pool_alloc.proofs.Imports.{MakerTold, is_taken, RegionNumbers, SlotName}
 use Rattle.pool_alloc.specs.Places.{right_to, region_of, phase_count, frame_count}
 use Rattle.pool_alloc.specs.BetweenSteps.{HasCells, IsCore, FitsCore}
-use Rattle.pool_alloc.specs.StepReads.{shard_at, cell_named}
+use Rattle.pool_alloc.specs.StepReads.{cell_named}
 use Rattle.pool_alloc.specs.declared.pool_core.PoolCore.{PoolCore}
 use Rattle.pool_alloc.specs.declared.frame.Frame.{Frame}
 use Rattle.pool_alloc.specs.declared.frame.Phase.{Phase}

@@ -3,9 +3,7 @@ use Rattle.std.proofs.Common.{◌≡◌, ℕ, ◌+◌, ◌*◌, ◌-◌, ◌<◌
 use Rattle.pool_alloc.proofs.Imports.{each_at, SlotName, AllByRecursion, cases_Bool, and_parts, ltb-true, leb-true, mod-lt, SlotKind, memory_kind, table_kind, stack_kind, heap_kind, of_kind, Role, shard_role, cell_role, queue_role, heaps_role, no_role, Block, blocks, is_within, role_among, role_at, slots_at, number_in, have_number, IsAllocator, IsAtHome, home_of, cell_place, allocators_of, shards_block, cells_block, allocators, Allocator, Plan, roles, HasShards, shards_of, slots_are_at_home, shard_of_kind, home_there}
 use Rattle.pool_alloc.specs.StepBounds.{most_shards, searched_allocators}
 use Rattle.pool_alloc.specs.BetweenSteps.{IsStripe, IsPoolPlan, HasCells, IsSlotName}
-use Rattle.pool_alloc.specs.StepReads.{memories_wanted, memory_slots, no_allocator, stripe_allocator, allocator_of, allocator_for, kind_next, kind_by, shard_tried, queue_tried, queues_searched}
-use Rattle.pool_alloc.specs.declared.frame.Asked.{Asked}
-use Rattle.pool_alloc.specs.declared.frame.Asked.TheVariants.{Stack as stack_asked}
+use Rattle.pool_alloc.specs.StepReads.{memory_slots, no_allocator, stripe_allocator, allocator_of, allocator_for, kind_next, shard_tried, queue_tried, queues_searched}
 use Rattle.pool_alloc.specs.declared.frame.Frame.{Frame}
 
 -- a place with a role is one of the pool

@@ -4,7 +4,7 @@ use Rattle.pool_alloc.proofs.Imports.{ltb-true, ltb-false, and_parts, sum_by-con
 use Rattle.pool_alloc.specs.BetweenSteps.{IsPoolPlan, IsPurging, IsFirstPick, IsPicking}
 use Rattle.pool_alloc.specs.Purges.{has_turns, behind_stripe, behind_memory, behind_turn, purged_stripe}
 use Rattle.pool_alloc.specs.StepBounds.{PoolSizes, sizes_of, turns_bound, purge_bound, memories_left, turns_left}
-use Rattle.pool_alloc.specs.StepReads.{no_allocator, stripe_allocator}
+use Rattle.pool_alloc.specs.StepReads.{no_allocator}
 use Rattle.pool_alloc.specs.declared.pool_core.Settings.{Settings}
 use Rattle.pool_alloc.specs.declared.purge.PurgeCursor.{PurgeCursor}
 use Rattle.pool_alloc.proofs.BeforeTheTurn.{one_more}

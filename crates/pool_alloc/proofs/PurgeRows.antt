@@ -11,7 +11,6 @@ use Rattle.pool_alloc.specs.BetweenSteps.{IsAtRest, IsSlotName, IsPurging, IsPic
 use Rattle.pool_alloc.specs.StepReads.{StepGiven, shard_at, cell_named, with_shard, with_cell}
 use Rattle.pool_alloc.specs.Turns.{goes, Row, lifted}
 use Rattle.pool_alloc.specs.declared.frame.Frame.{Frame}
-use Rattle.pool_alloc.specs.declared.frame.Outcome.TheVariants as answer
 use Rattle.pool_alloc.specs.declared.frame.Phase.{Phase}
 use Rattle.pool_alloc.specs.declared.frame.Phase.TheVariants.{Idle, Purge}
 use Rattle.pool_alloc.specs.declared.frame.TakenSlot.{TakenSlot}

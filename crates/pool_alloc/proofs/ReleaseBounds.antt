@@ -1,5 +1,5 @@
 -- Which slots of a release are decommitted next, and how many steps that leaves.
-use Rattle.std.proofs.Common.{◌≡◌, ℕ, zero, suc, ◌+◌, ◌*◌, ◌-◌, ◌<◌, ◌≤◌, Bool, true, false, List, [], ◌∷◌, length, refl, sym, ap, ◌∙◌, arith, get_or, ◌==◌, not, drop, if◌then◌else◌, nat_lt, sum_by, min}
+use Rattle.std.proofs.Common.{◌≡◌, ℕ, zero, suc, ◌+◌, ◌*◌, ◌<◌, ◌≤◌, Bool, true, false, List, [], ◌∷◌, length, refl, ap, ◌∙◌, arith, get_or, ◌==◌, not, drop, if◌then◌else◌}
 use Rattle.pool_alloc.proofs.Imports.{sum_by-cons, one_if, Allocator, slots_at}
 use Rattle.pool_alloc.specs.BetweenSteps.{slots_left}
 use Rattle.pool_alloc.specs.Releases.{not_resident}

@@ -1,5 +1,5 @@
 -- The steps of a release, as they show.
-use Rattle.std.proofs.Common.{◌≡◌, ℕ, ◌+◌, ◌*◌, ◌-◌, ◌<◌, ◌≤◌, Bool, true, false, List, [], ◌∷◌, ◌++◌, length, refl, sym, ap, subst, ◌∙◌, arith, All, get_or, Some, None, nat_lt, if◌then◌else◌, drop, remove}
+use Rattle.std.proofs.Common.{◌≡◌, ℕ, ◌+◌, ◌*◌, ◌<◌, ◌≤◌, Bool, true, false, List, [], ◌∷◌, ◌++◌, length, refl, sym, ap, subst, ◌∙◌, arith, All, Some, None, nat_lt, if◌then◌else◌, drop, remove}
 use Rattle.pool_alloc.proofs.Imports.{ltb-true, true≢false, length-append, sum_by-append, sum_by-remove, All-nil, All-append, All-head, All-tail, All-get_or, MakerTold, decommitting, Slot, same_called, same_faulted, SlotKind, memory_kind, ShardState, after_take_warm, after_free, taken_slots, Cell, unknown, previously_used, cell_of, home_of, CellState, cell_emptied, cell_filled, ImageSlot, Unmapped, Unknown, PreviouslyUsed, Taken, Allocator, Plan, SlotName}
 use Rattle.pool_alloc.specs.PartyTold.{PartyTold}
 use Rattle.pool_alloc.specs.PageCallAnswers.{DecommitsWhole, Drains, ReleaseTold}

@@ -1,5 +1,5 @@
 -- The rows of a give-back, and of a flush.
-use Rattle.std.proofs.Common.{map, ◌≡◌, ℕ, ◌+◌, ◌-◌, ◌%◌, ◌^◌, ◌<◌, ◌≤◌, Bool, true, false, List, [], ◌∷◌, ◌++◌, length, refl, sym, ap, subst, ◌∙◌, arith, All, inl, Option, None, Some, ◌==◌, ◌||◌, ◌&&◌, not, nat_le, nat_lt, filter, if◌then◌else◌, IfSome, ◌*◌}
+use Rattle.std.proofs.Common.{map, ◌≡◌, ℕ, ◌+◌, ◌-◌, ◌%◌, ◌^◌, ◌<◌, ◌≤◌, Bool, true, false, List, [], ◌∷◌, ◌++◌, length, refl, sym, ap, subst, ◌∙◌, arith, All, inl, Option, None, Some, ◌==◌, ◌||◌, ◌&&◌, not, nat_le, filter, IfSome, ◌*◌}
 use Rattle.pool_alloc.proofs.Imports.{of_kind, long_by_kind, Plan, leb-false, or_parts, length_push, length-append, All-head, All-nil, All-push, All-filter, All-weaker, All-tail, length-filter_both, MakerTold, RestoreOriginalMapping, Slot, forgotten, given_marks, left_by, reset_by, few_left, ByteRange, ShardState, image_slot_of, CellState, cell_filled, Queue, Queued, LeavesClean, empty_queue, taken_into, drained, after_append, IsSettled, first_of_kind, first_zeroed, is_to_zero, others_of_kind, plain_slot, SlotKind, memory_kind, home_of, cell_place, AllByRecursion, list_any, SlotName, Told, StackState, TellsMarks, used_left, used_part, stack_kept, stack_ranges, stack_zeroed, stack_item, leaves_clean, first_settled, zeroed_long, table_kind, stack_kind}
 use Rattle.pool_alloc.proofs.SumsBelow.{queued_cells}
 use Rattle.pool_alloc.proofs.PlanPlaces.{IsShardPlace, IsQueuePlace, apart_places, queue_no_cell, tried_is_queue}

@@ -165,7 +165,7 @@ module _ {P H : Type 0} (maker : MakerTold) (old new : PartyTold) where
         kept = record { core = core_with_counters maker (record c.counters { core_instances = c.counters.core_instances + 1 }) c can.core; held = held_of maker c.settings c.plan (in_phase CountInstance f) can.frame; asked = refl; settings = refl; plan = refl; by_one = λ k. omega (arith, only_one k counted_instance) };
         shape = (rest.settled, aims_grant c.settings c.plan f.ending f.asked f.queues f.objects asking.ending to_grant);
         even = λ w. omega (arith, ap (λ (n : ℕ). n * w.counts counted_instance) (counts_one f.asked one));
-        fewer = first_object (sizes_of c.settings c.plan) f.ending f.queues f.asked f.objects asking.ending asking.none_taken nothing (omega (arith, one.no_stack, one.no_single));
+        fewer = first_object (sizes_of c.settings c.plan) f.ending f.queues f.asked f.objects asking.ending asking.none_taken nothing one;
         way = subst W (sym asking.ending) (subst F (sym (is_admitted f.asked (objects_in f.objects) one)) (nothing, ltb-true _ _ is));
         searched = λ s. subst S (sym asking.ending) (λ j below. absurd (omega (arith, below, asking.none_taken)));
       }

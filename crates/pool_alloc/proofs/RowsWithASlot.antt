@@ -20,7 +20,7 @@ use Rattle.pool_alloc.specs.declared.pool_core.PoolCore.{PoolCore}
 use Rattle.pool_alloc.specs.declared.pool_core.Settings.{Settings}
 use Rattle.pool_alloc.specs.declared.frame.Ending.{Ending}
 use Rattle.pool_alloc.specs.declared.frame.Asked.{Asked}
-use Rattle.pool_alloc.specs.declared.frame.Asked.TheVariants.{Memory as memory_asked, Table as table_asked, Stack as stack_asked, Heap as heap_asked}
+use Rattle.pool_alloc.specs.declared.frame.Asked.TheVariants.{Memory as memory_asked, Table as table_asked, Stack as stack_asked, Heap as heap_asked, HeapOver as heap_over_asked}
 use Rattle.pool_alloc.specs.declared.frame.Frame.{Frame}
 use Rattle.pool_alloc.specs.declared.frame.Phase.{Phase}
 use Rattle.pool_alloc.specs.declared.frame.TakenSlot.{TakenSlot}
@@ -176,6 +176,7 @@ memory_by asked n is = ltb-true n (length (memories_wanted asked)) (memory_if (n
 table_by : (asked : Asked) (n : ℕ) → kind_by asked n ≡ table_kind → (length (memories_wanted asked) ≤ n) × IsForObjects asked
 table_by stack_asked n is = let no : ◌≡◌ {A = ℕ} 2 1 = ap kind_number is in absurd (omega arith)
 table_by (heap_asked ty) n is = absurd (never_if (nat_lt n 1) heap_kind table_kind (omega arith) (λ same. omega (arith, same)) is)
+table_by (heap_over_asked memory) n is = absurd (never_if (nat_lt n 0) heap_kind table_kind (omega arith) (λ same. omega (arith, same)) is)
 table_by asked n is = (ltb-false n (length (memories_wanted asked)) (last_if (nat_lt n (length (memories_wanted asked))) table_kind (omega arith) is), record { no_stack = refl; no_heap = refl })
 
 stack_by : (asked : Asked) (n : ℕ) → kind_by asked n ≡ stack_kind → asked ≡ stack_asked
@@ -185,6 +186,7 @@ stack_by asked n is = absurd (never_if (nat_lt n (length (memories_wanted asked)
 heap_by : (asked : Asked) (n : ℕ) → kind_by asked n ≡ heap_kind → (length (memories_wanted asked) ≤ n) × (heaps_wanted asked ≡ 1)
 heap_by stack_asked n is = let no : ◌≡◌ {A = ℕ} 2 3 = ap kind_number is in absurd (omega arith)
 heap_by (heap_asked ty) n is = (ltb-false n 1 (last_if (nat_lt n 1) heap_kind (omega arith) is), refl)
+heap_by (heap_over_asked memory) n is = (omega arith, refl)
 heap_by asked n is = absurd (never_if (nat_lt n (length (memories_wanted asked))) table_kind heap_kind (omega arith) (λ same. omega (arith, same)) is)
 
 -- a memory is none of a stack's call

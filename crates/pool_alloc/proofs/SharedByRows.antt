@@ -8,8 +8,8 @@ use Rattle.pool_alloc.specs.Objects.{objects_in, objects_wanted}
 use Rattle.pool_alloc.specs.declared.leases.instance.InstanceLease.{InstanceLease}
 use Rattle.pool_alloc.specs.Searches.{IsSearchedBy}
 use Rattle.pool_alloc.specs.BetweenSteps.{IsCore, Aims, IsToGrant}
-use Rattle.pool_alloc.specs.CallStages.{Progress, asks, seeks_single, FailsObject, HasObject, no_call, refusing, progress_by, stage_by, FindsNone, IsPageFaulted, Makes, Follows, Raises, Goes}
-use Rattle.pool_alloc.specs.StepReads.{stacks_wanted, singles_wanted, IsForObjects}
+use Rattle.pool_alloc.specs.CallStages.{Progress, asks, seeks_single, FailsObject, HasObject, no_call, refusing, progress_by, stage_by, FindsNone, IsPageFaulted, Makes, Raises, Goes}
+use Rattle.pool_alloc.specs.StepReads.{stacks_wanted, singles_wanted, IsForObjects, IsForInstance}
 use Rattle.pool_alloc.specs.Stepping.{CanStep}
 use Rattle.pool_alloc.specs.Turns.{is_granting, answer_of}
 use Rattle.pool_alloc.specs.declared.pool_core.Counters.{Counters}
@@ -23,7 +23,7 @@ use Rattle.pool_alloc.specs.declared.frame.Grant.TheVariants.{Stack}
 use Rattle.pool_alloc.specs.declared.frame.Outcome.TheVariants as answer
 use Rattle.pool_alloc.specs.declared.frame.Frame.{Frame}
 use Rattle.pool_alloc.specs.declared.frame.Asked.{Asked}
-use Rattle.pool_alloc.specs.declared.frame.Asked.TheVariants.{Memory as memory_asked, Table as table_asked, Stack as stack_asked, Heap as heap_asked}
+use Rattle.pool_alloc.specs.declared.frame.Asked.TheVariants.{Memory as memory_asked, Table as table_asked, Stack as stack_asked, Heap as heap_asked, HeapOver as heap_over_asked}
 use Rattle.pool_alloc.specs.declared.frame.Phase.{Phase}
 use Rattle.pool_alloc.proofs.BeforeTheTurn.{one_more, in_phase, Held, Kept}
 use Rattle.pool_alloc.specs.Places.{number_counted}
@@ -91,6 +91,9 @@ pub next_object : {P : Type 0} (z : PoolSizes) (e : Ending) (asked : Asked) (bef
 next_object z e (memory_asked m) before after is long none = absurd (omega (arith, none))
 next_object z e (table_asked ty) before after is long none = absurd (omega (arith, none))
 next_object z e stack_asked before after is long none = absurd (omega (arith, none))
+next_object z e (heap_over_asked memory) before after is long none =
+    let E : Ending → Type 0 = λ x. next_left z x 0 (heap_over_asked memory) after ≤ objects_left z (heap_over_asked memory) before in
+    subst E (sym is) (at_most_if (nat_lt (objects_in after) 1) (picks_left z 0 0 (heap_over_asked memory) after) (objects_left z (heap_over_asked memory) before) (λ more. absurd (omega (arith, ltb-true _ _ more, long))))
 next_object z e asked before after is long none =
     let k : ℕ = objects_wanted asked in
     let n : ℕ = objects_in before in
@@ -101,11 +104,12 @@ next_object z e asked before after is long none =
     (λ more. let there : M (objects_in after) = subst M (sym long) (following_left z k n (omega (arith, ltb-true _ _ more, long))) in omega (arith, there)))
 
 -- the first object is allocated, or there is none
-pub first_object : {P : Type 0} (z : PoolSizes) (e : Ending) (queues : ℕ) (asked : Asked) (objects : InstanceLease P) → e ≡ granted → queues ≡ 0 → objects_in objects ≡ 0 → stacks_wanted asked + singles_wanted asked ≡ 0 → next_left z e queues asked objects + 1 ≤ 2 + objects_wanted asked * (allocation_bound z + give_back_bound z)
-first_object z e queues (memory_asked m) objects is none_taken none unstacked = absurd (omega (arith, unstacked))
-first_object z e queues (table_asked ty) objects is none_taken none unstacked = absurd (omega (arith, unstacked))
-first_object z e queues stack_asked objects is none_taken none unstacked = absurd (omega (arith, unstacked))
-first_object z e queues asked objects is none_taken none unstacked =
+pub first_object : {P : Type 0} (z : PoolSizes) (e : Ending) (queues : ℕ) (asked : Asked) (objects : InstanceLease P) → e ≡ granted → queues ≡ 0 → objects_in objects ≡ 0 → IsForInstance asked → next_left z e queues asked objects + 1 ≤ 2 + objects_wanted asked * (allocation_bound z + give_back_bound z)
+first_object z e queues (memory_asked m) objects is none_taken none one = absurd (omega (arith, one.no_single))
+first_object z e queues (table_asked ty) objects is none_taken none one = absurd (omega (arith, one.no_single))
+first_object z e queues stack_asked objects is none_taken none one = absurd (omega (arith, one.no_stack))
+first_object z e queues (heap_over_asked memory) objects is none_taken none one = absurd (omega (arith, one.no_heap))
+first_object z e queues asked objects is none_taken none one =
     let k : ℕ = objects_wanted asked in
     let most : ℕ = 1 + k * (allocation_bound z + give_back_bound z) in
     let E : Ending → Type 0 = λ x. next_left z x queues asked objects ≤ most in
@@ -160,6 +164,7 @@ module _ {P H : Type 0} (maker : MakerTold) (old new : PartyTold) (d : PoolCore 
   same_way (memory_asked m) granted n = inl refl
   same_way (table_asked ty) granted n = inl refl
   same_way (heap_asked ty) granted n = inl refl
+  same_way (heap_over_asked memory) granted n = inl refl
   same_way asked granted n = inl refl
   same_way asked returned n = tt
   same_way asked (refused x) n = refl
@@ -176,6 +181,11 @@ module _ {P H : Type 0} (maker : MakerTold) (old new : PartyTold) (d : PoolCore 
         | inl faulted ↦ inr (inl faulted)
         | inr made ↦ inr (inr (inl made))
       ])
+  memory_fails_way (heap_over_asked memory) ending n x is none raised =
+      fails_way (heap_over_asked memory) ending n x is (elim raised [
+        | inl faulted ↦ inr (inl faulted)
+        | inr made ↦ inr (inr (inl made))
+      ])
   memory_fails_way asked ending n x is none raised =
       fails_way asked ending n x is (elim raised [
         | inl faulted ↦ inr (inl faulted)
@@ -186,6 +196,7 @@ module _ {P H : Type 0} (maker : MakerTold) (old new : PartyTold) (d : PoolCore 
   pub object_fails_way : (asked : Asked) (ending : Ending) (n : ℕ) (x : AllocError) → ending ≡ granted → IsForObjects asked → FailsObject maker old new d e n x → Goes maker old new d e (stage_by asked ending n) (refusing x) None
   object_fails_way stack_asked ending n x is none raised = absurd (omega (arith, none.no_stack))
   object_fails_way (heap_asked ty) ending n x is none raised = absurd (omega (arith, none.no_heap))
+  object_fails_way (heap_over_asked memory) ending n x is none raised = absurd (omega (arith, none.no_heap))
   object_fails_way asked ending n x is none raised = fails_way asked ending n x is raised
 
   -- or for want of a slot,
@@ -197,11 +208,13 @@ module _ {P H : Type 0} (maker : MakerTold) (old new : PartyTold) (d : PoolCore 
   pub memory_made_way : (asked : Asked) (ending : Ending) (n : ℕ) (memory : MemoryState) → ending ≡ granted → stacks_wanted asked ≡ 0 → Makes old new d e n (Ok memory) → Goes maker old new d e (stage_by asked ending n) (stage_by asked ending (n + 1)) None
   memory_made_way stack_asked ending n memory is none made = absurd (omega (arith, none))
   memory_made_way (heap_asked ty) ending n memory is none made = let W : Ending → Type 0 = λ y. Goes maker old new d e (stage_by (heap_asked ty) y n) (stage_by (heap_asked ty) y (n + 1)) None in subst W (sym is) (inr (refl, (memory, made)))
+  memory_made_way (heap_over_asked m) ending n memory is none made = let W : Ending → Type 0 = λ y. Goes maker old new d e (stage_by (heap_over_asked m) y n) (stage_by (heap_over_asked m) y (n + 1)) None in subst W (sym is) (inr (refl, (memory, made)))
   memory_made_way asked ending n memory is none made = let W : Ending → Type 0 = λ y. Goes maker old new d e (stage_by asked y n) (stage_by asked y (n + 1)) None in subst W (sym is) (inr (refl, inl (memory, made)))
 
   pub object_made_way : (asked : Asked) (ending : Ending) (n : ℕ) → ending ≡ granted → IsForObjects asked → HasObject old new d e n (n + 1) → Goes maker old new d e (stage_by asked ending n) (stage_by asked ending (n + 1)) None
   object_made_way stack_asked ending n is none made = absurd (omega (arith, none.no_stack))
   object_made_way (heap_asked ty) ending n is none made = absurd (omega (arith, none.no_heap))
+  object_made_way (heap_over_asked memory) ending n is none made = absurd (omega (arith, none.no_heap))
   object_made_way asked ending n is none made = let W : Ending → Type 0 = λ y. Goes maker old new d e (stage_by asked y n) (stage_by asked y (n + 1)) None in subst W (sym is) made
 
   -- and one that gives back ends as it is to end.

@@ -16,7 +16,7 @@ use Rattle.pool_alloc.specs.Stepping.{grant_count, grant_counted}
 use Rattle.pool_alloc.specs.TableLeases.{LeasedTable, table_slot, table_taken}
 use Rattle.pool_alloc.specs.UnhinderedRequests.{right_in, slots_live}
 use Rattle.pool_alloc.specs.declared.frame.Grant.{Grant}
-use Rattle.pool_alloc.specs.declared.frame.Grant.TheVariants.{Instance, Memory, Table, Stack, Heap, Component}
+use Rattle.pool_alloc.specs.declared.frame.Grant.TheVariants.{Instance, Memory, Table, Stack, Heap, HeapOver, Component}
 use Rattle.pool_alloc.specs.declared.leases.instance.InstanceLease.{InstanceLease}
 use Rattle.pool_alloc.proofs.SlotCounts.{one_true}
 use Rattle.pool_alloc.proofs.SumsBelow.{below, below_sum}
@@ -119,6 +119,7 @@ module _ (n : ℕ) (s : ℕ → Thing) (t : Thing) (each : (u : UnitName) → be
           both_below (slot_taken memory).name (slot_taken memory).numbers,
           below_sum (λ j. taken_count (s j) (heap_slot_taken lease)) (λ j. taken_count (s j) (slot_taken memory)) (λ j. grant_count {P = P} {H = H} (s j) (Heap lease memory)) (λ j. refl) n,
         )
+    grant_below (HeapOver lease) = both_below (heap_slot_taken lease).name (heap_slot_taken lease).numbers
 
     pub grants_below : (grants : List (Grant P H)) → below (λ j. sum_by (grant_count (s j)) grants) n ≤ sum_by (grant_count t) grants
     grants_below grants = list_below (λ w g. grant_count w g) grant_below grants
@@ -201,6 +202,10 @@ module _ {P H : Type 0} where
   few_granted table_kind a (Heap lease memory) = omega arith
   few_granted stack_kind a (Heap lease memory) = omega arith
   few_granted heap_kind a (Heap lease memory) = omega (arith, once heap_kind a (heap_slot_taken lease).name (heap_slot_taken lease).numbers)
+  few_granted memory_kind a (HeapOver lease) = omega arith
+  few_granted table_kind a (HeapOver lease) = omega arith
+  few_granted stack_kind a (HeapOver lease) = omega arith
+  few_granted heap_kind a (HeapOver lease) = once heap_kind a (heap_slot_taken lease).name (heap_slot_taken lease).numbers
 
   -- Live grants have no more slots of an allocator than they have objects of its kind.
   pub few_live : (kind : SlotKind) (a : Allocator) (grants : List (Grant P H)) → a.kind ≡ kind → slots_live a grants ≤ sum_by (grant_counted (only (counted_object kind))) grants

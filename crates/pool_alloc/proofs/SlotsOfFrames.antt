@@ -1,11 +1,11 @@
 -- What follows for a slot, and for a region, that a frame has, where the frame fits the pool.
-use Rattle.std.proofs.Common.{◌≡◌, ℕ, ◌+◌, ◌*◌, ◌/◌, ◌<◌, ◌≤◌, true, false, refl, sym, ap, subst, ◌∙◌, arith, Bool, List, [], ◌∷◌, length, inl, inr, remove, nat_lt}
+use Rattle.std.proofs.Common.{◌≡◌, ℕ, ◌+◌, ◌*◌, ◌/◌, ◌<◌, ◌≤◌, true, false, refl, sym, ap, subst, ◌∙◌, arith, Bool, List, [], ◌∷◌, length, inl, inr, remove, nat_lt, Option, Some, None}
 use Rattle.pool_alloc.proofs.Imports.{all_kept, shard_units, false_from_ne_true, cases_lt, mul-div_cancel, total, same, UnitName, inside, total_some, total_append, same_is, same_self, MakerTold, ShardState, IsShard, is_used, one_warm, Cell, is_taken, unmapped, unknown, previously_used, taken, CellState, cell_away, away_by, unit_region, part_away, part_kept, part_at, cell_of_part, Role, shard_role, cell_role, queue_role, heaps_role, role_at, home_of, RegionNumbers, SlotName, PoolPart, cell_at, list_at, units_of_out_slots, IsHere, IsOutOf, is_out, heap_entry, memory_of, heaps_away, IsOfOutHeap, heap_slot, HeapEntry, heap_kind, read_at, away_parts, of_kind}
 use Rattle.pool_hall.specs.Sum.{one_if}
 use Rattle.pool_slots.specs.declared.part.PoolPart.TheVariants as part
 use Rattle.pool_alloc.specs.HeapLeases.{heap_numbers, heap_slot_taken}
-use Rattle.pool_alloc.specs.Leases.{slot_taken}
-use Rattle.pool_alloc.specs.Places.{Thing, right_to, region_of, region_count, taken_count, kept_count, away_count, phase_count, frame_count, release_count, purge_count, of_units}
+use Rattle.pool_alloc.specs.Leases.{slot_taken, Lease}
+use Rattle.pool_alloc.specs.Places.{Thing, right_to, region_of, region_count, taken_count, kept_count, away_count, phase_count, frame_count, release_count, purge_count, of_units, heap_memory_count}
 use Rattle.pool_alloc.specs.Objects.{slot_of_object}
 use Rattle.pool_alloc.specs.declared.frame.TakenSlot.{TakenSlot}
 use Rattle.pool_alloc.specs.StepReads.{shard_in, heaps_in, shard_at, heaps_at, cell_named}
@@ -217,6 +217,10 @@ module _ {P : Type 0} where
   release_regions name (releasing_step.PutRegion r k at held) = omega (arith, freed_regions name (remove r.taken.items k), object_regions name at)
   release_regions name (releasing_step.Free r x) = omega (arith, slot_regions name x.name, freed_regions name r.taken.items)
 
+memory_regions : (name : SlotName) (memory : Option Lease) → heap_memory_count (region_of name) memory ≤ heap_memory_count (right_to name) memory
+memory_regions name (Some memory) = object_regions name (slot_taken memory)
+memory_regions name None = omega arith
+
 module _ {P H : Type 0} where
   phase_regions : (name : SlotName) (phase : Phase P H) → phase_count (region_of name) phase ≤ phase_count (right_to name) phase
   phase_regions name (TakeRegion other) = omega (arith, slot_regions name other)
@@ -232,8 +236,8 @@ module _ {P H : Type 0} where
   phase_regions name (MakeHeap at) = object_regions name at
   phase_regions name (CountHeap lease) = object_regions name (heap_slot_taken lease)
   phase_regions name (PutNoHeap at) = object_regions name at
-  phase_regions name (UncountHeap lease memory) = omega (arith, object_regions name (heap_slot_taken lease), object_regions name (slot_taken memory))
-  phase_regions name (PutHeap lease memory) = omega (arith, object_regions name (heap_slot_taken lease), object_regions name (slot_taken memory))
+  phase_regions name (UncountHeap lease memory) = omega (arith, object_regions name (heap_slot_taken lease), memory_regions name memory)
+  phase_regions name (PutHeap lease memory) = omega (arith, object_regions name (heap_slot_taken lease), memory_regions name memory)
   phase_regions name (FreeHeap other memory) = omega (arith, slot_regions name other, object_regions name (slot_taken memory))
   phase_regions name (Reset object) = object_regions name (slot_of_object object)
   phase_regions name (Purge p step) = purge_regions name step

@@ -1,6 +1,6 @@
 -- Regions of stacks: as they are made, with a stack in them, and back again.
-use Rattle.std.proofs.Common.{◌≡◌, ℕ, ◌+◌, ◌-◌, ◌/◌, ◌%◌, ◌^◌, ◌<◌, ◌≤◌, Bool, true, false, List, [], ◌∷◌, length, refl, sym, ap, ◌∙◌, subst, arith, All, Option, Some, None, replicate, IfSome, IsSome, if◌then◌else◌, option_map, cond, inl, inr}
-use Rattle.pool_alloc.proofs.Imports.{IsGivenBack, All-nil, IsPageSize, count, rounded_up, Contents, IsShaped, hidden, MakerTold, fresh, Told, TellsShaped, hiding, succeeded, fresh_shaped, add_whole, access_shaped, Slot, SlotIdentity, IsClean, IsPart, Reads, Holds, identity, size_of, decommitted_all, ByteRange, told_same, fresh_clean, rounded_same, stack_item, stack_region, IsPlain, StackState, plain_written, stack_kept, stack_ranges, stack_zeroed, top_kept, top_reset, CanBeZeroed, IsReset, Queued, plain_slot, Plan, RegionNumbers, clean_slots_read_zeros, empty_held, top_done, top_plain}
+use Rattle.std.proofs.Common.{◌≡◌, ℕ, ◌+◌, ◌-◌, ◌%◌, ◌^◌, ◌<◌, ◌≤◌, Bool, true, false, List, length, refl, sym, ap, ◌∙◌, subst, arith, All, Option, Some, None, replicate, IfSome, IsSome, if◌then◌else◌, option_map, cond, inl, inr}
+use Rattle.pool_alloc.proofs.Imports.{IsGivenBack, All-nil, IsPageSize, count, Contents, IsShaped, hidden, MakerTold, fresh, Told, TellsShaped, fresh_shaped, add_whole, access_shaped, Slot, SlotIdentity, IsClean, IsPart, Reads, Holds, identity, size_of, decommitted_all, ByteRange, told_same, fresh_clean, rounded_same, stack_item, stack_region, IsPlain, StackState, stack_kept, stack_ranges, stack_zeroed, top_reset, CanBeZeroed, IsReset, Queued, plain_slot, Plan, RegionNumbers, clean_slots_read_zeros, empty_held, top_done, top_plain}
 use Rattle.pool_alloc.specs.BetweenSteps.{IsSettings, IsByHand, IsQueuedOf}
 use Rattle.pool_alloc.specs.GuardPages.{IsOpen}
 use Rattle.pool_alloc.specs.PoolStacks.{region_of_stack, IsPoolStack, IsQueuedStack, IsStackRegion, IsStackLease, IsNewStack, stack_made}

@@ -1,13 +1,13 @@
 -- What a call that isn't counted yet has counted: nothing.
-use Rattle.std.proofs.Common.{◌≡◌, ℕ, ◌+◌, ◌*◌, refl, arith}
+use Rattle.std.proofs.Common.{◌≡◌, ℕ, ◌+◌, ◌*◌, Some, None, refl, arith}
 use Rattle.pool_alloc.specs.CallStages.{asks, uncounted, counts_component, stage_by, stage_back, stage_at}
 use Rattle.pool_alloc.specs.Places.{only, counted_instance, counted_component, phase_instances, phase_counted, instances_for}
 use Rattle.pool_alloc.specs.declared.frame.Asked.{Asked}
-use Rattle.pool_alloc.specs.declared.frame.Asked.TheVariants.{Memory as memory_asked, Table as table_asked, Stack as stack_asked, Heap as heap_asked}
+use Rattle.pool_alloc.specs.declared.frame.Asked.TheVariants.{Memory as memory_asked, Table as table_asked, Stack as stack_asked, Heap as heap_asked, HeapOver as heap_over_asked}
 use Rattle.pool_alloc.specs.declared.frame.Ending.{Ending}
 use Rattle.pool_alloc.specs.declared.frame.Ending.TheVariants as ending
 use Rattle.pool_alloc.specs.declared.frame.Phase.{Phase}
-use Rattle.pool_alloc.specs.declared.frame.Phase.TheVariants.{Idle, Key, Validate, TestStack, TestHeap, CountInstance, CountObject, CountHeap, ValidateComponent, CountComponent, UncountComponent, Purge, Release}
+use Rattle.pool_alloc.specs.declared.frame.Phase.TheVariants.{Idle, Key, Validate, TestStack, TestHeap, CountInstance, CountObject, CountHeap, ValidateComponent, CountComponent, UncountComponent, UncountHeap, PutHeap, Purge, Release}
 
 back_counts : (e : Ending) → stage_back e ≡ counts_component → ⊥
 back_counts (ending.Refused e) is = absurd cc
@@ -22,6 +22,7 @@ counted_by (memory_asked m) ending.Granted n is = absurd cc
 counted_by (table_asked ty) ending.Granted n is = absurd cc
 counted_by stack_asked ending.Granted n is = absurd cc
 counted_by (heap_asked ty) ending.Granted n is = absurd cc
+counted_by (heap_over_asked memory) ending.Granted n is = absurd cc
 counted_by _ ending.Granted n is = absurd cc
 counted_by asked ending.Returned n is = absurd cc
 counted_by asked (ending.Refused e) n is = absurd cc
@@ -47,9 +48,17 @@ module _ {P H : Type 0} where
   -- So it is with a component.
   pub uncounted_component : (phase : Phase P H) (asked : Asked) (e : Ending) (n : ℕ) → stage_at phase asked e n ≡ counts_component → phase_counted (only counted_component) phase ≡ 0
   uncounted_component UncountComponent asked e n is = absurd (back_counts e is)
+  uncounted_component (UncountHeap lease (Some memory)) asked e n is = refl
+  uncounted_component (UncountHeap lease None) asked e n is = refl
+  uncounted_component (PutHeap lease (Some memory)) asked e n is = refl
+  uncounted_component (PutHeap lease None) asked e n is = refl
   uncounted_component _ asked e n is = refl
 
   -- No phase has an instance that is counted beside that of its call.
   pub no_instance_counted : (phase : Phase P H) → phase_counted (only counted_instance) phase ≡ 0
   no_instance_counted UncountComponent = refl
+  no_instance_counted (UncountHeap lease (Some memory)) = refl
+  no_instance_counted (UncountHeap lease None) = refl
+  no_instance_counted (PutHeap lease (Some memory)) = refl
+  no_instance_counted (PutHeap lease None) = refl
   no_instance_counted _ = refl

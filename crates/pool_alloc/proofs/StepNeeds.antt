@@ -8,7 +8,7 @@ use Rattle.pool_alloc.specs.TableLeases.{LeasedTable}
 use Rattle.pool_alloc.specs.declared.leases.instance.InstanceLease.{InstanceLease}
 use Rattle.pool_alloc.proofs.SumsBelow.{queued_cells}
 use Rattle.pool_alloc.proofs.SlotCounts.{slot_once}
-use Rattle.pool_alloc.proofs.HeapSlots.{heap_name, heap_inside, has_memory, memories_first, taken_is_home, no_heap_is_away, heap_back_is_away}
+use Rattle.pool_alloc.proofs.HeapSlots.{heap_name, heap_inside, takes_memory, memories_first, taken_is_home, no_heap_is_away, heap_back_is_away}
 use Rattle.pool_alloc.proofs.HeapRows.{test_heap_ready, take_heap_ready, make_heap_ready, count_heap_ready, put_no_heap_ready, uncount_heap_ready, put_heap_ready, free_heap_ready}
 use Rattle.pool_alloc.proofs.TableRegions.{bytes_within, type_enough, table_room, its_len}
 use Rattle.pool_alloc.specs.TableSteps.{table_bytes}
@@ -38,7 +38,7 @@ use Rattle.pool_alloc.specs.declared.pool_core.PoolCore.{PoolCore}
 use Rattle.pool_alloc.specs.declared.pool_core.Settings.{Settings}
 use Rattle.pool_alloc.specs.declared.frame.Frame.{Frame}
 use Rattle.pool_alloc.specs.declared.frame.Asked.{Asked}
-use Rattle.pool_alloc.specs.declared.frame.Asked.TheVariants.{Module as module_asked, Memory as memory_asked, Table as table_asked, Stack as stack_asked, Heap as heap_asked}
+use Rattle.pool_alloc.specs.declared.frame.Asked.TheVariants.{Module as module_asked, Memory as memory_asked, Table as table_asked, Stack as stack_asked, Heap as heap_asked, HeapOver as heap_over_asked}
 use Rattle.pool_alloc.specs.PoolStacks.{IsStackLease}
 use Rattle.pool_alloc.proofs.StackRegions.{stack_page, stack_small}
 use Rattle.pool_alloc.specs.declared.frame.Phase.{Phase}
@@ -226,7 +226,7 @@ module _ {P H : Type 0} where
         here = taken_here maker name c f can named;
       }
   can_at maker (MakeHeap at) c f can counts = tt
-  can_at maker (CountHeap lease) c f can counts = (omega (arith, counts (counted_object heap_kind)), omega (arith, can.frame.shape.4.0, has_memory f.asked can.frame.shape.4.1))
+  can_at maker (CountHeap lease) c f can counts = (omega (arith, counts (counted_object heap_kind)), takes_memory f.asked f.objects can.frame.shape.4.1 can.frame.shape.4.0)
   can_at maker (PutNoHeap at) c f can counts =
       let named : IsHeapName c.plan at.name = can.frame.shape.2 in
       record { list = heaps_part maker c can.core (omega (arith, named.inside)); out = put_out maker at c f can named }
@@ -346,6 +346,7 @@ may_by (memory_asked m) granted objects n none empty = empty
 may_by (table_asked ty) granted objects n none empty = empty
 may_by stack_asked granted objects n none empty = tt
 may_by (heap_asked ty) granted objects n none empty = empty
+may_by (heap_over_asked memory) granted objects n none empty = empty
 may_by asked granted objects n none empty = absurd (omega (arith, none))
 may_by asked returned objects n none empty = tt
 may_by asked (refused e) objects n none empty = tt
@@ -366,6 +367,7 @@ no_tables_for (memory_asked m) none = refl
 no_tables_for (table_asked ty) none = refl
 no_tables_for stack_asked none = refl
 no_tables_for (heap_asked ty) none = refl
+no_tables_for (heap_over_asked memory) none = refl
 no_tables_for asked none = absurd (omega (arith, none))
 
 few_memories_for : (asked : Asked) → CountsNone asked → length (memories_wanted asked) ≤ 1
@@ -373,6 +375,7 @@ few_memories_for (memory_asked m) none = omega arith
 few_memories_for (table_asked ty) none = omega arith
 few_memories_for stack_asked none = omega arith
 few_memories_for (heap_asked ty) none = omega arith
+few_memories_for (heap_over_asked memory) none = omega arith
 few_memories_for asked none = absurd (omega (arith, none))
 
 -- one for neither a stack nor a heap is for one object
@@ -381,6 +384,7 @@ single_next (memory_asked m) none one = refl
 single_next (table_asked ty) none one = refl
 single_next stack_asked none one = absurd (omega (arith, one.no_stack))
 single_next (heap_asked ty) none one = absurd (omega (arith, one.no_heap))
+single_next (heap_over_asked memory) none one = absurd (omega (arith, one.no_heap))
 single_next asked none one = absurd (omega (arith, none))
 
 module _ {P H : Type 0} where

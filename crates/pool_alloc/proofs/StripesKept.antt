@@ -12,19 +12,19 @@ use Rattle.pool_alloc.specs.Purges.{has_turns, pick_affine_row, purge_row}
 use Rattle.pool_alloc.specs.Refusals.{heap_refused, module_refused, component_refused}
 use Rattle.pool_alloc.specs.Releases.{reserve_row, release_row}
 use Rattle.pool_alloc.specs.StepReads.{StepGiven, info_wanted, memories_wanted, tables_wanted}
-use Rattle.pool_alloc.specs.StepTable.{FlushStep, run, zero, put, free, flush_step, memory_kept, table_kept, merged, validated, counted, stacks_tested, heaps_tested, heap_granted, make_heap_row, component_tested, component_counted, paged, was_made, was_made_table, was_reset, put_first, flush_row, row_of}
+use Rattle.pool_alloc.specs.StepTable.{FlushStep, run, zero, put, free, flush_step, memory_kept, table_kept, merged, validated, counted, stacks_tested, heaps_tested, heap_granted, make_heap_row, component_tested, component_counted, paged, was_made, was_made_table, was_reset, put_first, flush_row, row_of, memory_tested, heap_counted}
 use Rattle.pool_alloc.specs.Stepping.{StepsTo}
 use Rattle.pool_alloc.specs.TableLeases.{LeasedTable}
 use Rattle.pool_alloc.specs.TableSteps.{table_made}
 use Rattle.pool_alloc.specs.Turns.{After, Left, Row, Turn, goes, ends, next, flush, search, stays, after, is_flushed, all_returned, returned_next, next_by}
 use Rattle.pool_alloc.specs.declared.frame.Asked.{Asked}
-use Rattle.pool_alloc.specs.declared.frame.Asked.TheVariants.{Nothing as nothing_asked, Module as module_asked, Memory as memory_asked, Table as table_asked, Stack as stack_asked, Heap as heap_asked}
+use Rattle.pool_alloc.specs.declared.frame.Asked.TheVariants.{Nothing as nothing_asked, Module as module_asked, Memory as memory_asked, Table as table_asked, Stack as stack_asked, Heap as heap_asked, HeapOver as heap_over_asked}
 use Rattle.pool_alloc.specs.declared.frame.Call.{Call}
 use Rattle.pool_alloc.specs.declared.frame.Call.TheVariants as call
 use Rattle.pool_alloc.specs.declared.frame.Ending.{Ending}
 use Rattle.pool_alloc.specs.declared.frame.Ending.TheVariants.{Granted as granted, Returned as returned, Refused as refused}
 use Rattle.pool_alloc.specs.declared.frame.Frame.{Frame}
-use Rattle.pool_alloc.specs.declared.frame.Grant.TheVariants.{Instance, Component, Memory as one_memory, Table as one_table, Stack, Heap}
+use Rattle.pool_alloc.specs.declared.frame.Grant.TheVariants.{Instance, Component, Memory as one_memory, Table as one_table, Stack, Heap, HeapOver}
 use Rattle.pool_alloc.specs.declared.frame.Object.TheVariants.{Memory, Table}
 use Rattle.pool_alloc.specs.declared.frame.Object.TheVariants as object
 use Rattle.pool_alloc.specs.declared.frame.Phase.{Phase}
@@ -49,6 +49,7 @@ module _ {P H : Type 0} where
   all_stripe nothing_asked f = refl
   all_stripe (module_asked m) f = refl
   all_stripe (heap_asked ty) f = refl
+  all_stripe (heap_over_asked memory) f = refl
 
   returned_stripe : (ms : List Lease) (ts : List LeasedTable) (f : Frame P H) → (returned_next ms ts f).frame.stripe ≡ f.stripe
   returned_stripe (l ∷ ls) ts f = refl
@@ -82,9 +83,11 @@ module _ {P H : Type 0} where
   begun_stripe (call.GiveBack (one_table lease)) f = refl
   begun_stripe call.Stack f = refl
   begun_stripe (call.Heap ty) f = refl
+  begun_stripe (call.HeapOver memory) f = refl
   begun_stripe (call.GiveBack (Stack lease)) f = refl
   begun_stripe (call.GiveBack Component) f = refl
   begun_stripe (call.GiveBack (Heap lease memory)) f = refl
+  begun_stripe (call.GiveBack (HeapOver lease)) f = refl
   begun_stripe (call.GiveBack (Instance lease)) f = returned_stripe lease.memories.items lease.tables.items (record f { asked = nothing_asked; objects = lease; ending = returned })
 
   -- Rows that have several ends.
@@ -93,9 +96,13 @@ module _ {P H : Type 0} where
   validated_stripe None true phase c f = refl
   validated_stripe None false phase c f = refl
 
+  asked_stripe : (asked : Asked) (wants : Bool) (c : PoolCore P H) (f : Frame P H) → (memory_tested asked wants c f).frame.stripe ≡ f.stripe
+  asked_stripe (heap_over_asked memory) wants c f = refl
+  asked_stripe asked wants c f = validated_stripe (heap_refused c.settings asked) wants (Pick 0) c f
+
   heaps_stripe : (enabled wants : Bool) (c : PoolCore P H) (f : Frame P H) → (heaps_tested enabled wants c f).frame.stripe ≡ f.stripe
   heaps_stripe false wants c f = refl
-  heaps_stripe true wants c f = validated_stripe (heap_refused c.settings f.asked) wants (Pick 0) c f
+  heaps_stripe true wants c f = asked_stripe f.asked wants c f
 
   make_heap_stripe : (r : Result H HeapMakeFault) (at : TakenSlot) (c : PoolCore P H) (f : Frame P H) → (make_heap_row r at c f).frame.stripe ≡ f.stripe
   make_heap_stripe (Ok heap) at c f = refl
@@ -104,6 +111,10 @@ module _ {P H : Type 0} where
   heap_stripe : (ms : List Lease) (lease : LeasedHeap H) (c : PoolCore P H) (f : Frame P H) → (heap_granted ms lease c f).frame.stripe ≡ f.stripe
   heap_stripe [] lease c f = refl
   heap_stripe (m ∷ ms) lease c f = refl
+
+  heap_counted_stripe : (asked : Asked) (lease : LeasedHeap H) (c : PoolCore P H) (f : Frame P H) → (heap_counted asked lease c f).frame.stripe ≡ f.stripe
+  heap_counted_stripe (heap_over_asked memory) lease c f = refl
+  heap_counted_stripe asked lease c f = heap_stripe f.objects.memories.items lease c f
 
   memory_stripe : (asked : Asked) (lease : Lease) (f : Frame P H) → (memory_kept asked lease f).stripe ≡ f.stripe
   memory_stripe (memory_asked m) lease f = refl
@@ -210,7 +221,7 @@ module _ {P H : Type 0} where
   row_stripe g TestHeap c f on = heaps_stripe c.settings.tunables.tunables.collector g.wants c f
   row_stripe g (TakeHeap name) c f on = refl
   row_stripe g (MakeHeap at) c f on = make_heap_stripe g.heap at c f
-  row_stripe g (CountHeap lease) c f on = heap_stripe f.objects.memories.items lease c f
+  row_stripe g (CountHeap lease) c f on = heap_counted_stripe f.asked lease c f
   row_stripe g (PutNoHeap at) c f on = refl
   row_stripe g (UncountHeap lease memory) c f on = refl
   row_stripe g (PutHeap lease memory) c f on = refl

@@ -1,9 +1,9 @@
 -- What a call picks is one of its allocator's slots, so that its memories lie in its party's stripe.
-use Rattle.std.proofs.Common.{◌≡◌, ℕ, ◌+◌, ◌*◌, ◌-◌, ◌<◌, ◌==◌, ◌&&◌, ◌||◌, ◌%◌, Bool, true, false, not, List, [], ◌∷◌, ◌++◌, length, drop, Option, Some, None, Result, Ok, Err, refl, sym, ap, ◌∙◌, subst, arith, nat_lt, nat_le, if◌then◌else◌, IfSome}
+use Rattle.std.proofs.Common.{◌≡◌, ℕ, ◌+◌, ◌*◌, ◌<◌, ◌==◌, ◌&&◌, ◌||◌, ◌%◌, Bool, true, false, not, List, [], ◌∷◌, ◌++◌, length, drop, Option, Some, None, Result, Ok, Err, refl, sym, ap, ◌∙◌, subst, arith, nat_lt, nat_le, if◌then◌else◌, IfSome}
 use Rattle.pool_alloc.proofs.Imports.{sum_by-cons, sum_by_push, one_if, same_kind, MakerTold, ShardState, SlotId, pick_answer, slot_number, Slot, MemoryState, Told, Unsupported, Queue, Queued, first_of_kind, others_of_kind, AllocError, HeapMakeFault, Cell, unmapped, unknown, previously_used, taken, Allocator, Plan, has_number, number_in, SlotKind, memory_kind, table_kind, stack_kind, heap_kind, SlotName, RegionNumbers, heap_in, cell_numbers, slot_of, IsShardOf, told_weaker}
 use Rattle.pool_alloc.specs.CallStages.{keys, stage_of}
-use Rattle.pool_alloc.specs.HeapLeases.{LeasedHeap, heap_slot_taken, heap_numbers}
-use Rattle.pool_alloc.specs.Leases.{Lease, first_index, memory_slot, slot_taken}
+use Rattle.pool_alloc.specs.HeapLeases.{LeasedHeap, heap_slot_taken, heap_numbers, memory_under}
+use Rattle.pool_alloc.specs.Leases.{Lease, memory_slot, slot_taken}
 use Rattle.pool_alloc.specs.MemorySteps.{memory_made, reset_into}
 use Rattle.pool_alloc.specs.Objects.{objects_in, objects_wanted, no_objects}
 use Rattle.pool_alloc.specs.PartyTold.{PartyTold}
@@ -14,14 +14,14 @@ use Rattle.pool_alloc.specs.Releases.{release_row, reserve_row, warm_taken, drai
 use Rattle.pool_alloc.specs.StackLeases.{LeasedStack, stack_taken}
 use Rattle.pool_alloc.specs.PoolStacks.{stack_made, stack_reset}
 use Rattle.pool_alloc.specs.StepReads.{StepGiven, allocator_of, allocator_for, kind_next, stripe_allocator, info_wanted, memories_wanted, tables_wanted, shard_at, shard_tried, queue_at, queue_tried, heaps_at, wanted, cell_named}
-use Rattle.pool_alloc.specs.StepTable.{FlushStep, run, zero, put, free, flush_step, memory_kept, memory_turn, table_kept, table_turn, merged, validated, counted, stacks_tested, heaps_tested, heap_granted, heap_next, make_heap_row, component_tested, component_counted, paged, was_made, was_made_table, was_reset, reset_turn, put_first, flush_row, row_of, picked, taken_next, region_next, unmapped_next}
+use Rattle.pool_alloc.specs.StepTable.{FlushStep, run, zero, put, free, flush_step, memory_kept, memory_turn, table_kept, table_turn, merged, validated, counted, stacks_tested, heaps_tested, heap_granted, heap_next, make_heap_row, component_tested, component_counted, paged, was_made, was_made_table, was_reset, reset_turn, put_first, flush_row, row_of, picked, taken_next, region_next, unmapped_next, memory_tested, heap_counted}
 use Rattle.pool_alloc.specs.Stepping.{CanStep, StepsTo, grant_count, count_granted}
 use Rattle.pool_alloc.specs.StripesOfGrants.{right_outside, in_hand, KeepsToItsStripe}
 use Rattle.pool_alloc.specs.TableLeases.{LeasedTable, table_slot, table_taken}
 use Rattle.pool_alloc.specs.TableSteps.{table_made, table_reset_into}
 use Rattle.pool_alloc.specs.Turns.{After, Left, Turn, goes, ends, next, flush, search, stays, after, answer_of, ends_with, goes_to, is_flushed, is_granting, all_returned, returned_next, next_by, slot_search, failing}
 use Rattle.pool_alloc.specs.declared.frame.Asked.{Asked}
-use Rattle.pool_alloc.specs.declared.frame.Asked.TheVariants.{Memory as memory_asked, Table as table_asked, Stack as stack_asked, Heap as heap_asked}
+use Rattle.pool_alloc.specs.declared.frame.Asked.TheVariants.{Memory as memory_asked, Table as table_asked, Stack as stack_asked, Heap as heap_asked, HeapOver as heap_over_asked}
 use Rattle.pool_alloc.specs.declared.frame.Ending.{Ending}
 use Rattle.pool_alloc.specs.declared.frame.Ending.TheVariants.{Granted as granted, Returned as returned, Refused as refused}
 use Rattle.pool_alloc.specs.declared.frame.Frame.{Frame}
@@ -108,6 +108,7 @@ module _ {P H : Type 0} (t : Thing) (of : IsOfMemories t) where
   all_back (table_asked ty) f back = (λ on. absurd cc, answered f f.ending)
   all_back stack_asked f back = (λ on. absurd cc, answered f f.ending)
   all_back (heap_asked ty) f back = (λ on. absurd cc, answered f f.ending)
+  all_back (heap_over_asked memory) f back = (λ on. absurd cc, answered f f.ending)
   all_back _ f back = (λ on. idle_of f.ending back on, refl)
 
   returned_clear : (ms : List Lease) (ts : List LeasedTable) (f : Frame P H) → is_granting f.ending ≡ false → ClearLeft (returned_next ms ts f)
@@ -174,9 +175,13 @@ module _ {P H : Type 0} (t : Thing) (of : IsOfMemories t) where
   stacks_clear true c f = refl
   stacks_clear false c f = λ on. omega arith
 
-  heaps_clear : (enabled wants : Bool) (c : PoolCore P H) (f : Frame P H) → ClearTurn (heaps_tested enabled wants c f).frame (heaps_tested enabled wants c f).turn
-  heaps_clear false wants c f = refl
-  heaps_clear true wants c f = validated_clear (heap_refused c.settings f.asked) wants (Pick 0) c f refl
+  tested_memory_clear : (asked : Asked) (wants : Bool) (c : PoolCore P H) (f : Frame P H) → ClearObjects f → ClearTurn (memory_tested asked wants c f).frame (memory_tested asked wants c f).turn
+  tested_memory_clear (heap_over_asked memory) wants c f clear = λ on. omega (arith, clear on)
+  tested_memory_clear asked wants c f clear = validated_clear (heap_refused c.settings asked) wants (Pick 0) c f refl
+
+  heaps_clear : (enabled wants : Bool) (c : PoolCore P H) (f : Frame P H) → ClearObjects f → ClearTurn (heaps_tested enabled wants c f).frame (heaps_tested enabled wants c f).turn
+  heaps_clear false wants c f clear = refl
+  heaps_clear true wants c f clear = tested_memory_clear f.asked wants c f clear
 
   picked_clear : (plan : Plan) (o : Option (SlotId × ℕ)) (shard : ShardState) (tried : ℕ) (f : Frame P H) → ClearObjects f → IfSome o (λ p. slot_count t (record { kind = (allocator_for plan f).kind; slot = slot_number shard p.0.0 }) ≡ 0) → ClearTurn f (picked plan o shard tried f)
   picked_clear plan (Some p) shard tried f clear none = taken_clear f (allocator_for plan f).kind (record { kind = (allocator_for plan f).kind; slot = slot_number shard p.0.0 }) clear none
@@ -221,6 +226,10 @@ module _ {P H : Type 0} (t : Thing) (of : IsOfMemories t) where
   granted_clear (memory ∷ rest) lease c f is now clear =
       let all : leased_count t f.objects.memories.items ≡ leased_count t (memory ∷ rest) = ap (leased_count t) is in
       omega (arith, clear now, all, sum_by-cons (λ (x : Lease). both_count t (memory_slot x.index) x.numbers) memory rest, no_heap t of lease)
+
+  heap_counted_clear : (asked : Asked) (lease : LeasedHeap H) (c : PoolCore P H) (f : Frame P H) → is_granting f.ending ≡ true → ClearObjects f → ClearTurn (heap_counted asked lease c f).frame (heap_counted asked lease c f).turn
+  heap_counted_clear (heap_over_asked memory) lease c f now clear = no_heap t of lease
+  heap_counted_clear asked lease c f now clear = granted_clear f.objects.memories.items lease c f refl now clear
 
   put_clear : (o : Option Queued) (rest : List Queued) (c : PoolCore P H) (f : Frame P H) → ClearObjects f → ClearTurn (put_first o rest c f).frame (put_first o rest c f).turn
   put_clear None rest c f clear = λ on. omega (arith, clear on)
@@ -305,7 +314,7 @@ module _ {P H : Type 0} (t : Thing) (of : IsOfMemories t) where
   row_clear maker g Key c f can picks clear = refl
   row_clear maker g Validate c f can picks clear = validated_clear (module_refused c.settings c.plan.totals.table (info_wanted f.asked)) g.wants CountInstance c (in_phase Idle f) refl
   row_clear maker g TestStack c f can picks clear = stacks_clear (c.settings.stack_size == 0) c (in_phase Idle f)
-  row_clear maker g TestHeap c f can picks clear = heaps_clear c.settings.tunables.tunables.collector g.wants c (in_phase Idle f)
+  row_clear maker g TestHeap c f can picks clear = heaps_clear c.settings.tunables.tunables.collector g.wants c (in_phase Idle f) (objects_clear (in_phase Idle f) TestHeap clear)
   row_clear maker g CountInstance c f can picks clear = counted_clear (nat_lt c.counters.core_instances c.settings.max_core_instances) c (in_phase Idle f) (objects_clear (in_phase Idle f) CountInstance clear)
   row_clear maker g (Pick tried) c f can picks clear = picked_clear c.plan (pick_answer (wanted f) (shard_at (shard_tried tried c.plan f) c)) (shard_at (shard_tried tried c.plan f) c) tried (in_phase Idle f) (objects_clear (in_phase Idle f) (Pick tried) clear) (picks tried refl)
   row_clear maker g TakeQueue c f can picks clear =
@@ -321,10 +330,10 @@ module _ {P H : Type 0} (t : Thing) (of : IsOfMemories t) where
   row_clear maker g (CountObject (object.Table lease)) c f can picks clear = table_more f.asked lease (in_phase Idle f) (objects_clear (in_phase Idle f) (CountObject (object.Table lease)) clear)
   row_clear maker g (CountObject (object.Stack lease)) c f can picks clear = no_stack t of lease
   row_clear maker g (TakeHeap name) c f can picks clear =
-      let memory : ℕ = first_index f.objects.memories.items in
+      let memory : ℕ = memory_under f.asked f.objects.memories.items in
       heap_clear (record { name = name; numbers = heap_numbers memory }) (heap_in name.slot (heaps_at c)) (in_phase Idle f) (objects_clear (in_phase Idle f) (TakeHeap name) clear) (λ on. omega (arith, clear on, of.regions name (heap_numbers memory)))
   row_clear maker g (MakeHeap at) c f can picks clear = maker_clear g.heap at c (in_phase Idle f) (objects_clear (in_phase Idle f) (MakeHeap at) clear)
-  row_clear maker g (CountHeap lease) c f can picks clear = granted_clear f.objects.memories.items lease c (in_phase Idle f) refl (ap is_granting can.frame.shape.1.ending) (objects_clear (in_phase Idle f) (CountHeap lease) clear)
+  row_clear maker g (CountHeap lease) c f can picks clear = heap_counted_clear f.asked lease c (in_phase Idle f) (ap is_granting can.frame.shape.1.ending) (objects_clear (in_phase Idle f) (CountHeap lease) clear)
   row_clear maker g (PutNoHeap at) c f can picks clear = back_on (in_phase Idle f) (FreeOne at.name) can.frame.shape.1
   row_clear maker g (PutBack at held) c f can picks clear = back_on (in_phase Idle f) (FreeOne at.name) can.frame.shape.1
   row_clear maker g (FreeOne name) c f can picks clear = λ on. idle_of f.ending can.frame.shape.1 on

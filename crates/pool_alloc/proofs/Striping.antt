@@ -1,6 +1,6 @@
 -- In how many stripes memories lie, and that settings which break no rule have a layout.
-use Rattle.std.proofs.Common.{◌≡◌, ℕ, ◌+◌, ◌-◌, ◌*◌, ◌^◌, zero, suc, ◌<◌, ◌≤◌, Bool, true, false, ◌&&◌, refl, sym, ap, subst, ◌∙◌, arith, Option, None, Some, min, nat_le, nat_lt, if◌then◌else◌}
-use Rattle.pool_alloc.proofs.Imports.{div_ceil, div_ceil_times, ltb-true, leb-true, both_true, rounded_up_above, rounded_up, first_too_great, is_batch_size, faulting_bytes, first_broken_rule, first_broken_total, is_page_size, is_shard_count, keys_suffice, keys_used, may_stripe, may_use, or_else, rounds_up, slab_fits, slab_stripes, unless, BadConfig, PageSize, Shards, DecommitBatch, Reservation, KeysNotOffered, SlabArithmetic, PoolingAllocationConfig, Tunables, Offered, has_room, settings_slab, settings_speak}
+use Rattle.std.proofs.Common.{◌≡◌, ℕ, ◌+◌, ◌-◌, ◌*◌, ◌^◌, zero, suc, ◌<◌, ◌≤◌, Bool, true, false, refl, sym, ◌∙◌, arith, Option, None, Some, min, nat_le, nat_lt, if◌then◌else◌}
+use Rattle.pool_alloc.proofs.Imports.{div_ceil, div_ceil_times, ltb-true, leb-true, both_true, rounded_up_above, rounded_up, first_too_great, is_batch_size, faulting_bytes, first_broken_rule, is_page_size, is_shard_count, keys_suffice, keys_used, may_stripe, may_use, or_else, rounds_up, slab_fits, slab_stripes, unless, BadConfig, PageSize, Shards, DecommitBatch, Reservation, KeysNotOffered, SlabArithmetic, PoolingAllocationConfig, Tunables, Offered, has_room, settings_slab, settings_speak}
 
 -- a factor of a number above 0 is above 0
 pub some_times : (n k m : ℕ) → 0 < n → n ≤ k * m → 0 < k

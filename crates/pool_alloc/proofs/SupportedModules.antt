@@ -4,7 +4,7 @@ use Rattle.pool_alloc.proofs.Imports.{ltb-false, told_both, minimum_byte_size, r
 use Rattle.pool_alloc.specs.Refusals.{first_refused, offset_refused, number_refused, memory_refused, tables_refused, long_table, size_refused, objects_refused, module_refused, type_refused}
 use Rattle.pool_alloc.specs.declared.frame.Asked.{Asked}
 use Rattle.pool_alloc.specs.declared.frame.Asked.TheVariants.{Module as module_asked}
-use Rattle.pool_alloc.specs.StepReads.{no_module, info_wanted, memories_wanted, images_wanted, tables_wanted, plain_decl, IsModule}
+use Rattle.pool_alloc.specs.StepReads.{info_wanted, memories_wanted, images_wanted, tables_wanted, plain_decl, IsModule}
 use Rattle.pool_alloc.specs.BetweenSteps.{IsSupported, AreSupported, IsTableSupported, AreTablesSupported, AreImagesOf}
 use Rattle.pool_alloc.specs.declared.pool_core.Settings.{Settings}
 

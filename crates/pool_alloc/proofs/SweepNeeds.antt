@@ -1,12 +1,11 @@
 -- What the code of a step of a purge needs, and of a release.
-use Rattle.std.proofs.Common.{◌≡◌, ℕ, ◌+◌, ◌*◌, ◌^◌, ◌<◌, ◌≤◌, Bool, true, false, length, refl, sym, subst, ap, ◌∙◌, arith, nat_lt}
-use Rattle.pool_alloc.proofs.Imports.{RegionNumbers, rounded_same, of_kind, AllByRecursion, ltb-true, and_parts, All-get_or, count, rounded_up, MakerTold, Slot, SlotIdentity, IsClean, IsRangeOf, SlotKind, memory_kind, table_kind, stack_kind, heap_kind, ShardState, Cell, IsCleanOnceUsed, is_taken, unmapped, unknown, previously_used, taken, cell_of, home_of, allocators_of, IsPlacedAllocator, each_weaker, ImageSlot, Unmapped, Unknown, PreviouslyUsed, Taken, Allocator, Plan, SlotName}
+use Rattle.std.proofs.Common.{◌≡◌, ℕ, ◌+◌, ◌<◌, ◌≤◌, false, length, sym, subst, ap, ◌∙◌, arith, nat_lt}
+use Rattle.pool_alloc.proofs.Imports.{RegionNumbers, rounded_same, of_kind, AllByRecursion, ltb-true, and_parts, All-get_or, rounded_up, MakerTold, Slot, SlotIdentity, SlotKind, memory_kind, table_kind, stack_kind, heap_kind, ShardState, Cell, IsCleanOnceUsed, is_taken, unmapped, unknown, previously_used, taken, cell_of, home_of, allocators_of, IsPlacedAllocator, each_weaker, ImageSlot, Unmapped, Unknown, PreviouslyUsed, Taken, Allocator, Plan, SlotName}
 use Rattle.pool_alloc.specs.CanStep.{CanPlace, CanTakeOf, CanPutOf, CanFreeOf, CanForget, CanDecommit, CanDrain, CanPurge, CanRelease}
-use Rattle.pool_alloc.specs.Freeing.{HasHome}
-use Rattle.pool_alloc.specs.Places.{right_to, region_of, phase_count}
+use Rattle.pool_alloc.specs.Places.{right_to, phase_count}
 use Rattle.pool_alloc.specs.Purges.{purged_stripe}
 use Rattle.pool_alloc.specs.Releases.{released_stripe, nth_taken}
-use Rattle.pool_alloc.specs.BetweenSteps.{IsCore, HasCells, IsPoolPlan, IsStripe, IsSettings, IsSlotName, IsFreedOf, IsPurging, IsReleasing, IsPoolSlot, MayHold, HasRegion, slots_left}
+use Rattle.pool_alloc.specs.BetweenSteps.{IsCore, IsPoolPlan, IsStripe, IsSettings, IsSlotName, IsFreedOf, IsPurging, IsReleasing, IsPoolSlot, MayHold, HasRegion}
 use Rattle.pool_alloc.specs.StepReads.{shard_at, cell_named}
 use Rattle.pool_alloc.specs.declared.frame.Frame.{Frame}
 use Rattle.pool_alloc.specs.declared.frame.FreedSlot.{FreedSlot}

@@ -1,6 +1,6 @@
 -- Regions of tables: as they are made, with a table in them, and back again.
 use Rattle.std.proofs.Common.{◌≡◌, ℕ, ◌+◌, ◌-◌, ◌*◌, ◌/◌, ◌%◌, ◌^◌, ◌<◌, ◌≤◌, Bool, true, false, List, length, get_or, replicate, slice_range, refl, sym, ap, ◌∙◌, subst, arith, min, Option, Some, None, IfSome, if◌then◌else◌, Result, Ok, Err, IfOk, slice_get, nat_lt, option_map}
-use Rattle.pool_alloc.proofs.Imports.{refused_limits, mul-le-mul_right, div-mul-le_self, ltb-false, get_or-replicate, told_weaker, rounded_same, range_within, same_at, IsPageSize, count, rounded_up, Contents, IsShaped, MakerTold, fresh, Told, TellsShaped, TableType, Slot, SlotIdentity, IsSlot, IsSound, IsReady, IsClean, IsFresh, Holds, HasColour, identity, size_of, fresh_keeps, fresh_clean, IsGood, good, followed, IsPlain, IsUnusedFrom, Queued, plain_slot, CanBeZeroed, Plan, RegionNumbers, width, element_size, empty, kind_of, room_of, IsRoom, type_maximum, greatest_of, greatest_index, TableView, fresh_room, made_inside, empty_by, made_is_table, zeros_from, above, IndexType, I32, I64, TableElementType, Func, GcRef, Cont, Unsupported, TableSize, data_size, LimiterError}
+use Rattle.pool_alloc.proofs.Imports.{refused_limits, mul-le-mul_right, div-mul-le_self, ltb-false, get_or-replicate, told_weaker, rounded_same, range_within, same_at, IsPageSize, count, rounded_up, Contents, IsShaped, MakerTold, fresh, Told, TellsShaped, TableType, Slot, SlotIdentity, IsSlot, IsClean, IsFresh, Holds, HasColour, identity, size_of, fresh_keeps, fresh_clean, IsGood, good, followed, IsPlain, IsUnusedFrom, Queued, plain_slot, CanBeZeroed, Plan, RegionNumbers, width, element_size, empty, kind_of, room_of, IsRoom, type_maximum, greatest_of, greatest_index, TableView, fresh_room, made_inside, empty_by, made_is_table, zeros_from, above, IndexType, I32, I64, TableElementType, Func, GcRef, Cont, Unsupported, TableSize, data_size, LimiterError}
 use Rattle.pool_slots.proofs.Layouts.{rounded_within}
 use Rattle.pool_slots.specs.declared.errors.AllocError.TheVariants as alloc
 use Rattle.pool_alloc.specs.declared.frame.TakenSlot.{TakenSlot}

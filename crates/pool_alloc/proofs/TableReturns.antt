@@ -1,6 +1,6 @@
 -- Slots on their way back: a table's as it is reset, and any as it goes back into its cell.
-use Rattle.std.proofs.Common.{◌≡◌, ℕ, ◌*◌, ◌-◌, ◌%◌, ◌≤◌, Bool, true, false, List, [], ◌∷◌, length, refl, ap, arith, replicate, min, Option, Some, None, nat_lt, if◌then◌else◌, IsSome, IfSome}
-use Rattle.pool_alloc.proofs.Imports.{rounded_is_whole, SlotKind, memory_kind, table_kind, stack_kind, heap_kind, MakerTold, Told, ByteRange, Slot, IsClean, identity, told_same, previously_used, unknown, is_taken, like_restored, pages_by_hand, plain_written, Queued, CanBeZeroed, LeavesClean, empty_queue, plain_slot, with_ranges, IsSoReset, used_is_reset, used_kept, used_left, used_reset, used_size, TellsMarks, leaves_clean, width}
+use Rattle.std.proofs.Common.{◌≡◌, ℕ, ◌*◌, ◌%◌, Bool, true, false, List, refl, ap, arith, replicate, min, Option, Some, None, if◌then◌else◌, IsSome, IfSome}
+use Rattle.pool_alloc.proofs.Imports.{rounded_is_whole, SlotKind, memory_kind, table_kind, stack_kind, heap_kind, MakerTold, Told, Slot, IsClean, identity, told_same, previously_used, unknown, is_taken, like_restored, pages_by_hand, plain_written, Queued, CanBeZeroed, LeavesClean, empty_queue, plain_slot, with_ranges, IsSoReset, used_is_reset, used_kept, used_left, used_reset, used_size, TellsMarks, leaves_clean, width}
 use Rattle.pool_slots.specs.declared.queued_range.QueueKind.TheVariants as queued
 use Rattle.pool_alloc.specs.BetweenSteps.{IsSettings, MayHold, MayQueue, MustBeByHand}
 use Rattle.pool_alloc.specs.PoolTables.{IsPoolTable}

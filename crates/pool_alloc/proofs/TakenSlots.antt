@@ -1,5 +1,5 @@
 -- Lists of slots that a release took, as the code goes through them.
-use Rattle.std.proofs.Common.{◌≡◌, ℕ, suc, ◌+◌, ◌<◌, ◌≤◌, Bool, List, length, sym, ap, ◌∙◌, arith, get_or, All, ◌-◌, subst, ◌==◌, drop, map, if◌then◌else◌}
+use Rattle.std.proofs.Common.{◌≡◌, ℕ, suc, ◌+◌, ◌<◌, ◌≤◌, List, length, sym, ap, ◌∙◌, arith, get_or, All, ◌-◌, subst, ◌==◌, drop, map, if◌then◌else◌}
 use Rattle.pool_alloc.proofs.Imports.{drop-cons, get_or-drop, length-drop, All-get_or, known_outside, ShardState, SlotId}
 use Rattle.pool_alloc.specs.Releases.{not_resident, slot_outside}
 use Rattle.pool_alloc.specs.declared.frame.FreedSlot.{FreedSlot}

@@ -23,7 +23,7 @@ use Rattle.pool_alloc.specs.Turns.{After}
 use Rattle.pool_alloc.specs.UnhinderedRequests.{right_in, slots_needed, is_for_room, asked_by, instances_needed, components_needed, slots_live, LeavesEnough, HasAllItNeeds, IsForGrant}
 use Rattle.pool_alloc.specs.UninterruptedCalls.{IsStep, AreSteps, IsAsking}
 use Rattle.pool_alloc.specs.declared.frame.Asked.{Asked}
-use Rattle.pool_alloc.specs.declared.frame.Asked.TheVariants.{Nothing as nothing_asked, Module as module_asked, Memory as memory_asked, Table as table_asked, Stack as stack_asked, Heap as heap_asked}
+use Rattle.pool_alloc.specs.declared.frame.Asked.TheVariants.{Nothing as nothing_asked, Module as module_asked, Memory as memory_asked, Table as table_asked, Stack as stack_asked, Heap as heap_asked, HeapOver as heap_over_asked}
 use Rattle.pool_alloc.specs.declared.frame.Call.{Call}
 use Rattle.pool_alloc.specs.declared.frame.Call.TheVariants as call
 use Rattle.pool_alloc.specs.declared.frame.Frame.{Frame}
@@ -128,6 +128,7 @@ module _ {P : Type 0} (o : InstanceLease P) where
   fewer (table_asked ty) more = later (table_asked ty) refl (λ past. omega (arith, more, past))
   fewer stack_asked more = omega arith
   fewer (heap_asked ty) more = later (heap_asked ty) refl (λ past. omega arith)
+  fewer (heap_over_asked memory) more = later (heap_over_asked memory) refl (λ past. omega arith)
 
 module _ {P H : Type 0} (maker : MakerTold) (live : List (Grant P H)) where
   -- All that the pool has given out is in a queue, with the call or in a live grant.
@@ -230,7 +231,7 @@ module _ {P H : Type 0} (maker : MakerTold) (live : List (Grant P H)) (first : P
       raises untested e at asked one fails = untested_room (module_refused c.settings c.plan.totals.table (info_wanted f.asked)) e fails
       raises uncounted e at asked one fails = absurd (counts at one fails.1)
       raises seeks_stack e at asked one fails = elim fails [ inl none ↦ ap is_for_room none.0 | inr none ↦ absurd (finds 0 e asked none) ]
-      raises tests_heap e at asked one fails = elim fails [ inl none ↦ ap is_for_room none.1 | inr fails ↦ untested_room (heap_refused c.settings f.asked) e fails.1 ]
+      raises tests_heap e at asked one fails = elim fails [ inl none ↦ ap is_for_room none.1 | inr fails ↦ untested_room (heap_refused c.settings f.asked) e fails.2 ]
       raises (seeks_heap n) e at asked one fails =
           elim fails [
             | inl none ↦ absurd (finds n e asked none)
@@ -277,6 +278,7 @@ module _ {P H : Type 0} (maker : MakerTold) (live : List (Grant P H)) (first : P
       goes (asking p) no_call asked (Some (answer.Granted (grant.Stack lease))) at is same way = granted_ends no_call asked _ refl (λ e is. absurd cc)
       goes (asking p) no_call asked (Some (answer.Granted (grant.Instance lease))) at is same way = granted_ends no_call asked _ refl (λ e is. absurd cc)
       goes (asking counts_heap) no_call asked (Some (answer.Granted (grant.Heap lease memory))) at is same way = granted_ends no_call asked _ refl (λ e is. absurd cc)
+      goes (asking counts_heap) no_call asked (Some (answer.Granted (grant.HeapOver lease))) at is same way = granted_ends no_call asked _ refl (λ e is. absurd cc)
       goes (asking untested) no_call asked (Some (answer.Refused e)) at is same way = refused_ends no_call asked e (raises untested e at is.0 is.1 way)
       goes (asking seeks_stack) no_call asked (Some (answer.Refused e)) at is same way = refused_ends no_call asked e (raises seeks_stack e at is.0 is.1 way)
       goes (asking tests_heap) no_call asked (Some (answer.Refused e)) at is same way = refused_ends no_call asked e (raises tests_heap e at is.0 is.1 way)
@@ -342,6 +344,7 @@ module _ {P H : Type 0} where
   begun_stage (call.Table ty) f is = (refl, tt)
   begun_stage call.Stack f is = (refl, tt)
   begun_stage (call.Heap ty) f is = (refl, tt)
+  begun_stage (call.HeapOver memory) f is = (refl, tt)
   begun_stage _ f is = absurd is
 
   begun_busy : (request : Call P H) (f : Frame P H) → IsForGrant request → is_idle (begun_call request f).phase ≡ false
@@ -351,6 +354,7 @@ module _ {P H : Type 0} where
   begun_busy (call.Table ty) f is = refl
   begun_busy call.Stack f is = refl
   begun_busy (call.Heap ty) f is = refl
+  begun_busy (call.HeapOver memory) f is = refl
   begun_busy _ f is = absurd is
 
   begun_searched : (request : Call P H) (c : PoolCore P H) (f : Frame P H) → IsForGrant request → IsSearched c (begun_call request f)
@@ -360,6 +364,7 @@ module _ {P H : Type 0} where
   begun_searched (call.Table ty) c f is = (λ j below. absurd (omega (arith, below)), λ j below. absurd (omega (arith, below)))
   begun_searched call.Stack c f is = tt
   begun_searched (call.Heap ty) c f is = tt
+  begun_searched (call.HeapOver memory) c f is = tt
   begun_searched _ c f is = absurd is
 
   -- So it begins.

@@ -3,7 +3,7 @@
 use Rattle.std.proofs.Common.{◌≡◌, ℕ, ◌+◌, ◌≤◌, true, List, [], ◌∷◌, length, Option, Some, refl, sym, subst, arith, ◌<◌, sum_by}
 use Rattle.pool_alloc.proofs.Imports.{sum_by-cons, MakerTold, total, SlotKind, total_append, used_units, shard_units, ShardState, is_used, pick_answer, after_pick, MemoryInModule, SlotId, all_kept, part_kept, PoolPart, Plan, SlotName, home_of, of_kind}
 use Rattle.pool_slots.specs.declared.part.PoolPart.TheVariants as part
-use Rattle.pool_alloc.specs.BetweenSteps.{IsCore, IsSlotName}
+use Rattle.pool_alloc.specs.BetweenSteps.{IsCore}
 use Rattle.pool_alloc.specs.Places.{Thing, right_to, queued_count, kept_count, away_count, slot_count}
 use Rattle.pool_alloc.specs.StepReads.{shard_at, queue_in, with_shard}
 use Rattle.pool_alloc.specs.declared.pool_core.PoolCore.{PoolCore}

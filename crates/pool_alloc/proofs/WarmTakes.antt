@@ -1,6 +1,6 @@
 -- All warm slots of a shard are taken: they are used then, and are those of the pool.
-use Rattle.std.proofs.Common.{◌≡◌, ℕ, zero, suc, ◌+◌, ◌*◌, ◌^◌, ◌<◌, ◌≤◌, List, [], ◌∷◌, length, refl, sym, ap, subst, ◌∙◌, arith, Option, Some, None, All, map, slice_set, is_some}
-use Rattle.pool_alloc.proofs.Imports.{of_kind, length-map, length-set, All-nil, All-cons, All-head, All-tail, MakerTold, total, pick_unit, SlotKind, memory_kind, known_outside, taken_outside, with_bytes, use_again, used_units, shard_units, ShardState, IsShard, IsSameShard, slot_number, after_take_warm, taken_slots, MemoryInModule, WarmSlot, Free, all_free, free_after, after_take_sound, SlotName}
+use Rattle.std.proofs.Common.{◌≡◌, ℕ, zero, ◌+◌, ◌*◌, ◌^◌, ◌<◌, ◌≤◌, List, [], ◌∷◌, length, refl, sym, ap, subst, ◌∙◌, arith, Option, Some, All, map, slice_set, is_some}
+use Rattle.pool_alloc.proofs.Imports.{of_kind, length-map, length-set, All-nil, All-cons, All-head, All-tail, MakerTold, total, pick_unit, SlotKind, memory_kind, known_outside, taken_outside, with_bytes, use_again, used_units, shard_units, ShardState, IsShard, IsSameShard, slot_number, after_take_warm, taken_slots, MemoryInModule, WarmSlot, Free, all_free, free_after, after_take_sound}
 use Rattle.pool_alloc.specs.BetweenSteps.{IsCore, IsFreedOf, IsSlotName}
 use Rattle.pool_alloc.specs.Leases.{memory_slot}
 use Rattle.pool_alloc.specs.Places.{Thing, slot_count, freed_count}

@@ -8,7 +8,7 @@ use Rattle.pool_alloc.specs.Turns.{After}
 use Rattle.pool_alloc.specs.PoolAndHolders.{IsPartitioned, held_by_grant}
 use Rattle.pool_alloc.specs.declared.frame.Frame.{Frame}
 use Rattle.pool_alloc.specs.declared.frame.Grant.{Grant}
-use Rattle.pool_alloc.specs.declared.frame.Grant.TheVariants.{Instance, Memory, Table, Stack, Heap, Component}
+use Rattle.pool_alloc.specs.declared.frame.Grant.TheVariants.{Instance, Memory, Table, Stack, Heap, HeapOver, Component}
 use Rattle.pool_alloc.specs.declared.frame.Outcome.{Outcome}
 use Rattle.pool_alloc.specs.declared.frame.Outcome.TheVariants as answer
 use Rattle.pool_alloc.specs.declared.frame.Phase.{Phase}
@@ -55,8 +55,10 @@ module _ {P H : Type 0} where
 
   none_in_phase : (p : Phase P H) → phase_counted (λ k. 0) p ≡ 0
   none_in_phase (UncountObject object) = refl
-  none_in_phase (UncountHeap lease memory) = refl
-  none_in_phase (PutHeap lease memory) = refl
+  none_in_phase (UncountHeap lease (Some memory)) = refl
+  none_in_phase (UncountHeap lease None) = refl
+  none_in_phase (PutHeap lease (Some memory)) = refl
+  none_in_phase (PutHeap lease None) = refl
   none_in_phase (FreeHeap name memory) = refl
   none_in_phase UncountComponent = refl
   none_in_phase p = refl
@@ -75,6 +77,7 @@ module _ {P H : Type 0} where
   grant_units t (Table lease) = omega arith
   grant_units t (Stack lease) = omega arith
   grant_units t (Heap lease memory) = omega arith
+  grant_units t (HeapOver lease) = omega arith
 
   pub granted_units : (t : Thing) (o : Option (Outcome P H)) → count_granted (grant_weight (of_units t)) o ≡ count_granted (grant_count t) o
   granted_units t (Some (answer.Granted grant)) = grant_units t grant
@@ -92,6 +95,10 @@ module _ {P H : Type 0} where
   no_units : (p : Phase P H) → phase_count (λ u. 0) p ≡ 0
   no_units (Purge p step) = no_purge step
   no_units (Release step) = no_release step
+  no_units (UncountHeap lease (Some memory)) = refl
+  no_units (UncountHeap lease None) = refl
+  no_units (PutHeap lease (Some memory)) = refl
+  no_units (PutHeap lease None) = refl
   no_units p = refl
 
   -- what is counted alone
@@ -105,6 +112,7 @@ module _ {P H : Type 0} where
   grant_counts n (Table lease) = omega arith
   grant_counts n (Stack lease) = omega arith
   grant_counts n (Heap lease memory) = omega arith
+  grant_counts n (HeapOver lease) = omega arith
 
   -- the counters count the live grants
   pub counted_grants : (c : PoolCore P H) (grants : List (Grant P H)) → IsPartitioned held_by_grant c grants → (n : Counts) → counters_counted n c.counters ≡ sum_by (grant_counted n) grants

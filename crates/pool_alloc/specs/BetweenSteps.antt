@@ -7,8 +7,8 @@ use Rattle.pool_alloc.specs.declared.frame.Object.TheVariants.{Memory, Table, St
 use Rattle.pool_alloc.specs.declared.leases.instance.InstanceLease.{InstanceLease}
 use Rattle.pool_slots.specs.declared.part.PoolPart.TheVariants as part
 use Rattle.pool_alloc.specs.Reserved.{Reserved}
-use Rattle.pool_alloc.specs.HeapLeases.{IsHeapLease, heap_numbers}
-use Rattle.pool_alloc.specs.Leases.{Lease, IsUsable, first_index}
+use Rattle.pool_alloc.specs.HeapLeases.{IsHeapLease, heap_numbers, memory_under}
+use Rattle.pool_alloc.specs.Leases.{Lease, IsUsable}
 use Rattle.pool_alloc.specs.PoolStacks.{IsInStackCell, IsNewStack, IsQueuedStack, IsStackLease}
 use Rattle.pool_alloc.specs.PoolTables.{IsPoolTable, IsInTableCell, IsTableRegion, IsTableLease, IsBegunTable}
 use Rattle.pool_alloc.specs.Modules.{HasImages, IfAllocated, IfTable}
@@ -22,7 +22,7 @@ use Rattle.pool_alloc.specs.declared.frame.Ending.{Ending}
 use Rattle.pool_alloc.specs.declared.frame.Ending.TheVariants.{Granted as granted, Returned as returned, Refused as refused}
 use Rattle.pool_alloc.specs.declared.frame.Frame.{Frame}
 use Rattle.pool_alloc.specs.declared.frame.Asked.{Asked}
-use Rattle.pool_alloc.specs.declared.frame.Asked.TheVariants.{Stack as stack_asked, Heap as heap_asked}
+use Rattle.pool_alloc.specs.declared.frame.Asked.TheVariants.{Stack as stack_asked, Heap as heap_asked, HeapOver as heap_over_asked}
 use Rattle.pool_alloc.specs.declared.frame.FreedSlot.{FreedSlot}
 use Rattle.pool_alloc.specs.declared.frame.Phase.{Phase}
 use Rattle.pool_alloc.specs.declared.frame.Phase.TheVariants.{Idle, Key, Validate, TestStack, TestHeap, CountInstance, Pick, TakeQueue, TakeRegion, Empty, Instantiate, MakeMemory, MakeTable, CountObject, TakeHeap, MakeHeap, CountHeap, PutNoHeap, PutBack, FreeOne, UncountObject, UncountHeap, PutHeap, FreeHeap, Reset, Merge, Flush, UncountInstance, ValidateComponent, CountComponent, UncountComponent, Purge, Release}
@@ -311,6 +311,7 @@ AreBegun s asked lease =
 abbrev pub IsEnabled : Settings → Asked → Type 0
 IsEnabled s stack_asked = 0 < s.stack_size
 IsEnabled s (heap_asked ty) = s.tunables.tunables.collector ≡ true
+IsEnabled s (heap_over_asked memory) = s.tunables.tunables.collector ≡ true
 IsEnabled s _ = Unit {0}
 
 -- A call that is to be granted what it asks for: its module, its memory, or the heap's memory is supported; of a table by
@@ -436,7 +437,7 @@ module _ {P H : Type 0} where
   abbrev pub IsStackNext : Frame P H → Type 0
   IsStackNext f = f.asked ≡ stack_asked
 
-  -- A heap is next: its memory is there.
+  -- A heap is next: its memory is there, if one is allocated for it.
   abbrev pub IsHeapNext : Frame P H → Type 0
   IsHeapNext f = (length (memories_wanted f.asked) ≤ length f.objects.memories.items) × (heaps_wanted f.asked ≡ 1)
 
@@ -460,9 +461,9 @@ module _ {P H : Type 0} where
   abbrev pub IsHeapRequested : Frame P H → Type 0
   IsHeapRequested f = (f.ending ≡ granted) × (f.queues ≡ 0) × IsHeapAsked f.asked
 
-  -- the slot of a heap is out of the list of heaps, and notes the memory that was granted for it
-  abbrev pub NotesFirst : RegionNumbers → Frame P H → Type 0
-  NotesFirst numbers f = numbers ≡ heap_numbers (first_index f.objects.memories.items)
+  -- the slot of a heap is out of the list of heaps, and notes the memory that the heap is over
+  abbrev pub NotesMemory : RegionNumbers → Frame P H → Type 0
+  NotesMemory numbers f = numbers ≡ heap_numbers (memory_under f.asked f.objects.memories.items)
 
   -- What a frame has in each phase.
   abbrev pub IsShapedAt : MakerTold → Settings → Plan → Phase P H → Frame P H → Type 0
@@ -483,14 +484,14 @@ module _ {P H : Type 0} where
   IsShapedAt maker s plan (CountObject (Table lease)) f = HasNoneWaiting f × IsAllocating s plan f × IsTableLease maker s plan lease × IfTable f (IsBegunTable s lease) × IsTableNext f
   IsShapedAt maker s plan (CountObject (Stack lease)) f = HasNoneWaiting f × IsAllocating s plan f × IsStackLease maker s plan lease × IsNewStack s lease × IsStackNext f
   IsShapedAt maker s plan (TakeHeap name) f = HasNoneWaiting f × IsAllocating s plan f × IsHeapName plan name × IsHeapNext f
-  IsShapedAt maker s plan (MakeHeap at) f = HasNoneWaiting f × IsAllocating s plan f × IsHeapName plan at.name × NotesFirst at.numbers f × IsHeapNext f
-  IsShapedAt maker s plan (CountHeap lease) f = HasNoneWaiting f × IsAllocating s plan f × IsHeapLease plan lease × NotesFirst lease.numbers f × IsHeapNext f
+  IsShapedAt maker s plan (MakeHeap at) f = HasNoneWaiting f × IsAllocating s plan f × IsHeapName plan at.name × NotesMemory at.numbers f × IsHeapNext f
+  IsShapedAt maker s plan (CountHeap lease) f = HasNoneWaiting f × IsAllocating s plan f × IsHeapLease plan lease × NotesMemory lease.numbers f × IsHeapNext f
   IsShapedAt maker s plan (PutNoHeap at) f = HasNoneWaiting f × IsReturning f × IsHeapName plan at.name
   IsShapedAt maker s plan (PutBack at held) f = HasNoneWaiting f × IsReturning f × HasRegion maker s plan at.name (cell_of held)
   IsShapedAt maker s plan (FreeOne name) f = HasNoneWaiting f × IsReturning f × (name.slot < of_kind name.kind plan.totals)
   IsShapedAt maker s plan (UncountObject object) f = HasNoneWaiting f × IsReturning f × IsObjectOf maker s plan object
-  IsShapedAt maker s plan (UncountHeap lease memory) f = HasNoneWaiting f × IsReturning f × IsHeapLease plan lease × IsLeaseOf maker s plan memory
-  IsShapedAt maker s plan (PutHeap lease memory) f = HasNoneWaiting f × IsReturning f × IsHeapLease plan lease × IsLeaseOf maker s plan memory
+  IsShapedAt maker s plan (UncountHeap lease memory) f = HasNoneWaiting f × IsReturning f × IsHeapLease plan lease × IfSome memory (IsLeaseOf maker s plan)
+  IsShapedAt maker s plan (PutHeap lease memory) f = HasNoneWaiting f × IsReturning f × IsHeapLease plan lease × IfSome memory (IsLeaseOf maker s plan)
   IsShapedAt maker s plan (FreeHeap name memory) f = HasNoneWaiting f × IsReturning f × IsHeapName plan name × IsLeaseOf maker s plan memory
   IsShapedAt maker s plan (Reset object) f = HasNoneWaiting f × IsReturning f × IsObjectOf maker s plan object
   IsShapedAt maker s plan Merge f = IsReturning f × (f.freed.items ≡ []) × (length f.local.slots ≡ 1) × (0 < length f.local.ranges) × (length f.local.ranges + 1 ≤ s.batch) × All IsGivenBack f.local.slots

@@ -16,15 +16,15 @@ use Rattle.pool_alloc.specs.Refusals.{module_refused, heap_refused, component_re
 use Rattle.pool_alloc.specs.StepTable.{no_instance_left, no_component_left}
 use Rattle.pool_alloc.specs.Searches.{IsSearched}
 use Rattle.pool_alloc.specs.BetweenSteps.{AreSupported, AreTablesSupported, IsAllocating, IsMemoryNext, IsTableNext, IsHeapNext, HasSlot}
-use Rattle.pool_alloc.specs.StepReads.{info_wanted, memories_wanted, images_wanted, tables_wanted, allocator_for, slot_next}
+use Rattle.pool_alloc.specs.StepReads.{HasMemories, info_wanted, memories_wanted, images_wanted, tables_wanted, allocator_for, slot_next}
 use Rattle.pool_alloc.specs.Stepping.{is_idle}
 use Rattle.pool_alloc.specs.Turns.{After, no_slot_left}
 use Rattle.pool_alloc.specs.declared.pool_core.PoolCore.{PoolCore}
 use Rattle.pool_alloc.specs.declared.frame.Ending.{Ending}
 use Rattle.pool_alloc.specs.declared.frame.Ending.TheVariants.{Granted as granted, Returned as returned, Refused as refused}
 use Rattle.pool_alloc.specs.declared.frame.Asked.{Asked}
-use Rattle.pool_alloc.specs.declared.frame.Asked.TheVariants.{Memory as memory_asked, Table as table_asked, Stack as stack_asked, Heap as heap_asked}
-use Rattle.pool_alloc.specs.declared.frame.Grant.TheVariants.{Instance, Memory, Table, Stack, Heap, Component}
+use Rattle.pool_alloc.specs.declared.frame.Asked.TheVariants.{Memory as memory_asked, Table as table_asked, Stack as stack_asked, Heap as heap_asked, HeapOver as heap_over_asked}
+use Rattle.pool_alloc.specs.declared.frame.Grant.TheVariants.{Instance, Memory, Table, Stack, Heap, HeapOver, Component}
 use Rattle.pool_alloc.specs.declared.frame.Frame.{Frame}
 use Rattle.pool_alloc.specs.declared.frame.Outcome.{Outcome}
 use Rattle.pool_alloc.specs.declared.frame.Outcome.TheVariants as answer
@@ -34,8 +34,8 @@ use Rattle.pool_alloc.specs.declared.release.ReleaseStep.{ReleaseStep}
 use Rattle.pool_alloc.specs.declared.release.ReleaseStep.TheVariants.{Reserve}
 
 -- how far a request is: its module isn't tested yet; its instance isn't counted yet; it is, and so many of its objects
--- are made; it is for a memory or a table by itself, which is made or isn't; it is for a stack; or it is for a heap, and isn't tested yet, or so many of its two objects are made, of which the memory
--- is the first, or the heap is in hand, which is counted next
+-- are made; it is for a memory or a table by itself, which is made or isn't; it is for a stack; or it is for a heap, and isn't tested yet, or so many of its objects are made, of which the memory is the
+-- first, if it is for one, or the heap is in hand, which is counted next
 pub data Progress : Type 0 where
   untested : Progress
   uncounted : Progress
@@ -72,6 +72,7 @@ progress_by (memory_asked m) made = seeks_single made
 progress_by (table_asked ty) made = seeks_single made
 progress_by stack_asked made = seeks_stack
 progress_by (heap_asked ty) made = seeks_heap made
+progress_by (heap_over_asked memory) made = seeks_heap made
 progress_by _ made = admitted made
 
 -- The stage of a call that is under way with its objects, by its ending.
@@ -183,12 +184,12 @@ module _ {P H : Type 0} where
   abbrev pub HasHeap : PartyTold → PartyTold → PoolCore P H → Frame P H → ℕ → Type 0
   HasHeap old new c f n = SeeksHeap c f n × ((new.heaps ≡ old.heaps) ⊎ ((heap : H) × MakesHeap (Ok heap) old.heaps new.heaps))
 
-  -- Why the test of a heap isn't passed: there is no collector, its memory breaks a rule, or there was no memory for
-  -- the list.
+  -- Why the test of a heap isn't passed: there is no collector; or where a memory is allocated for it, that breaks a rule, or there
+  -- was no memory for the list.
   abbrev pub IsHeapUntested : PoolCore P H → Frame P H → AllocError → Type 0
   IsHeapUntested c f e =
       ((c.settings.tunables.tunables.collector ≡ false) × (e ≡ refusal.HeapsDisabled))
-      ⊎ ((c.settings.tunables.tunables.collector ≡ true) × IsUntested (heap_refused c.settings f.asked) e)
+      ⊎ ((c.settings.tunables.tunables.collector ≡ true) × HasMemories f.asked × IsUntested (heap_refused c.settings f.asked) e)
 
   -- A heap may be asked for: there is a collector, and the type of its memory breaks no rule.
   pub record IsHeapTested (c : PoolCore P H) (f : Frame P H) : Type 0 where
@@ -232,6 +233,7 @@ module _ {P H : Type 0} where
   Goes maker old new c f (asks p) no_call (Some (answer.Granted (Stack lease))) = Follows old new c f p seeks_stack × (0 < c.settings.stack_size)
   Goes maker old new c f (asks p) no_call (Some (answer.Granted (Instance lease))) = Follows old new c f p (admitted (objects_wanted f.asked)) × AreSupported c.settings (memories_wanted f.asked) (images_wanted f.asked) × AreTablesSupported c.settings c.plan.totals.table (tables_wanted f.asked)
   Goes maker old new c f (asks counts_heap) no_call (Some (answer.Granted (Heap lease memory))) = (c.settings.tunables.tunables.collector ≡ true) × AreSupported c.settings (memories_wanted f.asked) (images_wanted f.asked)
+  Goes maker old new c f (asks counts_heap) no_call (Some (answer.Granted (HeapOver lease))) = c.settings.tunables.tunables.collector ≡ true
   Goes maker old new c f (asks untested) no_call (Some (answer.Refused e)) = Raises maker old new c f untested e
   Goes maker old new c f (asks seeks_stack) no_call (Some (answer.Refused e)) = Raises maker old new c f seeks_stack e
   Goes maker old new c f (asks tests_heap) no_call (Some (answer.Refused e)) = Raises maker old new c f tests_heap e

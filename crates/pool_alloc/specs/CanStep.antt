@@ -1,6 +1,6 @@
 -- Just what the code of each step needs of the pool's parts and of the frame.
 use Rattle.std.specs.Prelude.{◌≡◌, ℕ, ◌+◌, ◌^◌, ◌<◌, ◌≤◌, ◌%◌, List, [], length, slice_get, All, false, Option, None, IsSome, IfSome, true, Some}
-use Rattle.pool_alloc.specs.Imports.{count, rounded_up, Told, minimum_byte_size, refused_limits, MemoryDecl, Image, Slot, IsClean, IsFresh, FitsInto, IsRangeOf, ShardState, use_of, memory_kind, stack_kind, slot_of, CanHold, is_taken, unmapped, IsCleanOnceUsed, stripe_colour, CellState, IsAwaited, plain_slot, Queue, Queued, first_of_kind, HasOwners, IsSpareOf, Plan, cell_of, cell_place, home_of, IsPlacedAllocator, SlotName, TableType, room_of, IsRoom, type_maximum, Allocator, SlotKind, CanMerge, IsAt, IsShardPart, IsCellPart, IsHere, IsOut, IsPlain, ImageSlot, Unmapped, Unknown, PreviouslyUsed, Taken}
+use Rattle.pool_alloc.specs.Imports.{count, rounded_up, Told, minimum_byte_size, refused_limits, MemoryDecl, Image, Slot, IsClean, IsFresh, FitsInto, IsRangeOf, ShardState, use_of, memory_kind, stack_kind, slot_of, CanHold, is_taken, unmapped, IsCleanOnceUsed, stripe_colour, CellState, IsAwaited, plain_slot, Queue, Queued, first_of_kind, HasOwners, IsSpareOf, Plan, cell_of, cell_place, home_of, IsPlacedAllocator, SlotName, TableType, room_of, IsRoom, type_maximum, Allocator, CanMerge, IsAt, IsShardPart, IsCellPart, IsHere, IsOut, IsPlain, ImageSlot, Unknown, PreviouslyUsed}
 use Rattle.pool_alloc.specs.Freeing.{AreUsedInTurn, HasHome, CanBeFreed}
 use Rattle.pool_alloc.specs.TableLeases.{LeasedTable, table_slot}
 use Rattle.pool_alloc.specs.TableSteps.{IsInRegion, CanQueue, table_bytes}
@@ -16,7 +16,7 @@ use Rattle.pool_alloc.specs.declared.frame.Object.{Object}
 use Rattle.pool_alloc.specs.declared.frame.Object.TheVariants.{Memory, Table, Stack}
 use Rattle.pool_alloc.specs.StackLeases.{LeasedStack, stack_slot}
 use Rattle.pool_alloc.specs.declared.frame.Asked.{Asked}
-use Rattle.pool_alloc.specs.declared.frame.Asked.TheVariants.{Memory as memory_asked, Table as table_asked}
+use Rattle.pool_alloc.specs.declared.frame.Asked.TheVariants.{Memory as memory_asked, Table as table_asked, HeapOver as heap_over_asked}
 use Rattle.pool_alloc.specs.declared.leases.instance.InstanceLease.{InstanceLease}
 use Rattle.pool_alloc.specs.declared.frame.Phase.{Phase}
 use Rattle.pool_alloc.specs.declared.frame.Phase.TheVariants.{Idle, Key, Validate, TestStack, TestHeap, CountInstance, Pick, TakeQueue, TakeRegion, Empty, Instantiate, MakeMemory, MakeTable, CountObject, TakeHeap, MakeHeap, CountHeap, PutNoHeap, PutBack, FreeOne, UncountObject, UncountHeap, PutHeap, FreeHeap, Reset, Merge, Flush, UncountInstance, ValidateComponent, CountComponent, UncountComponent, Purge, Release}
@@ -106,6 +106,11 @@ CanKeepMemory _ objects = length objects.memories.items < objects.memories.room
 abbrev pub CanKeepTable : {P : Type 0} → Asked → InstanceLease P → Type 0
 CanKeepTable (table_asked ty) objects = Unit {0}
 CanKeepTable _ objects = length objects.tables.items < objects.tables.room
+
+-- The memory of the heap was granted. A heap over one that there is needs none.
+abbrev pub CanTakeMemory : {P : Type 0} → Asked → InstanceLease P → Type 0
+CanTakeMemory (heap_over_asked memory) objects = Unit {0}
+CanTakeMemory _ objects = 0 < length objects.memories.items
 
 -- the region has room for the table
 pub record CanMakeTable (s : Settings) (region : Told) (ty : TableType) : Type 0 where
@@ -275,7 +280,7 @@ module _ {P H : Type 0} where
   CanStepAt (PutBack at held) c f = CanPutOf at.name held c
   CanStepAt (TakeHeap name) c f = CanTakeHeapOf name.slot c
   CanStepAt (MakeHeap at) c f = Unit {0}
-  CanStepAt (CountHeap lease) c f = (c.counters.gc_heaps + 1 < 2 ^ 64) × (0 < length f.objects.memories.items)
+  CanStepAt (CountHeap lease) c f = (c.counters.gc_heaps + 1 < 2 ^ 64) × CanTakeMemory f.asked f.objects
   CanStepAt (PutNoHeap at) c f = CanPutHeapOf at.name.slot c
   CanStepAt (FreeOne name) c f = IsAt IsShardPart (home_of c.plan name).place c.parts × CanFreeOne name c.plan (shard_at (home_of c.plan name).place c)
   CanStepAt (UncountObject (Memory lease)) c f = 0 < c.counters.memories

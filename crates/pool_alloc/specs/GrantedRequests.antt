@@ -41,6 +41,7 @@ module _ {P H : Type 0} where
   BreaksNoRule c (call.Component info) = component_refused c.settings info ≡ None
   BreaksNoRule c call.Stack = 0 < c.settings.stack_size
   BreaksNoRule c (call.Heap ty) = (c.settings.tunables.tunables.collector ≡ true) × (type_refused c.settings ty ≡ None)
+  BreaksNoRule c (call.HeapOver memory) = c.settings.tunables.tunables.collector ≡ true
   BreaksNoRule c _ = Unit {0}
 
   -- Nothing that the step asks for fails: no call on the pages of the slot that it begins, nor the making of a heap, but for want of

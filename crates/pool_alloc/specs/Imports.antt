@@ -53,6 +53,7 @@ pub use Rattle.pool_slots.specs.SlotOrders.{AreInOrder, run_of}
 pub use Rattle.pool_slots.specs.SlotQueues.{HasOwners, IsFaulted, IsGivenBack, IsQueue, IsSpareOf, LeavesClean, Queue, Queued, after_append, after_run, after_take, calls_held, drained, empty_queue, first_of_kind, first_slot, first_zeroed, holds, is_of, is_to_zero, others_of_kind, owner, plain_slot, same_kind, taken_into, with_ranges, with_slot}
 pub use Rattle.pool_slots.specs.StripedPlans.{IsStripedPlanOf, divided}
 pub use Rattle.pool_slots.specs.TableSizes.{data_size}
+pub use Rattle.pool_slots.specs.declared.allocation_index.MemoryAllocationIndex.{MemoryAllocationIndex}
 pub use Rattle.pool_slots.specs.declared.cells.ImageSlot.{ImageSlot}
 pub use Rattle.pool_slots.specs.declared.cells.ImageSlot.TheVariants.{PreviouslyUsed, Taken, Unknown, Unmapped}
 pub use Rattle.pool_slots.specs.declared.errors.AllocError.{AllocError}

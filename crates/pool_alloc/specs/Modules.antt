@@ -1,5 +1,5 @@
 -- The module of which an instance is asked for.
-use Rattle.std.specs.Prelude.{◌≡◌, length, slice_get, Option, IfSome}
+use Rattle.std.specs.Prelude.{◌≡◌, length, slice_get, IfSome}
 use Rattle.pool_alloc.specs.Imports.{MemoryDecl, TableType}
 use Rattle.pool_alloc.specs.StepReads.{memories_wanted, tables_wanted}
 use Rattle.pool_alloc.specs.declared.frame.Frame.{Frame}

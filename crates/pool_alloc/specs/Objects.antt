@@ -1,5 +1,5 @@
 -- What is allocated for a request: its objects, one after the other.
-use Rattle.std.specs.Prelude.{ℕ, ◌+◌, length, Option}
+use Rattle.std.specs.Prelude.{ℕ, ◌+◌, length}
 use Rattle.pool_alloc.specs.declared.frame.Asked.{Asked}
 use Rattle.pool_alloc.specs.Leases.{slot_taken}
 use Rattle.pool_alloc.specs.Reserved.{no_room}

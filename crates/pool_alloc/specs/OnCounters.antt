@@ -1,15 +1,17 @@
 -- The steps that count, on the number at the counter alone: what each needs, and its row. The step table has the same rows on
 -- the whole pool. So whoever finds the number makes the step.
-use Rattle.std.specs.Prelude.{ℕ, ◌+◌, ◌-◌, ◌%◌, ◌^◌, ◌<◌, List, [], ◌∷◌, length, Bool, true, false, nat_lt}
+use Rattle.std.specs.Prelude.{ℕ, ◌+◌, ◌-◌, ◌%◌, ◌^◌, ◌<◌, List, [], ◌∷◌, length, Bool, true, false, nat_lt, Option}
 use Rattle.pool_alloc.specs.Imports.{Plan}
-use Rattle.pool_alloc.specs.CanStep.{CanKeepMemory, CanKeepTable}
+use Rattle.pool_alloc.specs.CanStep.{CanKeepMemory, CanKeepTable, CanTakeMemory}
 use Rattle.pool_alloc.specs.HeapLeases.{LeasedHeap}
 use Rattle.pool_alloc.specs.Leases.{Lease}
 use Rattle.pool_alloc.specs.Objects.{no_objects}
 use Rattle.pool_alloc.specs.StepTable.{no_instance_left, no_component_left, memory_kept, memory_turn, table_kept, table_turn}
 use Rattle.pool_alloc.specs.Turns.{Row, goes, ends, next, stays, failing, answer_of}
+use Rattle.pool_alloc.specs.declared.frame.Asked.{Asked}
+use Rattle.pool_alloc.specs.declared.frame.Asked.TheVariants.{HeapOver as heap_over_asked}
 use Rattle.pool_alloc.specs.declared.frame.Frame.{Frame}
-use Rattle.pool_alloc.specs.declared.frame.Grant.TheVariants.{Component, Stack as stack_granted, Heap as heap_granted}
+use Rattle.pool_alloc.specs.declared.frame.Grant.TheVariants.{Component, Stack as stack_granted, Heap as heap_granted, HeapOver as heap_over_granted}
 use Rattle.pool_alloc.specs.declared.frame.Object.{Object}
 use Rattle.pool_alloc.specs.declared.frame.Object.TheVariants.{Memory, Table, Stack}
 use Rattle.pool_alloc.specs.declared.frame.Outcome.TheVariants as answer
@@ -29,7 +31,7 @@ module _ {P H : Type 0} where
   CanStepCounted plan Key f = (0 < length plan.memories) × (length plan.memories < 2 ^ 32)
   CanStepCounted plan CountInstance f = Unit {0}
   CanStepCounted plan (CountObject object) f = CanCountObject object f
-  CanStepCounted plan (CountHeap lease) f = 0 < length f.objects.memories.items
+  CanStepCounted plan (CountHeap lease) f = CanTakeMemory f.asked f.objects
   CanStepCounted plan (UncountObject object) f = Unit {0}
   CanStepCounted plan (UncountHeap lease memory) f = Unit {0}
   CanStepCounted plan UncountInstance f = Unit {0}
@@ -70,16 +72,21 @@ module _ {P H : Type 0} where
   heap_found [] lease found f = record { part = found; frame = f; turn = goes Idle }
   heap_found (memory ∷ rest) lease found f = record { part = found + 1; frame = record f { objects = no_objects }; turn = ends (answer.Granted (heap_granted lease memory)) }
 
-  -- The heap is counted, and the call ends with it and its memory.
+  -- A heap over a memory that there is is granted without one.
+  abbrev pub heap_found_for : Asked → LeasedHeap H → ℕ → Frame P H → Row ℕ P H
+  heap_found_for (heap_over_asked memory) lease found f = record { part = found + 1; frame = f; turn = ends (answer.Granted (heap_over_granted lease)) }
+  heap_found_for _ lease found f = heap_found f.objects.memories.items lease found f
+
+  -- The heap is counted, and the call ends with it, and with its memory where that was granted for it.
   abbrev pub heap_on : LeasedHeap H → ℕ → Frame P H → Row ℕ P H
-  heap_on lease found f = heap_found f.objects.memories.items lease found f
+  heap_on lease found f = heap_found_for f.asked lease found f
 
   -- An object is counted off, and reset next.
   abbrev pub object_off : Object P → ℕ → Frame P H → Row ℕ P H
   object_off object found f = record { part = found - 1; frame = f; turn = goes (Reset object) }
 
   -- A heap is counted off, and comes back to its slot next.
-  abbrev pub heap_off : LeasedHeap H → Lease → ℕ → Frame P H → Row ℕ P H
+  abbrev pub heap_off : LeasedHeap H → Option Lease → ℕ → Frame P H → Row ℕ P H
   heap_off lease memory found f = record { part = found - 1; frame = f; turn = goes (PutHeap lease memory) }
 
   -- An instance or a component is counted off, and the call ends with its answer.

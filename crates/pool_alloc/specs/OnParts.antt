@@ -6,7 +6,7 @@ use Rattle.pool_slots.specs.declared.part.PoolPart.TheVariants as part
 use Rattle.pool_alloc.specs.CanStep.{HasAllocators, CanTryShard, CanTakeRegion, CanFreeOne, CanGoOn, CanEndStripe, CanPutNext, CanFree}
 use Rattle.pool_alloc.specs.Purges.{purged_stripe, pick_affine_on, take_affine_on, put_affine_on, free_affine_on}
 use Rattle.pool_alloc.specs.Releases.{released_stripe, nth_taken, take_warm_on, take_resident_on, put_resident_on, free_taken_on}
-use Rattle.pool_alloc.specs.StepTable.{FlushStep, put, free, flush_step, pick_on, take_queue_on, take_region_on, take_heap_on, put_heap_on, put_back_on, free_one_on, free_heap_on, merge_on, put_region_on, free_on}
+use Rattle.pool_alloc.specs.StepTable.{FlushStep, put, free, flush_step, pick_on, take_queue_on, take_region_on, take_heap_on, put_heap_on, heap_freed, put_back_on, free_one_on, free_heap_on, merge_on, put_region_on, free_on}
 use Rattle.pool_alloc.specs.StepReads.{IsQueuePart, IsHeapsPart, shard_in, queue_in, heaps_in, part_holding, allocator_for, cell_returned, first_shard}
 use Rattle.pool_alloc.specs.Turns.{Row, lifted, stays}
 use Rattle.pool_alloc.specs.declared.frame.Frame.{Frame}
@@ -117,7 +117,7 @@ module _ {P H : Type 0} where
   row_on s plan (PutNoHeap at) x f = on_heaps (put_heap_on at.name.slot None (FreeOne at.name) (heaps_in x) f)
   row_on s plan (PutBack at held) x f = on_cell x (put_back_on at.name (cell_of held) (cell_of_part x) f)
   row_on s plan (FreeOne name) x f = on_shard (free_one_on plan name (shard_in x) f)
-  row_on s plan (PutHeap lease memory) x f = on_heaps (put_heap_on lease.index (Some lease.heap) (FreeHeap (heap_slot lease.index) memory) (heaps_in x) f)
+  row_on s plan (PutHeap lease memory) x f = on_heaps (put_heap_on lease.index (Some lease.heap) (heap_freed (heap_slot lease.index) memory) (heaps_in x) f)
   row_on s plan (FreeHeap name memory) x f = on_shard (free_heap_on plan name memory (shard_in x) f)
   row_on s plan Merge x f = on_queue (merge_on s (queue_in x) f)
   row_on s plan Flush x f = flush_on plan (flush_step f.local f.freed.items) x f

@@ -1,6 +1,6 @@
 -- Where each slot and each region is: with the pool, with a party's call, or in a grant. Each that is given out is counted
 -- once. The same measure weighs what the pool's counters count.
-use Rattle.std.specs.Prelude.{ℕ, ◌+◌, ◌*◌, List, length, sum_by, remove}
+use Rattle.std.specs.Prelude.{ℕ, ◌+◌, ◌*◌, List, length, sum_by, remove, Option, Some, None}
 use Rattle.pool_alloc.specs.Imports.{Queued, total, UnitName, unit_right, unit_region, units_of_slots, is_right, is_region, all_away, all_kept, RegionNumbers, SlotName, SlotKind, memory_kind, table_kind, stack_kind, heap_kind}
 use Rattle.pool_alloc.specs.HeapLeases.{LeasedHeap, heap_slot_taken}
 use Rattle.pool_alloc.specs.Leases.{Lease, memory_slot, slot_taken}
@@ -13,7 +13,7 @@ use Rattle.pool_alloc.specs.declared.frame.Phase.TheVariants.{Idle, Key, Validat
 use Rattle.pool_alloc.specs.Objects.{slot_of_object}
 use Rattle.pool_alloc.specs.TableLeases.{LeasedTable, table_slot}
 use Rattle.pool_alloc.specs.declared.frame.Asked.{Asked}
-use Rattle.pool_alloc.specs.declared.frame.Asked.TheVariants.{Memory as memory_asked, Table as table_asked, Stack as stack_asked, Heap as heap_asked}
+use Rattle.pool_alloc.specs.declared.frame.Asked.TheVariants.{Memory as memory_asked, Table as table_asked, Stack as stack_asked, Heap as heap_asked, HeapOver as heap_over_asked}
 use Rattle.pool_alloc.specs.declared.frame.TakenSlot.{TakenSlot}
 use Rattle.pool_alloc.specs.declared.leases.instance.InstanceLease.{InstanceLease}
 use Rattle.pool_alloc.specs.declared.purge.PurgeStep.{PurgeStep}
@@ -86,6 +86,16 @@ taken_count t at = both_count t at.name at.numbers
 abbrev pub heap_count : {H : Type 0} → Thing → LeasedHeap H → Lease → ℕ
 heap_count t lease memory = taken_count t (heap_slot_taken lease) + taken_count t (slot_taken memory)
 
+-- What the memory weighs that was granted with a heap, if there is one.
+abbrev pub heap_memory_count : Thing → Option Lease → ℕ
+heap_memory_count t (Some memory) = taken_count t (slot_taken memory)
+heap_memory_count t None = 0
+
+-- What is counted of it.
+abbrev pub heap_memory_counted : Counts → Option Lease → ℕ
+heap_memory_counted n (Some memory) = n (counted_object memory_kind)
+heap_memory_counted n None = 0
+
 -- What slots in a queue weigh, with their regions.
 abbrev pub queued_count : Thing → List Queued → ℕ
 queued_count t slots = total t (units_of_slots slots)
@@ -108,6 +118,7 @@ instances_for (memory_asked m) = 0
 instances_for (table_asked ty) = 0
 instances_for stack_asked = 0
 instances_for (heap_asked ty) = 0
+instances_for (heap_over_asked memory) = 0
 instances_for _ = 1
 
 -- What a pool has counted.
@@ -175,8 +186,8 @@ module _ {P H : Type 0} where
   phase_count t (MakeHeap at) = taken_count t at
   phase_count t (CountHeap lease) = taken_count t (heap_slot_taken lease)
   phase_count t (PutNoHeap at) = taken_count t at
-  phase_count t (UncountHeap lease memory) = heap_count t lease memory
-  phase_count t (PutHeap lease memory) = heap_count t lease memory
+  phase_count t (UncountHeap lease memory) = taken_count t (heap_slot_taken lease) + heap_memory_count t memory
+  phase_count t (PutHeap lease memory) = taken_count t (heap_slot_taken lease) + heap_memory_count t memory
   phase_count t (FreeHeap name memory) = slot_count t name + taken_count t (slot_taken memory)
   phase_count t (Reset object) = taken_count t (slot_of_object object)
   phase_count t (Purge p step) = purge_count t step
@@ -206,8 +217,8 @@ module _ {P H : Type 0} where
   -- heap on its way back.
   abbrev pub phase_counted : Counts → Phase P H → ℕ
   phase_counted n (UncountObject object) = n (counted_object (slot_of_object object).name.kind)
-  phase_counted n (UncountHeap lease memory) = n (counted_object heap_kind) + n (counted_object memory_kind)
-  phase_counted n (PutHeap lease memory) = n (counted_object memory_kind)
+  phase_counted n (UncountHeap lease memory) = n (counted_object heap_kind) + heap_memory_counted n memory
+  phase_counted n (PutHeap lease memory) = heap_memory_counted n memory
   phase_counted n (FreeHeap name memory) = n (counted_object memory_kind)
   phase_counted n UncountComponent = n counted_component
   phase_counted n _ = 0

@@ -1,5 +1,5 @@
 -- The stacks of a pool: the regions of their slots, in cells, in queues and in hands, and a stack that was granted.
-use Rattle.std.specs.Prelude.{◌≡◌, ℕ, ◌+◌, ◌<◌, Bool, true, false, None, replicate}
+use Rattle.std.specs.Prelude.{◌≡◌, ℕ, ◌+◌, ◌<◌, true, false, None, replicate}
 use Rattle.pool_alloc.specs.Imports.{count, MakerTold, made_region, Told, Slot, IsClean, Reads, identity, Cell, unmapped, taken, identity_made, stack_item, IsPlain, stack_kept, stack_ranges, stack_zeroed, Queue, plain_slot, with_ranges, with_slot, Plan}
 use Rattle.pool_pages.specs.declared.pages.RegionName.TheVariants.{Stack}
 use Rattle.pool_slots.specs.declared.queued_range.QueueKind.TheVariants as queued

@@ -1,5 +1,5 @@
 -- What the parts of the pool have together, for its numbers.
-use Rattle.std.specs.Prelude.{ℕ, ◌-◌, ◌^◌, List, length, min, sum_by, map, None, Some, if◌then◌else◌}
+use Rattle.std.specs.Prelude.{ℕ, ◌-◌, ◌^◌, List, length, min, sum_by, map, Option, None, Some, if◌then◌else◌}
 use Rattle.pool_alloc.specs.Imports.{PageCalls, resident_bytes, slot_of, no_calls, added, all_calls, calls_in, cell_of, PoolPart, calls_held, same_kind, option_map_or, Told, SlotKind, memory_kind, table_kind, stack_kind}
 use Rattle.pool_alloc.specs.declared.frame.Object.{Object}
 use Rattle.pool_alloc.specs.declared.frame.Object.TheVariants.{Memory, Table, Stack}
@@ -57,6 +57,11 @@ calls_of_object (Memory lease) = (slot_of lease.memory).region.calls
 calls_of_object (Table lease) = table_calls lease
 calls_of_object (Stack lease) = lease.stack.slot.region.calls
 
+-- The page calls on the region of the memory that was granted with a heap, if there is one.
+abbrev pub calls_of_heap_memory : Option Lease → PageCalls
+calls_of_heap_memory (Some lease) = (slot_of lease.memory).region.calls
+calls_of_heap_memory None = no_calls
+
 -- The page calls on the regions of granted memories.
 abbrev pub calls_of_leases : List Lease → PageCalls
 calls_of_leases leases = all_calls (map (λ l. (slot_of l.memory).region.calls) leases)
@@ -97,8 +102,8 @@ module _ {P H : Type 0} where
   calls_in_phase (CountObject object) = calls_of_object object
   calls_in_phase (PutBack at held) = calls_in (cell_of held)
   calls_in_phase (UncountObject object) = calls_of_object object
-  calls_in_phase (UncountHeap lease memory) = (slot_of memory.memory).region.calls
-  calls_in_phase (PutHeap lease memory) = (slot_of memory.memory).region.calls
+  calls_in_phase (UncountHeap lease memory) = calls_of_heap_memory memory
+  calls_in_phase (PutHeap lease memory) = calls_of_heap_memory memory
   calls_in_phase (FreeHeap name memory) = (slot_of memory.memory).region.calls
   calls_in_phase (Reset object) = calls_of_object object
   calls_in_phase (Purge p step) = calls_in_purge step

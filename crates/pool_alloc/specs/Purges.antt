@@ -1,17 +1,14 @@
 -- A purge: it goes through the stripes, and in each through the memories that a module may have. In turns it picks a warm slot
 -- that was used for the memory last, forgets what the slot holds, and frees it.
-use Rattle.std.specs.Prelude.{◌≡◌, ℕ, ◌+◌, ◌-◌, ◌*◌, ◌^◌, ◌<◌, ◌&&◌, List, length, min, sum_by, drop, nat_lt, if◌then◌else◌, Bool, true, false, Option, Some, None}
+use Rattle.std.specs.Prelude.{ℕ, ◌+◌, ◌-◌, ◌^◌, ◌&&◌, length, min, nat_lt, if◌then◌else◌, Bool, true, false, Option, Some, None}
 use Rattle.pool_alloc.specs.Imports.{CompiledModuleId, Slot, forgotten, ShardState, affine_answer, after_affine_pick, after_free, slot_number, MemoryInModule, SlotId, Cell, unmapped, unknown, previously_used, taken, cell_of, home_of, CellState, cell_numbers, cell_emptied, cell_filled, ImageSlot, Unmapped, Unknown, PreviouslyUsed, Taken, Allocator, Plan, SlotName}
 use Rattle.pool_alloc.specs.Leases.{memory_slot}
 use Rattle.pool_alloc.specs.StepReads.{StepGiven, stripe_allocator, shard_at, cell_named, with_shard, with_cell}
 use Rattle.pool_alloc.specs.Turns.{Turn, goes, ends, Row, lifted}
 use Rattle.pool_alloc.specs.declared.frame.Frame.{Frame}
 use Rattle.pool_alloc.specs.declared.frame.Outcome.TheVariants as answer
-use Rattle.pool_alloc.specs.declared.frame.Phase.{Phase}
 use Rattle.pool_alloc.specs.declared.frame.Phase.TheVariants.{Purge}
-use Rattle.pool_alloc.specs.declared.frame.TakenSlot.{TakenSlot}
 use Rattle.pool_alloc.specs.declared.pool_core.PoolCore.{PoolCore}
-use Rattle.pool_alloc.specs.declared.pool_core.Settings.{Settings}
 use Rattle.pool_alloc.specs.declared.purge.PurgeCursor.{PurgeCursor}
 use Rattle.pool_alloc.specs.declared.purge.PurgeStep.{PurgeStep}
 use Rattle.pool_alloc.specs.declared.purge.PurgeStep.TheVariants.{Pick, TakeRegion, Forget, PutRegion, Free}

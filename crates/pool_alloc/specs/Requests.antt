@@ -1,5 +1,5 @@
 -- A request: whom it asks, and what it is for.
-use Rattle.std.specs.Prelude.{◌≡◌, List, Bool, Option, Some, None, option_map, slice_get, Result, ℕ, ◌^◌, ◌-◌, true, Ok, Err, ◌<◌, All, length, slice_index_or}
+use Rattle.std.specs.Prelude.{◌≡◌, List, Bool, Option, Some, None, option_map, slice_get, Result, ℕ, ◌^◌, true, Ok, Err, ◌<◌, All, length, slice_index_or}
 use Rattle.pool_alloc.specs.Imports.{MutBor, GName, DefinedMemoryIndex, MemoryKind, LinearMemory, GcHeap, MemoryType, ModuleInfo, Image, images_from, ends_in_minimum, Exchange, may_grow, has_failed, LimiterError, AllocError, Unsupported, list_all, CompiledModuleId}
 use Rattle.pool_alloc.specs.declared.instance_allocator.request.InstanceAllocationRequest.{InstanceAllocationRequest}
 use Rattle.pool_slots.specs.declared.errors.AllocError.TheVariants as refusal

@@ -1,12 +1,13 @@
 -- How many steps a call makes at most, by the sizes of the pool alone, and how many it still makes.
-use Rattle.std.specs.Prelude.{ℕ, List, ◌+◌, ◌*◌, ◌-◌, length, nat_lt, if◌then◌else◌, Option, Some, ◌==◌, zero, suc, sum_by, ◌∷◌, [], max, ◌++◌, Bool, not, is_some, ◌&&◌, ◌||◌, drop}
+use Rattle.std.specs.Prelude.{ℕ, List, ◌+◌, ◌*◌, ◌-◌, length, nat_lt, if◌then◌else◌, Option, Some, None, ◌==◌, zero, suc, sum_by, ◌∷◌, [], max, ◌++◌, Bool, not, is_some, ◌&&◌, ◌||◌, drop}
 use Rattle.pool_alloc.specs.Imports.{Queue, Queued, one_if, home_of, SlotName, Allocator, Plan}
 use Rattle.pool_alloc.specs.Objects.{objects_in, objects_wanted}
 use Rattle.pool_alloc.specs.declared.leases.instance.InstanceLease.{InstanceLease}
+use Rattle.pool_alloc.specs.Leases.{Lease}
 use Rattle.pool_alloc.specs.Reserved.{Reserved}
 use Rattle.pool_alloc.specs.RangeRuns.{runs}
 use Rattle.pool_alloc.specs.StepReads.{queues_searched}
-use Rattle.pool_alloc.specs.declared.frame.Grant.TheVariants.{Instance, Memory, Table, Stack, Heap, Component}
+use Rattle.pool_alloc.specs.declared.frame.Grant.TheVariants.{Instance, Memory, Table, Stack, Heap, HeapOver, Component}
 use Rattle.pool_alloc.specs.declared.pool_core.PoolCore.{PoolCore}
 use Rattle.pool_alloc.specs.declared.frame.Call.{Call}
 use Rattle.pool_alloc.specs.declared.frame.Call.TheVariants as call
@@ -15,7 +16,7 @@ use Rattle.pool_alloc.specs.declared.frame.Ending.TheVariants.{Granted as grante
 use Rattle.pool_alloc.specs.declared.frame.Frame.{Frame}
 use Rattle.pool_alloc.specs.declared.frame.FreedSlot.{FreedSlot}
 use Rattle.pool_alloc.specs.declared.frame.Asked.{Asked}
-use Rattle.pool_alloc.specs.declared.frame.Asked.TheVariants.{Module as module_asked, Memory as memory_asked, Table as table_asked, Stack as stack_asked, Heap as heap_asked}
+use Rattle.pool_alloc.specs.declared.frame.Asked.TheVariants.{Module as module_asked, Memory as memory_asked, Table as table_asked, Stack as stack_asked, HeapOver as heap_over_asked}
 use Rattle.pool_alloc.specs.declared.frame.Phase.{Phase}
 use Rattle.pool_alloc.specs.declared.frame.Phase.TheVariants.{Idle, Key, Validate, TestStack, TestHeap, CountInstance, Pick, TakeQueue, TakeRegion, Empty, Instantiate, MakeMemory, MakeTable, CountObject, TakeHeap, MakeHeap, CountHeap, PutNoHeap, PutBack, FreeOne, UncountObject, UncountHeap, PutHeap, FreeHeap, Reset, Merge, Flush, UncountInstance, ValidateComponent, CountComponent, UncountComponent, Purge, Release}
 use Rattle.pool_alloc.specs.Purges.{has_turns, purged_stripe}
@@ -82,6 +83,16 @@ instance_bound z objects = 3 + objects * (allocation_bound z + give_back_bound z
 -- a heap with its memory, of which the memory may be given back
 abbrev pub heap_bound : PoolSizes → ℕ
 heap_bound z = 1 + 2 * (allocation_bound z + give_back_bound z)
+
+-- What is asked for a heap: its memory and the heap, or a heap over a memory that there is, which is the one object then.
+abbrev pub heap_bound_for : PoolSizes → Asked → ℕ
+heap_bound_for z (heap_over_asked memory) = 1 + allocation_bound z
+heap_bound_for z _ = heap_bound z
+
+-- What is left of a heap's end behind the heap: the giving back of the memory that was granted with it, if there is one.
+abbrev pub heap_memory_left : PoolSizes → Option Lease → ℕ
+heap_memory_left z (Some memory) = give_back_bound z
+heap_memory_left z None = 0
 
 -- the end of an instance with so many objects
 abbrev pub return_bound : PoolSizes → ℕ → ℕ
@@ -161,10 +172,11 @@ returns_left z objects = return_bound z (objects_in objects)
 
 -- What is left once the object that is allocated is granted or refused: the module's other objects, and that all which
 -- are granted until then may be given back.
--- Nothing is left of a request for a stack, and of one for a memory or a table by itself only that it may be refused.
+-- Nothing is left of a request for a stack, and of one for a memory, a table or a heap by itself only that it may be refused.
 abbrev pub objects_left : {P : Type 0} → PoolSizes → Asked → InstanceLease P → ℕ
 objects_left z (memory_asked m) objects = returns_left z objects
 objects_left z (table_asked ty) objects = returns_left z objects
+objects_left z (heap_over_asked memory) objects = returns_left z objects
 objects_left z stack_asked objects = 0
 objects_left z asked objects = (objects_wanted asked - (objects_in objects + 1)) * (allocation_bound z + give_back_bound z) + return_bound z (objects_in objects + 1)
 
@@ -193,12 +205,14 @@ module _ {P H : Type 0} where
   bound_of_call z (call.Table ty) = allocation_bound z
   bound_of_call z call.Stack = 1 + allocation_bound z
   bound_of_call z (call.Heap ty) = heap_bound z
+  bound_of_call z (call.HeapOver memory) = 1 + allocation_bound z
   bound_of_call z (call.GiveBack (Instance lease)) = return_bound z (objects_in lease)
   bound_of_call z (call.GiveBack Component) = 1
   bound_of_call z (call.GiveBack (Memory lease)) = return_bound z 1
   bound_of_call z (call.GiveBack (Table lease)) = return_bound z 1
   bound_of_call z (call.GiveBack (Stack lease)) = return_bound z 1
   bound_of_call z (call.GiveBack (Heap lease memory)) = return_bound z 2
+  bound_of_call z (call.GiveBack (HeapOver lease)) = return_bound z 1
   bound_of_call z (call.Purge id) = purge_bound z
   bound_of_call z call.Release = release_bound z
 
@@ -231,7 +245,7 @@ module _ {P H : Type 0} where
   steps_at z Key f = 1
   steps_at z Validate f = instance_bound z (objects_wanted f.asked)
   steps_at z TestStack f = 1 + allocation_bound z
-  steps_at z TestHeap f = heap_bound z
+  steps_at z TestHeap f = heap_bound_for z f.asked
   steps_at z CountInstance f = 2 + objects_wanted f.asked * (allocation_bound z + give_back_bound z)
   steps_at z (Pick tried) f = picks_left z f.queues tried f.asked f.objects
   steps_at z TakeQueue f = queues_left z f.queues f.asked f.objects
@@ -248,8 +262,8 @@ module _ {P H : Type 0} where
   steps_at z (PutBack at held) f = 2 + returns_left z f.objects
   steps_at z (FreeOne name) f = 1 + returns_left z f.objects
   steps_at z (UncountObject object) f = give_back_bound z + returns_left z f.objects
-  steps_at z (UncountHeap lease memory) f = 3 + give_back_bound z + returns_left z f.objects
-  steps_at z (PutHeap lease memory) f = 2 + give_back_bound z + returns_left z f.objects
+  steps_at z (UncountHeap lease memory) f = 3 + heap_memory_left z memory + returns_left z f.objects
+  steps_at z (PutHeap lease memory) f = 2 + heap_memory_left z memory + returns_left z f.objects
   steps_at z (FreeHeap name memory) f = 1 + give_back_bound z + returns_left z f.objects
   steps_at z (Reset object) f = 1 + flush_bound z + returns_left z f.objects
   steps_at z Merge f = flush_bound z + returns_left z f.objects

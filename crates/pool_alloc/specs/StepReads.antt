@@ -6,7 +6,7 @@ use Rattle.pool_alloc.specs.declared.pool_core.PoolCore.{PoolCore}
 use Rattle.pool_alloc.specs.declared.pool_core.Settings.{Settings}
 use Rattle.pool_alloc.specs.declared.frame.Frame.{Frame}
 use Rattle.pool_alloc.specs.declared.frame.Asked.{Asked}
-use Rattle.pool_alloc.specs.declared.frame.Asked.TheVariants.{Nothing as nothing_asked, Module as module_asked, Memory as memory_asked, Table as table_asked, Stack as stack_asked, Heap as heap_asked}
+use Rattle.pool_alloc.specs.declared.frame.Asked.TheVariants.{Module as module_asked, Memory as memory_asked, Table as table_asked, Stack as stack_asked, Heap as heap_asked, HeapOver as heap_over_asked}
 use Rattle.pool_alloc.specs.declared.frame.FreedSlot.{FreedSlot}
 
 -- What a step is told from outside the table: whether memory was wanting, whether a page call of the step failed, what
@@ -32,7 +32,7 @@ info_wanted _ = no_module
 abbrev pub plain_decl : MemoryType → MemoryDecl
 plain_decl ty = record { ty = ty; image = None }
 
--- The memories that are asked for; a heap is asked for with one memory.
+-- The memories that are asked for; a heap is asked for with one memory, unless it is asked for over one that there is.
 abbrev pub memories_wanted : Asked → List MemoryDecl
 memories_wanted (module_asked m) = m.info.memories
 memories_wanted (memory_asked m) = plain_decl m.ty ∷ []
@@ -64,6 +64,7 @@ stacks_wanted _ = 0
 -- 1 where a heap is asked for.
 abbrev pub heaps_wanted : Asked → ℕ
 heaps_wanted (heap_asked ty) = 1
+heaps_wanted (heap_over_asked memory) = 1
 heaps_wanted _ = 0
 
 -- 1 where one memory or one table is asked for by itself.
@@ -98,9 +99,10 @@ abbrev pub IsModule : Asked → Type 0
 IsModule (module_asked m) = Unit {0}
 IsModule _ = ⊥
 
--- A heap is asked for, with a memory of a type that makes sense.
+-- A heap is asked for, with a memory of a type that makes sense, or over a memory that there is.
 abbrev pub IsHeapAsked : Asked → Type 0
 IsHeapAsked (heap_asked ty) = ty.page_size_log2 < 64
+IsHeapAsked (heap_over_asked memory) = Unit {0}
 IsHeapAsked _ = ⊥
 
 -- A module, a memory or a heap is asked for, which have memories.
@@ -172,6 +174,7 @@ affine_of _ asked index = None
 -- What is allocated after the memories: the heap, or tables.
 abbrev pub kind_last : Asked → SlotKind
 kind_last (heap_asked ty) = heap_kind
+kind_last (heap_over_asked memory) = heap_kind
 kind_last _ = table_kind
 
 -- The kind of what is allocated next, by how many memories are granted so far.

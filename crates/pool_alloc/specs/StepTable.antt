@@ -11,8 +11,8 @@ use Rattle.pool_alloc.specs.TableSteps.{table_made, table_reset_into}
 use Rattle.pool_alloc.specs.declared.frame.FreedSlot.{FreedSlot}
 use Rattle.pool_slots.specs.declared.errors.AllocError.TheVariants as refusal
 use Rattle.pool_alloc.specs.Reserved.{with_item}
-use Rattle.pool_alloc.specs.HeapLeases.{LeasedHeap, heap_numbers}
-use Rattle.pool_alloc.specs.Leases.{Lease, first_index, slot_taken}
+use Rattle.pool_alloc.specs.HeapLeases.{LeasedHeap, heap_numbers, memory_under}
+use Rattle.pool_alloc.specs.Leases.{Lease, slot_taken}
 use Rattle.pool_alloc.specs.MemorySteps.{image_made, reset_into, refusal_of, heap_refusal, memory_made}
 use Rattle.pool_alloc.specs.Refusals.{module_refused, heap_refused, component_refused}
 use Rattle.pool_alloc.specs.StepReads.{StepGiven, memories_wanted, tables_wanted, shard_at, cell_named, queue_at, freed_of, freed_elsewhere, first_shard, after_frees, allocator_for, with_shard, with_cell, with_queue, counting_keys, counting_instances, counting_memories, counting_tables, counting_stacks, counting_heaps, heaps_at, with_heaps, wanted, cell_returned, shard_tried, queue_tried, info_wanted, counting_components}
@@ -23,14 +23,11 @@ use Rattle.pool_alloc.specs.declared.frame.Frame.{Frame}
 use Rattle.pool_alloc.specs.declared.frame.Phase.{Phase}
 use Rattle.pool_alloc.specs.declared.frame.TakenSlot.{TakenSlot}
 use Rattle.pool_alloc.specs.declared.frame.Phase.TheVariants.{Idle, Key, Validate, TestStack, TestHeap, CountInstance, Pick, TakeQueue, TakeRegion, Empty, Instantiate, MakeMemory, MakeTable, CountObject, TakeHeap, MakeHeap, CountHeap, PutNoHeap, PutBack, FreeOne, UncountObject, UncountHeap, PutHeap, FreeHeap, Reset, Merge, Flush, UncountInstance, ValidateComponent, CountComponent, UncountComponent, Purge, Release}
-use Rattle.pool_alloc.specs.declared.frame.Grant.TheVariants.{Component, Memory as memory_granted, Table as table_granted, Stack, Heap}
+use Rattle.pool_alloc.specs.declared.frame.Grant.TheVariants.{Component, Memory as memory_granted, Table as table_granted, Stack, Heap, HeapOver}
 use Rattle.pool_alloc.specs.declared.frame.Asked.{Asked}
-use Rattle.pool_alloc.specs.declared.frame.Asked.TheVariants.{Memory as memory_asked, Table as table_asked}
-use Rattle.pool_alloc.specs.declared.frame.Ending.{Ending}
-use Rattle.pool_alloc.specs.declared.frame.Ending.TheVariants.{Refused as refused}
+use Rattle.pool_alloc.specs.declared.frame.Asked.TheVariants.{Memory as memory_asked, Table as table_asked, HeapOver as heap_over_asked}
 use Rattle.pool_alloc.specs.declared.frame.Object.{Object}
 use Rattle.pool_alloc.specs.declared.frame.Object.TheVariants as object
-use Rattle.pool_alloc.specs.declared.frame.Outcome.{Outcome}
 use Rattle.pool_alloc.specs.declared.frame.Outcome.TheVariants as answer
 use Rattle.pool_alloc.specs.Purges.{purge_row}
 use Rattle.pool_alloc.specs.Releases.{release_row}
@@ -166,8 +163,8 @@ module _ {P H : Type 0} where
       let whole : Queue = after_append queue f.local in
       merged (nat_le s.batch (length whole.ranges)) whole (record f { local = drained f.local })
 
-  -- A slot's heap goes out of the list of heaps, and its entry notes the memory that was granted for the heap. Where no heap
-  -- was made for the slot yet, one is made.
+  -- A slot's heap goes out of the list of heaps, and its entry notes the memory that the heap is over. Where no heap was made for the
+  -- slot yet, one is made.
   abbrev pub heap_next : TakenSlot → Option H → Turn P H
   heap_next at (Some heap) = goes (CountHeap (record { index = at.name.slot; heap = heap; numbers = at.numbers }))
   heap_next at None = goes (MakeHeap at)
@@ -175,7 +172,7 @@ module _ {P H : Type 0} where
   -- The heap of a slot is taken, or the maker is asked for one; the slot notes the memory that goes with it.
   abbrev pub take_heap_on : SlotName → List (HeapEntry H) → Frame P H → Row (List (HeapEntry H)) P H
   take_heap_on name heaps f =
-      let memory : ℕ = first_index f.objects.memories.items in
+      let memory : ℕ = memory_under f.asked f.objects.memories.items in
       record {
         part = heap_taken name.slot (record { 0 = memory }) heaps;
         frame = f;
@@ -185,6 +182,12 @@ module _ {P H : Type 0} where
   -- A heap comes back to its slot, or nothing does.
   abbrev pub put_heap_on : ℕ → Option H → Phase P H → List (HeapEntry H) → Frame P H → Row (List (HeapEntry H)) P H
   put_heap_on slot heap next_phase heaps f = record { part = heap_returned slot heap heaps; frame = f; turn = goes next_phase }
+
+  -- The slot of a heap that came back is freed next. The memory that was granted with the heap is given back then, and there may be
+  -- none.
+  abbrev pub heap_freed : SlotName → Option Lease → Phase P H
+  heap_freed name (Some memory) = FreeHeap name memory
+  heap_freed name None = FreeOne name
 
   -- A row on the shard at a place, as a row on the pool.
   abbrev pub in_shard : ℕ → PoolCore P H → Row ShardState P H → Row (PoolCore P H) P H
@@ -251,12 +254,19 @@ module _ {P H : Type 0} where
   abbrev pub test_stack_row : PoolCore P H → Frame P H → Row (PoolCore P H) P H
   test_stack_row c f = stacks_tested (c.settings.stack_size == 0) c f
 
-  -- A collector is tested for, then the type of the heap's memory; and the list for the memory is reserved.
+  -- The type of a heap's memory is tested, and the list for the memory is reserved. A heap over a memory that there is needs neither,
+  -- and a slot for it is picked at once.
+  abbrev pub memory_tested : Asked → Bool → PoolCore P H → Frame P H → Row (PoolCore P H) P H
+  memory_tested (heap_over_asked memory) wants c f = record { part = c; frame = f; turn = goes (Pick 0) }
+  memory_tested asked wants c f = validated (heap_refused c.settings asked) wants (Pick 0) c f
+
+  -- A collector is tested for, and then the heap's memory.
   abbrev pub heaps_tested : Bool → Bool → PoolCore P H → Frame P H → Row (PoolCore P H) P H
   heaps_tested false wants c f = refused_at_once refusal.HeapsDisabled c f
-  heaps_tested true wants c f = validated (heap_refused c.settings f.asked) wants (Pick 0) c f
+  heaps_tested true wants c f = memory_tested f.asked wants c f
 
-  -- A request for a heap is refused without a collector, or for its memory's type, and else its memory is allocated.
+  -- A request for a heap is refused without a collector, or for its memory's type, and else its memory is allocated, or its slot is
+  -- picked where there is a memory.
   abbrev pub test_heap_row : Bool → PoolCore P H → Frame P H → Row (PoolCore P H) P H
   test_heap_row wants c f = heaps_tested c.settings.tunables.tunables.collector wants c f
 
@@ -348,9 +358,14 @@ module _ {P H : Type 0} where
   heap_granted [] lease c f = record { part = c; frame = f; turn = goes Idle }
   heap_granted (memory ∷ rest) lease c f = record { part = counting_heaps (c.counters.gc_heaps + 1) c; frame = record f { objects = no_objects }; turn = ends (answer.Granted (Heap lease memory)) }
 
-  -- The heap is counted, and the call ends with it and its memory.
+  -- A heap over a memory that there is is granted without one.
+  abbrev pub heap_counted : Asked → LeasedHeap H → PoolCore P H → Frame P H → Row (PoolCore P H) P H
+  heap_counted (heap_over_asked memory) lease c f = record { part = counting_heaps (c.counters.gc_heaps + 1) c; frame = f; turn = ends (answer.Granted (HeapOver lease)) }
+  heap_counted _ lease c f = heap_granted f.objects.memories.items lease c f
+
+  -- The heap is counted, and the call ends with it, and with its memory where that was granted for it.
   abbrev pub count_heap_row : LeasedHeap H → PoolCore P H → Frame P H → Row (PoolCore P H) P H
-  count_heap_row lease c f = heap_granted f.objects.memories.items lease c f
+  count_heap_row lease c f = heap_counted f.asked lease c f
 
   -- An object that is given back is counted off, and reset next.
   abbrev pub uncount_object_row : Object P → PoolCore P H → Frame P H → Row (PoolCore P H) P H
@@ -358,8 +373,8 @@ module _ {P H : Type 0} where
   uncount_object_row (object.Table lease) c f = record { part = counting_tables (c.counters.tables - 1) c; frame = f; turn = goes (Reset (object.Table lease)) }
   uncount_object_row (object.Stack lease) c f = record { part = counting_stacks (c.counters.stacks - 1) c; frame = f; turn = goes (Reset (object.Stack lease)) }
 
-  -- The heap is counted off, and comes back to its slot next. Its memory is given back after it.
-  abbrev pub uncount_heap_row : LeasedHeap H → Lease → PoolCore P H → Frame P H → Row (PoolCore P H) P H
+  -- The heap is counted off, and comes back to its slot next. The memory that was granted with it is given back after it.
+  abbrev pub uncount_heap_row : LeasedHeap H → Option Lease → PoolCore P H → Frame P H → Row (PoolCore P H) P H
   uncount_heap_row lease memory c f = record { part = counting_heaps (c.counters.gc_heaps - 1) c; frame = f; turn = goes (PutHeap lease memory) }
 
   -- After a reset: the local queue is flushed where it has no range or a batch of them, and else appended to the home
@@ -472,7 +487,7 @@ module _ {P H : Type 0} where
   row_of g (FreeOne name) c f = let place : ℕ = (home_of c.plan name).place in in_shard place c (free_one_on c.plan name (shard_at place c) f)
   row_of g (UncountObject held) c f = uncount_object_row held c f
   row_of g (UncountHeap lease memory) c f = uncount_heap_row lease memory c f
-  row_of g (PutHeap lease memory) c f = in_heaps c (put_heap_on lease.index (Some lease.heap) (FreeHeap (heap_slot lease.index) memory) (heaps_at c) f)
+  row_of g (PutHeap lease memory) c f = in_heaps c (put_heap_on lease.index (Some lease.heap) (heap_freed (heap_slot lease.index) memory) (heaps_at c) f)
   row_of g (FreeHeap name memory) c f = let place : ℕ = (home_of c.plan name).place in in_shard place c (free_heap_on c.plan name memory (shard_at place c) f)
   row_of g (Reset held) c f = reset_row g held c f
   row_of g Merge c f = let place : ℕ = queue_tried 0 c.plan f in in_queue place c (merge_on c.settings (queue_at place c) f)

@@ -3,6 +3,7 @@ use Rattle.std.specs.Prelude.{◌≡◌, ◌⊎◌, ℕ, ◌+◌, ◌^◌, ◌<�
 use Rattle.pool_alloc.specs.Imports.{MakerTold, Exchange, ShardState, CellState, HeapEntry, SlotName, Queue, memory_kind, table_kind, stack_kind, heap_kind}
 use Rattle.pool_alloc.specs.PartyTold.{PartyTold}
 use Rattle.pool_alloc.specs.StepReads.{StepGiven, with_shard, with_cell, with_queue, counting_keys, counting_instances, counting_memories, counting_tables, counting_stacks, counting_heaps, counting_components, with_heaps}
+use Rattle.pool_alloc.specs.HeapLeases.{heap_slot_taken}
 use Rattle.pool_alloc.specs.Leases.{slot_taken}
 use Rattle.pool_alloc.specs.StackLeases.{stack_taken}
 use Rattle.pool_alloc.specs.TableLeases.{table_taken}
@@ -17,7 +18,7 @@ use Rattle.pool_alloc.specs.declared.frame.Frame.{Frame}
 use Rattle.pool_alloc.specs.declared.frame.Phase.{Phase}
 use Rattle.pool_alloc.specs.declared.frame.Phase.TheVariants.{Idle, MakeHeap}
 use Rattle.pool_alloc.specs.declared.frame.Grant.{Grant}
-use Rattle.pool_alloc.specs.declared.frame.Grant.TheVariants.{Instance, Memory, Table, Stack, Heap, Component}
+use Rattle.pool_alloc.specs.declared.frame.Grant.TheVariants.{Instance, Memory, Table, Stack, Heap, HeapOver, Component}
 use Rattle.pool_alloc.specs.declared.frame.Outcome.{Outcome}
 use Rattle.pool_alloc.specs.declared.frame.Outcome.TheVariants.{Key, Granted, Returned, Purged, Released, Refused}
 
@@ -34,6 +35,7 @@ module _ {P H : Type 0} where
   grant_count t (Table lease) = taken_count t (table_taken lease)
   grant_count t (Stack lease) = taken_count t (stack_taken lease)
   grant_count t (Heap lease memory) = heap_count t lease memory
+  grant_count t (HeapOver lease) = taken_count t (heap_slot_taken lease)
 
   -- What is counted of a grant.
   abbrev pub grant_counted : Counts → Grant P H → ℕ
@@ -43,6 +45,7 @@ module _ {P H : Type 0} where
   grant_counted n (Table lease) = n (counted_object table_kind)
   grant_counted n (Stack lease) = n (counted_object stack_kind)
   grant_counted n (Heap lease memory) = n (counted_object heap_kind) + n (counted_object memory_kind)
+  grant_counted n (HeapOver lease) = n (counted_object heap_kind)
 
   -- What a grant has, and is counted for.
   abbrev pub grant_weight : Weight → Grant P H → ℕ
@@ -56,7 +59,7 @@ module _ {P H : Type 0} where
   abbrev pub grant_components : Grant P H → ℕ
   grant_components grant = grant_counted (only counted_component) grant
 
-  -- How many memories a grant has: an instance's, or the one of a heap.
+  -- How many memories a grant has: an instance's, or the one that was granted with a heap.
   abbrev pub grant_memories : Grant P H → ℕ
   grant_memories grant = grant_counted (only (counted_object memory_kind)) grant
 

@@ -9,7 +9,7 @@ use Rattle.pool_alloc.specs.TableLeases.{LeasedTable}
 use Rattle.pool_alloc.specs.StepReads.{queues_next, allocator_for, kind_next}
 use Rattle.pool_alloc.specs.declared.pool_core.PoolCore.{PoolCore}
 use Rattle.pool_alloc.specs.declared.frame.Asked.{Asked}
-use Rattle.pool_alloc.specs.declared.frame.Asked.TheVariants.{Nothing as nothing_asked, Memory as memory_asked, Table as table_asked, Stack as stack_asked, Heap as heap_asked}
+use Rattle.pool_alloc.specs.declared.frame.Asked.TheVariants.{Nothing as nothing_asked, Memory as memory_asked, Table as table_asked, Stack as stack_asked, Heap as heap_asked, HeapOver as heap_over_asked}
 use Rattle.pool_alloc.specs.declared.frame.Frame.{Frame}
 use Rattle.pool_alloc.specs.declared.frame.Phase.{Phase}
 use Rattle.pool_alloc.specs.declared.frame.Phase.TheVariants.{Idle, Pick, TakeQueue, UncountObject, Flush, UncountInstance}
@@ -102,6 +102,7 @@ module _ {P H : Type 0} where
   all_returned (table_asked ty) f = ends_with f (answer_of f.ending)
   all_returned stack_asked f = ends_with f (answer_of f.ending)
   all_returned (heap_asked ty) f = ends_with f (answer_of f.ending)
+  all_returned (heap_over_asked memory) f = ends_with f (answer_of f.ending)
   all_returned _ f = goes_to f UncountInstance
 
   -- the next of these memories is given back, or of these tables, or else all of them are

@@ -7,7 +7,7 @@ use Rattle.pool_alloc.specs.PoolAndHolders.{IsPartitioned, held_by_grant}
 use Rattle.pool_alloc.specs.StepReads.{memories_wanted, tables_wanted, stacks_wanted, heaps_wanted, allocator_of}
 use Rattle.pool_alloc.specs.Stepping.{grant_count, grant_instances, grant_components}
 use Rattle.pool_alloc.specs.declared.frame.Asked.{Asked}
-use Rattle.pool_alloc.specs.declared.frame.Asked.TheVariants.{Nothing as nothing_asked, Module as module_asked, Memory as memory_asked, Table as table_asked, Stack as stack_asked, Heap as heap_asked}
+use Rattle.pool_alloc.specs.declared.frame.Asked.TheVariants.{Nothing as nothing_asked, Module as module_asked, Memory as memory_asked, Table as table_asked, Stack as stack_asked, Heap as heap_asked, HeapOver as heap_over_asked}
 use Rattle.pool_alloc.specs.declared.frame.Call.{Call}
 use Rattle.pool_alloc.specs.declared.frame.Call.TheVariants as call
 use Rattle.pool_alloc.specs.declared.frame.Grant.{Grant}
@@ -37,6 +37,7 @@ module _ {P H : Type 0} where
   asked_by (call.Table ty) = table_asked ty
   asked_by call.Stack = stack_asked
   asked_by (call.Heap ty) = heap_asked ty
+  asked_by (call.HeapOver memory) = heap_over_asked memory
   asked_by _ = nothing_asked
 
   -- The call asks for a grant.
@@ -47,6 +48,7 @@ module _ {P H : Type 0} where
   IsForGrant (call.Table ty) = Unit {0}
   IsForGrant call.Stack = Unit {0}
   IsForGrant (call.Heap ty) = Unit {0}
+  IsForGrant (call.HeapOver memory) = Unit {0}
   IsForGrant _ = ⊥
 
   -- A request for a module needs one instance, and no other call does.

@@ -14,7 +14,9 @@ use crate::reserved::ReservedList;
 use pool_images::{MemoryImage, MemoryImageSlot, ModuleMemoryImages};
 use pool_index::MemoryInModule;
 use pool_pages::{PageRegion, Pages};
-use pool_slots::{AllocError, DecommitQueue, GcHeap, ImageSlot, RegionNumbers, SlotName};
+use pool_slots::{
+    AllocError, DecommitQueue, GcHeap, ImageSlot, MemoryAllocationIndex, RegionNumbers, SlotName,
+};
 use pool_types::{CompiledModuleId, ComponentInfo, MemoryType, ModuleInfo, TableType};
 use std::marker::Model;
 use std::sync::Arc;
@@ -73,6 +75,8 @@ pub enum Grant<P: Pages, H: GcHeap> {
     Stack(StackLease<P>),
     /// A heap, and the memory that it lies in.
     Heap(HeapLease<H>, MemoryLease<P>),
+    /// A heap over a memory that was allocated before. That stays with whoever has it.
+    HeapOver(HeapLease<H>),
 }
 
 /// A call of a party on the core.
@@ -92,6 +96,8 @@ pub enum Call<P: Pages, H: GcHeap> {
     Stack,
     /// Asks for a heap of a garbage collector, with a memory of this type.
     Heap(MemoryType),
+    /// Asks for one over the memory with this index, which whoever asks has. Only the index is noted.
+    HeapOver(MemoryAllocationIndex),
     GiveBack(Grant<P, H>),
     /// Forgets what warm slots hold of a compiled module.
     Purge(CompiledModuleId),
@@ -123,6 +129,8 @@ pub enum Asked {
     Stack,
     /// A heap with a memory of this type.
     Heap(MemoryType),
+    /// A heap over the memory with this index.
+    HeapOver(MemoryAllocationIndex),
 }
 
 /// What a call is to end with, as far as it went. A step that fails sets it.
@@ -166,7 +174,7 @@ pub enum Phase<P: Pages, H: GcHeap> {
     Validate,
     /// Test whether stacks are enabled.
     TestStack,
-    /// Test whether there is a collector, and the type of the heap's memory, and reserve the list for the memory.
+    /// Test whether there is a collector. Where a memory is asked for with the heap, test its type, and reserve the list for it.
     TestHeap,
     CountInstance,
     /// Pick a slot from the shard that is so many after the home shard.
@@ -195,11 +203,11 @@ pub enum Phase<P: Pages, H: GcHeap> {
     FreeOne(SlotName),
     /// Count what is given back as no grant any more.
     UncountObject(Object<P>),
-    /// Count a heap as no grant any more. This is its memory.
-    UncountHeap(HeapLease<H>, MemoryLease<P>),
+    /// Count a heap as no grant any more. This is the memory that was granted with it, if one was.
+    UncountHeap(HeapLease<H>, Option<MemoryLease<P>>),
     /// Put it back into the list of heaps.
-    PutHeap(HeapLease<H>, MemoryLease<P>),
-    /// Free its slot then.
+    PutHeap(HeapLease<H>, Option<MemoryLease<P>>),
+    /// Free its slot then, and give its memory back after that.
     FreeHeap(SlotName, MemoryLease<P>),
     Reset(Object<P>),
     /// Append the local queue to the home queue.

@@ -2,18 +2,20 @@
 ghost use Rattle.std.specs.Prelude.{◌≡◌, ◌<◌, false, Bool, IfSome, Result, None, Some};
 ghost use Rattle.pool_slots.specs.HeapUnits.{heap_slot};
 ghost use Rattle.pool_slots.specs.declared.heap_maker.HeapMakeFault.{HeapMakeFault as Fault};
+ghost use Rattle.pool_alloc.specs.HeapLeases.{memory_under};
 ghost use Rattle.pool_alloc.specs.Leases.{first_index};
 ghost use Rattle.pool_alloc.specs.MemorySteps.{heap_refusal};
 ghost use Rattle.pool_alloc.specs.PartyTold.{MakesHeap};
 ghost use Rattle.pool_alloc.specs.Refusals.{heap_refused};
 ghost use Rattle.pool_alloc.specs.StepReads.{IsHeapAsked, under};
-ghost use Rattle.pool_alloc.specs.StepTable.{test_heap_row, heap_next, make_heap_row};
+ghost use Rattle.pool_alloc.specs.StepTable.{heap_freed, heap_next, make_heap_row, memory_tested, test_heap_row, validated};
 ghost use Rattle.pool_alloc.specs.Turns.{After, goes, stepped};
 ghost use Rattle.pool_alloc.specs.declared.pool_core.PoolCore.{PoolCore};
 
 use crate::frame::{Asked, Frame, Outcome, Phase, TakenSlot};
 use crate::leases::heap::HeapLease;
 use crate::leases::instance::InstanceLease;
+use crate::leases::memory::MemoryLease;
 use crate::memory_pool::rules::type_refused;
 use crate::pool_core::Settings;
 use crate::validate::{refuse_at_once, reserve_grants};
@@ -26,7 +28,7 @@ use pool_slots::{
 use pool_types::Unsupported;
 use std::alloc::Global;
 
-// Tests whether there is a collector, then the type of the heap's memory, and reserves the list for the memory.
+// Tests whether there is a collector, and then the heap's memory.
 #[inline(never)]
 pub(crate) fn test_heap<P: Pages, H: GcHeap>(
     settings: &Settings,
@@ -41,6 +43,37 @@ pub(crate) fn test_heap<P: Pages, H: GcHeap>(
     if !settings.tunables.tunables.collector {
         return refuse_at_once(frame, AllocError::HeapsDisabled, outcome);
     }
+    test_memory(settings, alloc, frame, outcome)
+}
+
+// Tests the type of a memory that is to be allocated for the heap, and reserves the list for it. For a heap over a memory that there
+// is a slot is picked at once.
+fn test_memory<P: Pages, H: GcHeap>(
+    settings: &Settings,
+    alloc: Global,
+    frame: &mut Frame<P, H>,
+    outcome: &mut Option<Outcome<P, H>>,
+)
+    requires can { IsHeapAsked frame.old.asked }
+    requires unanswered { outcome.old ≡ None }
+    ensures { (wants : Bool) × ((c : PoolCore P H) → ◌≡◌ {A = After P H} (record { core = under settings.now c.plan c; frame = frame.new; outcome = outcome.new }) (stepped (memory_tested frame.old.asked wants (under settings.now c.plan c) frame.old))) }
+{
+    match &frame.asked {
+        Asked::HeapOver(_) => frame.go(Phase::Pick(0)),
+        _ => test_type(settings, alloc, frame, outcome),
+    }
+}
+
+fn test_type<P: Pages, H: GcHeap>(
+    settings: &Settings,
+    alloc: Global,
+    frame: &mut Frame<P, H>,
+    outcome: &mut Option<Outcome<P, H>>,
+)
+    requires can { IsHeapAsked frame.old.asked }
+    requires unanswered { outcome.old ≡ None }
+    ensures { (wants : Bool) × ((c : PoolCore P H) → ◌≡◌ {A = After P H} (record { core = under settings.now c.plan c; frame = frame.new; outcome = outcome.new }) (stepped (validated (heap_refused settings.now frame.old.asked) wants (Phase.Pick 0) (under settings.now c.plan c) frame.old))) }
+{
     match heap_refused(settings, frame) {
         Some(rule) => refuse_at_once(frame, AllocError::Unsupported(rule), outcome),
         None => reserve_grants(alloc, frame, Phase::Pick(0), outcome),
@@ -81,8 +114,18 @@ pub(crate) fn make_heap<P: Pages, H: GcHeap, K: HeapMaker<Heap = H>>(
     frame.go(phase)
 }
 
+// The index of the memory that the heap is over.
+pub(crate) fn memory_under<P: Pages, H: GcHeap>(frame: &Frame<P, H>) -> MemoryAllocationIndex
+    ensures { result.0 ≡ memory_under frame.now.asked frame.now.objects.memories.items }
+{
+    match &frame.asked {
+        Asked::HeapOver(memory) => *memory,
+        _ => first_index(&frame.objects),
+    }
+}
+
 // The index of the first memory that was granted, or that of none.
-pub(crate) fn first_index<P: Pages>(objects: &InstanceLease<P>) -> MemoryAllocationIndex
+fn first_index<P: Pages>(objects: &InstanceLease<P>) -> MemoryAllocationIndex
     ensures { result.0 ≡ first_index objects.now.memories.items }
 {
     if objects.memories.is_empty() {
@@ -112,6 +155,20 @@ pub(crate) fn heap_next<P: Pages, H: GcHeap>(at: TakenSlot, heap: Option<H>) -> 
             Phase::CountHeap(HeapLease::new(index, heap, at.numbers))
         }
         None => Phase::MakeHeap(at),
+    }
+}
+
+// What comes next once a heap is back in the list of heaps: its slot is freed, and then the memory that was granted with it is given
+// back, if one was.
+pub(crate) fn heap_freed<P: Pages, H: GcHeap>(
+    name: SlotName,
+    memory: Option<MemoryLease<P>>,
+) -> Phase<P, H>
+    ensures { result ≡ heap_freed name memory }
+{
+    match memory {
+        Some(memory) => Phase::FreeHeap(name, memory),
+        None => Phase::FreeOne(name),
     }
 }
 

@@ -16,11 +16,11 @@ ghost use Rattle.pool_alloc.specs.CanStep.{CanTryShard, CanUnmap, HasAllocators}
 ghost use Rattle.pool_alloc.specs.Freeing.{AreUsedInTurn, HasHome, CanBeFreed};
 ghost use Rattle.pool_alloc.specs.Purges.{image_in};
 ghost use Rattle.pool_alloc.specs.StepReads.{cell_returned, IsHeapsPart, IsQueuePart, heaps_in, shard_in, queue_in, part_holding, freed_of, allocator_for};
-ghost use Rattle.pool_alloc.specs.StepTable.{pick_on, free_one_on, free_on, take_region_on, put_back_on, region_put, take_queue_on, merge_on, take_heap_on, put_heap_on, free_heap_on};
+ghost use Rattle.pool_alloc.specs.StepTable.{pick_on, free_one_on, free_on, take_region_on, put_back_on, region_put, take_queue_on, merge_on, take_heap_on, put_heap_on, heap_freed, free_heap_on};
 ghost use Rattle.pool_alloc.specs.Turns.{PartAfter, part_after, lifted};
 
 use crate::frame::{Frame, Outcome, Phase, TakenSlot};
-use crate::gc_heap_pool::{first_index, heap_next, heap_slot};
+use crate::gc_heap_pool::{heap_freed, heap_next, heap_slot, memory_under};
 use crate::leases::heap::HeapLease;
 use crate::leases::memory::MemoryLease;
 use crate::pool_core::Settings;
@@ -204,7 +204,7 @@ pub(crate) fn take_heap<P: Pages, H: GcHeap>(
     requires here { IsHere name.slot (heaps_in part.old) }
     ensures { ◌≡◌ {A = PartAfter (PoolPart P H) P H} (record { part = part.new; frame = frame.new; outcome = None }) (part_after (lifted (λ x. PoolPart.Heaps x) (take_heap_on name (heaps_in part.old) frame.old))) }
 {
-    let memory = first_index(&frame.objects);
+    let memory = memory_under(frame);
     let heap = take_heap_in(part, name.slot, memory);
     let numbers = RegionNumbers {
         faults: memory.0 as u64,
@@ -235,15 +235,15 @@ pub(crate) fn put_heap<P: Pages, H: GcHeap>(
     part: &mut PoolPart<P, H>,
     frame: &mut Frame<P, H>,
     lease: HeapLease<H>,
-    memory: MemoryLease<P>,
+    memory: Option<MemoryLease<P>>,
 )
     requires list { IsHeapsPart part.old }
     requires out { IsOut lease.index (heaps_in part.old) }
-    ensures { ◌≡◌ {A = PartAfter (PoolPart P H) P H} (record { part = part.new; frame = frame.new; outcome = None }) (part_after (lifted (λ x. PoolPart.Heaps x) (put_heap_on lease.index (Some lease.heap) (Phase.FreeHeap (heap_slot lease.index) memory) (heaps_in part.old) frame.old))) }
+    ensures { ◌≡◌ {A = PartAfter (PoolPart P H) P H} (record { part = part.new; frame = frame.new; outcome = None }) (part_after (lifted (λ x. PoolPart.Heaps x) (put_heap_on lease.index (Some lease.heap) (heap_freed (heap_slot lease.index) memory) (heaps_in part.old) frame.old))) }
 {
     let slot = lease.index().0;
     put_heap_in(part, slot, Some(lease.into_heap()));
-    frame.go(Phase::FreeHeap(heap_slot(slot), memory))
+    frame.go(heap_freed(heap_slot(slot), memory))
 }
 
 pub(crate) fn put_no_heap<P: Pages, H: GcHeap>(

@@ -63,7 +63,8 @@ fn make_next_table<P: Pages, H: GcHeap, L: ResourceLimiter>(
 {
     let table = frame.objects.tables.len();
     match &frame.asked {
-        Asked::Nothing | Asked::Memory(_) | Asked::Stack | Asked::Heap(_) => unreachable!(),
+        Asked::Nothing | Asked::Memory(_) | Asked::Stack | Asked::Heap(_) | Asked::HeapOver(_) =>
+            unreachable!(),
         Asked::Module(call) => {
             let ty = &call.info.tables.as_slice()[table];
             make_table_of(ty, settings, at, region, limiter)

@@ -128,6 +128,7 @@ one_module (asked.Memory m) is = absurd is
 one_module (asked.Table ty) is = absurd is
 one_module asked.Stack is = absurd is
 one_module (asked.Heap ty) is = absurd is
+one_module (asked.HeapOver memory) is = absurd is
 
 -- A call that begins has added nothing.
 pub adds_begin : {T : Type 0} (v : View T) (c most : ℕ) → AddsAtMost v v c most

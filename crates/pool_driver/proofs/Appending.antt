@@ -1,5 +1,5 @@
 -- A call that gives back appends a slot for each object of which its reset leaves something, and one for one object appends none.
-use Rattle.std.proofs.Common.{◌≡◌, ◌⊎◌, ⊎_elim, inl, inr, ℕ, ◌+◌, ◌*◌, ◌<◌, ◌≤◌, Bool, true, false, List, [], ◌∷◌, ◌++◌, length, map, sym, refl, ap, subst, ◌∙◌, arith, true≢false, Option, Some, None, Result, Ok, Err}
+use Rattle.std.proofs.Common.{◌≡◌, ⊎_elim, ℕ, ◌+◌, ◌<◌, ◌≤◌, Bool, true, false, List, [], ◌∷◌, ◌++◌, length, map, sym, refl, ap, subst, ◌∙◌, arith, true≢false, Option, Some, None, Result, Ok, Err}
 use Rattle.std.specs.Prelude.{◌-◌, ◌==◌, ◌||◌, ◌%◌, ◌^◌, nat_lt, nat_le, slice_index, if◌then◌else◌}
 use Rattle.std.proofs.lemmas.Bool.{leb-true, lt-ltb, ltb-true}
 use Rattle.pool_limits.specs.Exchanges.{Exchange}
@@ -32,27 +32,25 @@ use Rattle.pool_slots.specs.declared.plan.Plan.{Plan}
 use Rattle.pool_slots.specs.declared.queued_range.QueuedRange.{QueuedRange}
 use Rattle.pool_slots.specs.declared.queued_range.QueueKind.TheVariants as queued
 use Rattle.pool_slots.specs.declared.slot_name.SlotName.{SlotName}
+use Rattle.pool_slots.specs.HeapLists.{heap_in}
 use Rattle.pool_types.specs.declared.unsupported.Unsupported.{Unsupported}
 use Rattle.pool_alloc.specs.BetweenSteps.{HasNoneWaiting, IsAtRest, IsLeaseOf, IsObjectOf, IsShapedAt, memory_region}
-use Rattle.pool_alloc.specs.CallStages.{stage_at, stage_back, stage_by, stage_of, stage_of_release}
+use Rattle.pool_alloc.specs.CallStages.{stage_at, stage_by, stage_of, stage_of_release}
 use Rattle.pool_alloc.specs.Calls.{begun_call}
 use Rattle.pool_alloc.specs.Leases.{Lease, slot_taken}
-use Rattle.pool_alloc.specs.MemorySteps.{image_made, reset_into}
+use Rattle.pool_alloc.specs.MemorySteps.{reset_into}
 use Rattle.pool_alloc.specs.Objects.{objects_in, objects_wanted}
 use Rattle.pool_alloc.specs.PageCallAnswers.{MayBeTold, ResetTold, Resets}
 use Rattle.pool_alloc.specs.PartyTold.{PartyTold}
-use Rattle.pool_alloc.specs.PoolStacks.{stack_made, stack_reset}
-use Rattle.pool_alloc.specs.PoolTables.{IsTableLease}
-use Rattle.pool_alloc.specs.Reserved.{with_item}
+use Rattle.pool_alloc.specs.PoolStacks.{stack_reset}
 use Rattle.pool_alloc.specs.SoundSteps.{IsSoundStep}
 use Rattle.pool_alloc.specs.StackLeases.{LeasedStack}
-use Rattle.pool_alloc.specs.StepReads.{IsForObjects, IsHeapAsked, IsModule, IsQueuePart, StepGiven, allocator_for, cell_named, heaps_wanted, memories_kept, memories_wanted, queue_at, queue_in, queue_tried, shard_at, shard_tried, stacks_wanted, wanted}
-use Rattle.pool_alloc.specs.StepTable.{FlushStep, run, zero, put, free, component_tested, component_counted, flush_row, flush_step, in_queue, memory_kept, memory_turn, merged, paged, picked, put_first, region_next, reset_turn, row_of, stacks_tested, table_kept, table_turn, taken_next, unmapped_next, was_made, was_made_table, was_reset}
-use Rattle.pool_alloc.specs.Stepping.{is_idle}
+use Rattle.pool_alloc.specs.StepReads.{IsForObjects, IsHeapAsked, IsModule, IsQueuePart, StepGiven, allocator_for, cell_named, heaps_wanted, memories_kept, memories_wanted, queue_at, queue_in, queue_tried, shard_at, shard_tried, heaps_at}
+use Rattle.pool_alloc.specs.StepTable.{FlushStep, run, zero, put, free, component_tested, component_counted, flush_row, flush_step, in_queue, memory_kept, memory_turn, merged, paged, picked, put_first, region_next, reset_turn, row_of, stacks_tested, table_kept, table_turn, taken_next, unmapped_next, was_made, was_made_table, was_reset, heap_counted, heap_next, heaps_tested, make_heap_row, memory_tested}
 use Rattle.pool_alloc.specs.TableLeases.{LeasedTable}
-use Rattle.pool_alloc.specs.TableSteps.{bytes_used, reset_in, table_marks, table_reset_into}
+use Rattle.pool_alloc.specs.TableSteps.{bytes_used, reset_in, table_reset_into}
 use Rattle.pool_alloc.specs.Targets.{next_target}
-use Rattle.pool_alloc.specs.Turns.{After, Left, Row, Turn, after, all_returned, ends, flush as flushes, flush_next, goes as turns_to, granted_next, is_flushed, is_granting, next as goes_next, next_by, no_slot_left, resting, returned_next, search as searches, search_next, slot_search, stays}
+use Rattle.pool_alloc.specs.Turns.{After, Left, Row, Turn, after, all_returned, ends, flush as flushes, flush_next, goes as turns_to, granted_next, is_flushed, is_granting, next as goes_next, next_by, resting, returned_next, search as searches, search_next, slot_search, stays}
 use Rattle.pool_alloc.specs.declared.frame.Asked.{Asked}
 use Rattle.pool_alloc.specs.declared.frame.Asked.TheVariants as asked
 use Rattle.pool_alloc.specs.declared.frame.Call.{Call}
@@ -73,16 +71,18 @@ use Rattle.pool_alloc.specs.declared.pool_core.PoolCore.{PoolCore}
 use Rattle.pool_alloc.specs.declared.pool_core.Settings.{Settings}
 use Rattle.pool_alloc.specs.declared.release.ReleaseStep.{ReleaseStep}
 use Rattle.pool_alloc.specs.declared.release.ReleaseStep.TheVariants as releasing_step
+use Rattle.pool_alloc.specs.HeapLeases.{LeasedHeap}
 use Rattle.pool_alloc.proofs.BegunFrames.{at_rest}
-use Rattle.pool_alloc.proofs.PlanPlaces.{IsQueuePlace, tried_is_queue}
+use Rattle.pool_alloc.proofs.PlanPlaces.{tried_is_queue}
 use Rattle.pool_alloc.proofs.PoolParts.{part_same, queue_part}
 use Rattle.pool_alloc.proofs.SoundSteps.{sound_step}
-use Rattle.pool_driver.specs.Appending.{Dues, IsForOne, NoneAppended, PutsOff, appended_in, bytes_of_table, each_one, frame_dues, grant_dues, instance_dues, is_queue, object_dues, owed_by, phase_dues, queue_appended}
+use Rattle.pool_driver.specs.Appending.{Dues, IsForOne, NoneAppended, PutsOff, appended_in, bytes_of_table, each_one, frame_dues, grant_dues, instance_dues, is_queue, object_dues, owed_by, phase_dues, queue_appended, heap_memory_dues}
 use Rattle.pool_driver.specs.Calling.{Appends, Becomes, CallKind, GoesOnSince, HasAppended, IsAsking, asks_for, gives_back, is_refused, kind_at, kind_of, purges, releases}
 use Rattle.pool_driver.specs.Driving.{Change, changed, counted as counter_up, uncounted as counter_down, unchanged, view_after, IsChangeOf, SeesStep}
-use Rattle.pool_driver.specs.Placed.{About, IsSmall, part_counts, pool_meaning}
+use Rattle.pool_driver.specs.Placed.{About, part_counts, pool_meaning}
 use Rattle.pool_driver.proofs.Naming.{left_is, placed_at}
 use Rattle.pool_driver.proofs.Sparing.{appended_rises, appends_slots, put_keeps_both, queue_stays}
+use Rattle.pool_slots.specs.declared.heap_maker.HeapMakeFault.{HeapMakeFault}
 
 -- What is left of a call.
 module _ {P H : Type 0} (d : Dues) where
@@ -117,6 +117,7 @@ module _ {P H : Type 0} (d : Dues) where
         all (asked.Table ty) = omega (arith, m, t)
         all asked.Stack = omega (arith, m, t)
         all (asked.Heap ty) = omega (arith, m, t)
+        all (asked.HeapOver x) = omega (arith, m, t)
         all asked.Nothing = omega (arith, m, t)
         all (asked.Module x) = omega (arith, m, t)
 
@@ -166,22 +167,7 @@ no_module_one (asked.Memory m) is one = is
 no_module_one (asked.Table ty) is one = is
 no_module_one asked.Stack is one = is
 no_module_one (asked.Heap ty) is one = is
-
-no_heap_one : (what : Asked) → heaps_wanted what ≡ 1 → IsForOne what → ⊥
-no_heap_one (asked.Heap ty) is one = one
-no_heap_one asked.Nothing is one = one
-no_heap_one (asked.Module m) is one = one
-no_heap_one (asked.Memory m) is one = omega (arith, is)
-no_heap_one (asked.Table ty) is one = omega (arith, is)
-no_heap_one asked.Stack is one = omega (arith, is)
-
-no_asked_heap_one : (what : Asked) → IsHeapAsked what → IsForOne what → ⊥
-no_asked_heap_one (asked.Heap ty) is one = one
-no_asked_heap_one asked.Nothing is one = one
-no_asked_heap_one (asked.Module m) is one = one
-no_asked_heap_one (asked.Memory m) is one = is
-no_asked_heap_one (asked.Table ty) is one = is
-no_asked_heap_one asked.Stack is one = is
+no_module_one (asked.HeapOver m) is one = is
 
 module _ {P H : Type 0} where
   -- The phase is one of a reset, or of another call than one that asks or gives back.
@@ -270,6 +256,7 @@ module _ {P H : Type 0} (d : Dues) (c : PoolCore P H) (f : Frame P H) where
   memory_less lease asked.Nothing one next = absurd one
   memory_less lease (asked.Module m) one next = absurd one
   memory_less lease (asked.Heap ty) one next = absurd one
+  memory_less lease (asked.HeapOver m) one next = absurd (omega (arith, next))
 
   table_less : (lease : LeasedTable) (what : Asked) → IsForOne what → length (memories_wanted what) ≤ length f.objects.memories.items → IsForObjects what → length f.objects.memories.items ≤ memories_kept what → frame_dues d (after (table_kept what lease e) (table_turn what lease)).frame ≤ instance_dues d f.objects + 0
   table_less lease (asked.Table ty) one most for few = omega arith
@@ -278,6 +265,38 @@ module _ {P H : Type 0} (d : Dues) (c : PoolCore P H) (f : Frame P H) where
   table_less lease asked.Nothing one most for few = absurd one
   table_less lease (asked.Module m) one most for few = absurd one
   table_less lease (asked.Heap ty) one most for few = absurd one
+  table_less lease (asked.HeapOver m) one most for few = absurd (omega (arith, for.no_heap))
+
+  -- where a memory is asked for besides, that is no one object
+  test_less : (wants : Bool) (what : Asked) → IsForOne what → IsHeapAsked what → frame_dues d (after (memory_tested what wants c e).frame (memory_tested what wants c e).turn).frame ≤ instance_dues d f.objects + 0
+  test_less wants (asked.HeapOver m) one is = omega arith
+  test_less wants (asked.Heap ty) one is = absurd one
+  test_less wants asked.Nothing one is = absurd one
+  test_less wants (asked.Module m) one is = absurd one
+  test_less wants (asked.Memory m) one is = absurd is
+  test_less wants (asked.Table ty) one is = absurd is
+  test_less wants asked.Stack one is = absurd is
+
+  heaps_between : (collector wants : Bool) → IsHeapAsked f.asked → f.ending ≡ granted → RowBetween 0 (heaps_tested collector wants c e)
+  heaps_between false wants is aim = row_turn 0 (heaps_tested false wants c e) refl (λ no. refl) refl
+  heaps_between true wants is aim = asking 0 _ aim (λ one. test_less wants f.asked one is)
+
+  heap_less : (lease : LeasedHeap H) (what : Asked) → IsForOne what → heaps_wanted what ≡ 1 → frame_dues d (after (heap_counted what lease c e).frame (heap_counted what lease c e).turn).frame ≤ instance_dues d f.objects + 0
+  heap_less lease (asked.HeapOver m) one is = omega arith
+  heap_less lease (asked.Heap ty) one is = absurd one
+  heap_less lease asked.Nothing one is = absurd one
+  heap_less lease (asked.Module m) one is = absurd one
+  heap_less lease (asked.Memory m) one is = absurd (omega (arith, is))
+  heap_less lease (asked.Table ty) one is = absurd (omega (arith, is))
+  heap_less lease asked.Stack one is = absurd (omega (arith, is))
+
+  heap_dues : (g : Frame P H) (at : TakenSlot) (o : Option H) → turn_dues d g (heap_next at o) ≡ 0
+  heap_dues g at (Some heap) = refl
+  heap_dues g at None = refl
+
+  heap_between : (at : TakenSlot) (r : Result H HeapMakeFault) → RowBetween 0 (make_heap_row r at c e)
+  heap_between at (Ok heap) = row_turn 0 (make_heap_row (Ok heap) at c e) refl (λ no. no) refl
+  heap_between at (Err fault) = row_turn 0 (make_heap_row (Err fault) at c e) refl (λ no. refl) refl
 
   -- a stack is asked for where there are stacks
   stacks_between : (b : Bool) → f.ending ≡ granted → RowBetween 0 (stacks_tested b c e)
@@ -312,7 +331,7 @@ module _ {P H : Type 0} (d : Dues) (c : PoolCore P H) (f : Frame P H) where
   row_between maker g Key on shape = row_turn 0 (row_of g Key c e) refl (λ no. no) refl
   row_between maker g Validate on shape = never 0 _ (no_module_one f.asked shape.1.asked_for) shape.1.ending
   row_between maker g TestStack on shape = stacks_between (c.settings.stack_size == 0) shape.1.0
-  row_between maker g TestHeap on shape = never 0 _ (no_asked_heap_one f.asked shape.1.2) shape.1.0
+  row_between maker g TestHeap on shape = heaps_between c.settings.tunables.tunables.collector g.wants shape.1.2 shape.1.0
   row_between maker g CountInstance on shape = never 0 _ (no_module_one f.asked shape.1.asked_for) shape.1.ending
   row_between maker g (Pick tried) on shape = row_turn 0 (row_of g (Pick tried) c e) refl (λ no. no) (picked_dues tried _)
   row_between maker g TakeQueue on shape =
@@ -327,17 +346,18 @@ module _ {P H : Type 0} (d : Dues) (c : PoolCore P H) (f : Frame P H) where
   row_between maker g (CountObject (object.Memory lease)) on shape = asking 0 _ shape.1.ending (λ one. memory_less lease f.asked one shape.4)
   row_between maker g (CountObject (object.Table lease)) on shape = asking 0 _ shape.1.ending (λ one. table_less lease f.asked one shape.4.0 shape.4.1 shape.1.to_grant.few)
   row_between maker g (CountObject (object.Stack lease)) on shape = row_turn 0 (row_of g (CountObject (object.Stack lease)) c e) refl (λ no. no) refl
-  row_between maker g (TakeHeap name) on shape = never 0 _ (no_heap_one f.asked shape.3.1) shape.1.ending
-  row_between maker g (MakeHeap at) on shape = never 0 _ (no_heap_one f.asked shape.4.1) shape.1.ending
-  row_between maker g (CountHeap lease) on shape = never 0 _ (no_heap_one f.asked shape.4.1) shape.1.ending
+  row_between maker g (TakeHeap name) on shape = row_turn 0 (row_of g (TakeHeap name) c e) refl (λ no. no) (heap_dues e _ (heap_in name.slot (heaps_at c)))
+  row_between maker g (MakeHeap at) on shape = heap_between at g.heap
+  row_between maker g (CountHeap lease) on shape = asking 0 _ shape.1.ending (λ one. heap_less lease f.asked one shape.4.1)
   row_between maker g (PutNoHeap at) on shape = row_turn 0 (row_of g (PutNoHeap at) c e) refl (λ no. no) refl
   row_between maker g (PutBack at has) on shape = row_turn 0 (row_of g (PutBack at has) c e) refl (λ no. no) refl
   row_between maker g (FreeOne name) on shape = row_turn 0 (row_of g (FreeOne name) c e) refl (λ no. no) refl
   row_between maker g (UncountObject (object.Memory lease)) on shape = row_turn (d.memory lease) (row_of g (UncountObject (object.Memory lease)) c e) refl (λ no. no) refl
   row_between maker g (UncountObject (object.Table lease)) on shape = row_turn (d.table lease) (row_of g (UncountObject (object.Table lease)) c e) refl (λ no. no) refl
   row_between maker g (UncountObject (object.Stack lease)) on shape = row_turn (d.stack lease) (row_of g (UncountObject (object.Stack lease)) c e) refl (λ no. no) refl
-  row_between maker g (UncountHeap lease memory) on shape = row_turn (d.memory memory) (row_of g (UncountHeap lease memory) c e) refl (λ no. no) refl
-  row_between maker g (PutHeap lease memory) on shape = row_turn (d.memory memory) (row_of g (PutHeap lease memory) c e) refl (λ no. no) refl
+  row_between maker g (UncountHeap lease memory) on shape = row_turn (heap_memory_dues d memory) (row_of g (UncountHeap lease memory) c e) refl (λ no. no) refl
+  row_between maker g (PutHeap lease (Some memory)) on shape = row_turn (d.memory memory) (row_of g (PutHeap lease (Some memory)) c e) refl (λ no. no) refl
+  row_between maker g (PutHeap lease None) on shape = row_turn 0 (row_of g (PutHeap lease None) c e) refl (λ no. no) refl
   row_between maker g (FreeHeap name memory) on shape = row_turn (d.memory memory) (row_of g (FreeHeap name memory) c e) refl (λ no. no) refl
   row_between maker g (Reset held) on shape = absurd (true≢false on)
   row_between maker g Merge on shape =
@@ -484,7 +504,7 @@ back_stays : (k : CallKind) → Becomes gives_back k → k ≡ gives_back
 back_stays k = ⊎_elim (λ (same : k ≡ gives_back). same) (λ (other : IsAsking gives_back × (k ≡ is_refused)). absurd other.0)
 
 -- a call that asked has objects
-asks_has : (k : CallKind) → Becomes asks_for k → HasObjects k
+pub asks_has : (k : CallKind) → Becomes asks_for k → HasObjects k
 asks_has k = ⊎_elim
     (λ (same : k ≡ asks_for). ((λ (is : purges ≡ k). let apart : purges ≡ asks_for = is ∙ same in absurd cc), (λ (is : releases ≡ k). let apart : releases ≡ asks_for = is ∙ same in absurd cc)))
     (λ (other : IsAsking asks_for × (k ≡ is_refused)). ((λ (is : purges ≡ k). let apart : purges ≡ is_refused = is ∙ other.1 in absurd cc), (λ (is : releases ≡ k). let apart : releases ≡ is_refused = is ∙ other.1 in absurd cc)))
@@ -508,6 +528,7 @@ module _ {P H : Type 0} where
   begun_owes d (grant.Table lease) f rests = omega (arith, objects_none d f rests)
   begun_owes d (grant.Stack lease) f rests = omega (arith, objects_none d f rests)
   begun_owes d (grant.Heap lease memory) f rests = omega (arith, objects_none d f rests)
+  begun_owes d (grant.HeapOver lease) f rests = omega (arith, objects_none d f rests)
 
   -- and has appended nothing.
   pub appends_begin : {T : Type 0} (a : About) (v : View T) (c : Call P H) (f : Frame P H) → IsAtRest f → kind_at (stage_of (begun_call c f)) ≡ kind_of c → Appends a v v (begun_call c f) (begun_call c f)
@@ -521,6 +542,7 @@ module _ {P H : Type 0} where
       alone (call.Table ty) asks one = omega (arith, objects_none each_one f rests)
       alone call.Stack asks one = omega (arith, objects_none each_one f rests)
       alone (call.Heap ty) asks one = absurd one
+      alone (call.HeapOver memory) asks one = omega (arith, objects_none each_one f rests)
       alone (call.GiveBack x) asks one = absurd cc
       alone (call.Purge id) asks one = absurd cc
       alone call.Release asks one = absurd cc

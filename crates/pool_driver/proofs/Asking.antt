@@ -1,5 +1,5 @@
 -- What a call exchanges with its limiter and its maker of heaps, step after step.
-use Rattle.std.proofs.Common.{◌≡◌, ◌⊎◌, ⊎_elim, inl, inr, ℕ, ◌+◌, ◌<◌, ◌≤◌, Bool, true, false, List, [], ◌∷◌, ◌++◌, length, map, take, refl, sym, ap, subst, ◌∙◌, arith, true≢false, Option, Some, None, Result, Ok, Err, IfSome, slice_get}
+use Rattle.std.proofs.Common.{◌≡◌, ◌⊎◌, ⊎_elim, inl, inr, ℕ, ◌+◌, ◌<◌, ◌≤◌, Bool, true, false, List, [], ◌∷◌, ◌++◌, length, map, take, refl, sym, ap, subst, ◌∙◌, arith, true≢false, Option, Some, None, Result, Ok, Err, IfSome, slice_get, zero, suc}
 use Rattle.pool_types.specs.declared.module_types.MemoryDecl.{MemoryDecl}
 use Rattle.pool_types.specs.declared.table_type.TableType.{TableType}
 use Rattle.pool_types.specs.declared.unsupported.Unsupported.{Unsupported}
@@ -40,7 +40,7 @@ use Rattle.pool_alloc.specs.declared.frame.Call.TheVariants as call
 use Rattle.pool_alloc.specs.declared.frame.Ending.{Ending}
 use Rattle.pool_alloc.specs.declared.frame.Ending.TheVariants.{Granted as granted}
 use Rattle.pool_alloc.specs.declared.frame.Frame.{Frame}
-use Rattle.pool_alloc.specs.declared.frame.Grant.TheVariants.{Instance, Component, Memory as memory_granted, Table as table_granted, Stack, Heap}
+use Rattle.pool_alloc.specs.declared.frame.Grant.TheVariants.{Instance, Component, Memory as memory_granted, Table as table_granted, Stack, Heap, HeapOver}
 use Rattle.pool_alloc.specs.declared.frame.Outcome.{Outcome}
 use Rattle.pool_alloc.specs.declared.frame.Outcome.TheVariants.{Key, Granted, Returned, Purged, Released, Refused}
 use Rattle.pool_alloc.specs.declared.frame.Phase.{Phase}
@@ -50,14 +50,17 @@ use Rattle.pool_alloc.specs.declared.leases.instance.InstanceLease.{InstanceLeas
 use Rattle.pool_alloc.specs.declared.pool_core.PoolCore.{PoolCore}
 use Rattle.pool_alloc.proofs.BeforeTheTurn.{kept_of}
 use Rattle.pool_alloc.proofs.SoundSteps.{sound_step}
-use Rattle.pool_driver.specs.Asking.{AnsweredAfter, AnswersMade, AskedSince, AskedSoFar, AsksNobody, CallAsks, HasAsked, HasCause, HasMade, IfRefused, IfRefusing, IsForHeap, IsQuiet, MayHaveMade, NamesObject, RefusedAfter, RequestAsked, YesTo, all_yes, questions}
-use Rattle.pool_driver.specs.Calling.{gives_back, kind_at}
+use Rattle.pool_driver.specs.Asking.{AnsweredAfter, AnswersMade, AskedSince, AskedSoFar, AsksNobody, CallAsks, HasAsked, HasCause, HasMade, IfRefused, IfRefusing, WantsOfMaker, IsForHeap, IsQuiet, MayHaveMade, NamesObject, RefusedAfter, RequestAsked, YesTo, all_yes, questions}
+use Rattle.pool_driver.specs.Calling.{gives_back, kind_at, releases}
 use Rattle.pool_driver.specs.Driving.{SeesStep}
 use Rattle.pool_driver.specs.Placed.{About}
+use Rattle.pool_driver.specs.Refusing.{IsCallFor}
 use Rattle.pool_driver.proofs.Calling.{begun_kind}
+use Rattle.pool_driver.proofs.OverWants.{broken_wants, limit_wants, raise_wants}
 use Rattle.pool_driver.proofs.MadeObjects.{HasAtMost, HasNumber, KeepsMade, flush_row_keeps, heap_keeps, heap_made_keeps, made_until, no_stack_next, none_back, none_counted_back, none_released, not_stack, number_is, paged_keeps, picked_keeps, queue_keeps, region_keeps, at_most}
 use Rattle.pool_driver.proofs.Causes.{broken_cause, cause_on, cause_since, exchanged_on, raise_cause, table_below, told_on}
 use Rattle.pool_driver.proofs.Questions.{AnswersSo, EndsSo, IsNoLimiter, all_asked, asked_after, first_at, later_at, mapped_at, memory_ends, no_tables, other_after, some_yes, table_ends, there_is, yes_here, yes_more, yes_there}
+use Rattle.pool_slots.specs.declared.allocation_index.MemoryAllocationIndex.{MemoryAllocationIndex}
 
 -- a call for a memory, or for objects of which one is a memory, asks
 with_memory : (a : Asked) (k : ℕ) → k < length (memories_wanted a) → stacks_wanted a ≡ 0
@@ -67,6 +70,7 @@ with_memory (asked_for.Memory m) k below = refl
 with_memory (asked_for.Table ty) k below = refl
 with_memory asked_for.Stack k below = absurd (omega (arith, below))
 with_memory (asked_for.Heap ty) k below = refl
+with_memory (asked_for.HeapOver memory) k below = refl
 
 with_heap : (a : Asked) → heaps_wanted a ≡ 1 → stacks_wanted a ≡ 0
 with_heap asked_for.Nothing one = refl
@@ -75,6 +79,7 @@ with_heap (asked_for.Memory m) one = refl
 with_heap (asked_for.Table ty) one = refl
 with_heap asked_for.Stack one = absurd (omega (arith, one))
 with_heap (asked_for.Heap ty) one = refl
+with_heap (asked_for.HeapOver memory) one = refl
 
 asks_some : (a : Asked) (n : ℕ) → stacks_wanted a ≡ 0 → AsksNobody (asks (progress_by a n)) → ⊥
 asks_some asked_for.Nothing n none quiet = quiet
@@ -83,6 +88,7 @@ asks_some (asked_for.Memory m) n none quiet = quiet
 asks_some (asked_for.Table ty) n none quiet = quiet
 asks_some asked_for.Stack n none quiet = omega (arith, none)
 asks_some (asked_for.Heap ty) n none quiet = quiet
+asks_some (asked_for.HeapOver memory) n none quiet = quiet
 
 asks_then : (s : Stage) (a : Asked) (aim : Ending) (n : ℕ) → s ≡ stage_by a aim n → aim ≡ granted → stacks_wanted a ≡ 0 → AsksNobody s → ⊥
 asks_then s a aim n is grants none quiet = asks_some a n none (subst AsksNobody (is ∙ ap (λ (x : Ending). stage_by a x n) grants) quiet)
@@ -94,6 +100,7 @@ not_made (asked_for.Memory m) n made = made
 not_made (asked_for.Table ty) n made = made
 not_made asked_for.Stack n made = made
 not_made (asked_for.Heap ty) n made = made
+not_made (asked_for.HeapOver memory) n made = made
 
 not_made_then : (s : Stage) (a : Asked) (aim : Ending) (n : ℕ) → s ≡ stage_by a aim n → aim ≡ granted → MayHaveMade s → ⊥
 not_made_then s a aim n is grants made = not_made a n (subst MayHaveMade (is ∙ ap (λ (x : Ending). stage_by a x n) grants) made)
@@ -476,6 +483,7 @@ module _ {T P H : Type 0} (about : T → About) (inner : T → PoolPart P H) (Pa
     silent_last (asks p) no_call (Granted (Stack lease)) was some goes other had = stack_last p goes.0 had
     silent_last (asks p) no_call (Granted (Instance lease)) was some goes other had = instance_last p lease was some goes.0 had
     silent_last (asks counts_heap) no_call (Granted (Heap lease memory)) was some goes other had = had
+    silent_last (asks counts_heap) no_call (Granted (HeapOver lease)) was some goes other had = had
     silent_last (asks untested) no_call (Refused x) was some goes other had = silent_fails untested x xs other had
     silent_last (asks (seeks_single n)) no_call (Refused x) was some goes other had = silent_fails (seeks_single n) x xs other.0 had
     silent_last (asks seeks_stack) no_call (Refused x) was some goes other had = silent_fails seeks_stack x xs other had
@@ -551,11 +559,62 @@ module _ {T P H : Type 0} (about : T → About) (inner : T → PoolPart P H) (Pa
     raised : (p : Progress) (x : AllocError) → stage_of f ≡ asks p → Raises a.maker old new c f p x → HasCause told new x
     raised p x is raises = cause_since told old new since.passed x since.told (fresh_heaps p is (λ same. subst (λ (q : Progress). Raises a.maker old new c f q x) same raises)) (raise_cause a.maker old new c f s.can.core.settings p x raises)
 
+    raised_wants : (p : Progress) (x : AllocError) → stage_of f ≡ asks p → IsCallFor (stage_of f) f.asked → Raises a.maker old new c f p x → WantsOfMaker H f.asked told.heaps new.heaps x
+    raised_wants p x is for raises =
+        subst (λ (h : HeapsTold). WantsOfMaker H f.asked h new.heaps x) (fresh_heaps p is (λ same. subst (λ (q : Progress). Raises a.maker old new c f q x) same raises))
+        (raise_wants a.maker old new c f f.asked p x refl (subst (λ (t : Stage). IsCallFor t f.asked) is for) raises)
+
     -- A call that is to be refused makes no heap.
     kept : (x : AllocError) → stage_of f ≡ refusing x → HasCause told new x
     kept x is = cause_on told old new heard.passed x heard.told
         (⊎_elim (λ (same : new.heaps ≡ old.heaps). same) (λ (step : StepMade). absurd (step.before (subst MayHaveMade (sym is) tt))) made)
         (subst (IfRefusing (HasCause told old)) is since.cause)
+
+    kept_wants : (x : AllocError) → stage_of f ≡ refusing x → WantsOfMaker H f.asked told.heaps new.heaps x
+    kept_wants x is =
+        subst (λ (h : HeapsTold). WantsOfMaker H f.asked told.heaps h x)
+        (sym (⊎_elim (λ (same : new.heaps ≡ old.heaps). same) (λ (step : StepMade). absurd (step.before (subst MayHaveMade (sym is) tt))) made))
+        (subst (IfRefusing (WantsOfMaker H f.asked told.heaps old.heaps)) is since.wants)
+
+    wants_next : (p q : Stage) → stage_of f ≡ p → IsCallFor (stage_of f) f.asked → Goes a.maker old new c f p q None → IfRefusing (WantsOfMaker H f.asked told.heaps new.heaps) q
+    wants_next (asks p) (refusing x) is for goes = raised_wants p x is for goes
+    wants_next counts_component (refusing x) is for goes = subst (WantsOfMaker H f.asked told.heaps new.heaps) (sym goes.0) (limit_wants H f.asked told.heaps new.heaps _)
+    wants_next (refusing x) (refusing y) is for goes = subst (WantsOfMaker H f.asked told.heaps new.heaps) (sym goes) (kept_wants x is)
+    wants_next no_call no_call is for goes = tt
+    wants_next keys no_call is for goes = absurd goes
+    wants_next (asks p) (asks q) is for goes = tt
+    wants_next (tests_component info) counts_component is for goes = tt
+    wants_next returning returning is for goes = tt
+    wants_next purging purging is for goes = tt
+    wants_next reserving releasing is for goes = tt
+    wants_next releasing releasing is for goes = tt
+    wants_next p q is for goes = absurd goes
+
+    -- A release may want memory, and has no request.
+    wants_last : (p q : Stage) (x : Outcome P H) → stage_of f ≡ p → IsCallFor (stage_of f) f.asked → (releases ≡ kind_at (stage_of f) → ⊥) → Goes a.maker old new c f p q (Some x) → IfRefused (WantsOfMaker H f.asked told.heaps new.heaps) x
+    wants_last no_call no_call (Refused x) is for unlike goes = absurd goes
+    wants_last (asks uncounted) no_call (Refused x) is for unlike goes = absurd goes
+    wants_last (asks (admitted n)) no_call (Refused x) is for unlike goes = absurd goes
+    wants_last (asks counts_heap) no_call (Refused x) is for unlike goes = absurd goes
+    wants_last keys no_call (Refused x) is for unlike goes = absurd goes
+    wants_last counts_component no_call (Refused x) is for unlike goes = absurd goes
+    wants_last returning no_call (Refused x) is for unlike goes = absurd goes
+    wants_last purging no_call (Refused x) is for unlike goes = absurd goes
+    wants_last releasing no_call (Refused x) is for unlike goes = absurd goes
+    wants_last (asks untested) no_call (Refused x) is for unlike goes = raised_wants untested x is for goes
+    wants_last (asks (seeks_single n)) no_call (Refused x) is for unlike goes = raised_wants (seeks_single n) x is for goes.0
+    wants_last (asks seeks_stack) no_call (Refused x) is for unlike goes = raised_wants seeks_stack x is for goes
+    wants_last (asks tests_heap) no_call (Refused x) is for unlike goes = raised_wants tests_heap x is for goes
+    wants_last (asks (seeks_heap n)) no_call (Refused x) is for unlike goes = raised_wants (seeks_heap n) x is for goes.0
+    wants_last (tests_component info) no_call (Refused x) is for unlike goes = broken_wants H f.asked told.heaps new.heaps _ x goes
+    wants_last (refusing y) no_call (Refused x) is for unlike goes = subst (WantsOfMaker H f.asked told.heaps new.heaps) (sym goes) (kept_wants y is)
+    wants_last reserving no_call (Refused x) is for unlike goes = absurd (unlike (ap kind_at (sym is)))
+    wants_last p q Key is for unlike goes = tt
+    wants_last p q (Granted grant) is for unlike goes = tt
+    wants_last p q Returned is for unlike goes = tt
+    wants_last p q (Purged n) is for unlike goes = tt
+    wants_last p q (Released n) is for unlike goes = tt
+    wants_last p q (Refused x) is for unlike goes = absurd goes
 
     cause_next : (p q : Stage) → stage_of f ≡ p → Goes a.maker old new c f p q None → IfRefusing (HasCause told new) q
     cause_next (asks p) (refusing x) is goes = raised p x is goes
@@ -607,8 +666,8 @@ module _ {T P H : Type 0} (about : T → About) (inner : T → PoolPart P H) (Pa
 
     module _ (now : L) (exchanged : Exchanged leads heard.passed was now) where
       -- So the call goes on.
-      pub asks_on : o ≡ None → next.asked ≡ f.asked → Goes a.maker old new c f (stage_of f) (stage_of next) None → AskedSince leads first now told new begun next
-      asks_on none same_asked goes = record {
+      pub asks_on : o ≡ None → next.asked ≡ f.asked → IsCallFor (stage_of f) f.asked → Goes a.maker old new c f (stage_of f) (stage_of next) None → AskedSince leads first now told new begun next
+      asks_on none same_asked for goes = record {
         passed = since.passed ++ heard.passed;
         exchanged = exchanged_on leads since.passed heard.passed first was now since.exchanged exchanged;
         told = told_now;
@@ -627,6 +686,7 @@ module _ {T P H : Type 0} (about : T → About) (inner : T → PoolPart P H) (Pa
             let here = quiet_here had.0 in
             (quiet_on (stage_of f) (stage_of next) goes had.0, none_passed had.1 here.0, here.1 ∙ had.2);
         cause = cause_next (stage_of f) (stage_of next) refl goes;
+        wants = subst (λ (z : Asked). IfRefusing (WantsOfMaker H z told.heaps new.heaps) (stage_of next)) (sym same_asked) (wants_next (stage_of f) (stage_of next) refl for goes);
         so_far = subst (λ (z : Asked). AskedSoFar z (stage_of next) (since.passed ++ heard.passed)) (sym same_asked) (said_next since.passed heard.passed none heard.said since.so_far);
       }
 
@@ -662,11 +722,16 @@ module _ {T P H L : Type 0} (about : T → About) (inner : T → PoolPart P H) (
   way : Goes a.maker old new s.core f (stage_of f) (stage_of next) o
   way = (sound_step a.maker old new s.core f (record { core = s.left; frame = next; outcome = o }) s.can (s.row.0, s.row.1.0)).goes.way
 
-  pub call_asks_on : o ≡ None → next.asked ≡ f.asked → AskedSince leads first now told new begun next
-  call_asks_on none same_asked = asks_on about inner (λ passed. Exchanged leads passed was now) old new a v w f next o s leads first was told begun since now passes none same_asked (subst (λ (z : Option (Outcome P H)). Goes a.maker old new s.core f (stage_of f) (stage_of next) z) none way)
+  pub call_asks_on : o ≡ None → next.asked ≡ f.asked → IsCallFor (stage_of f) f.asked → AskedSince leads first now told new begun next
+  call_asks_on none same_asked for = asks_on about inner (λ passed. Exchanged leads passed was now) old new a v w f next o s leads first was told begun since now passes none same_asked for (subst (λ (z : Option (Outcome P H)). Goes a.maker old new s.core f (stage_of f) (stage_of next) z) none way)
 
   pub call_has_asked : (x : Outcome P H) → o ≡ Some x → f.asked ≡ begun.asked → HasAsked leads (AsksNobody (stage_of begun)) (heaps_wanted begun.asked ≡ 1) (AnsweredAfter begun.asked x) first now told new x
   call_has_asked x some same_asked = has_asked about inner (λ passed. Exchanged leads passed was now) old new a v w f next o s leads first was told begun since now passes x some same_asked (subst (λ (z : Option (Outcome P H)). Goes a.maker old new s.core f (stage_of f) (stage_of next) z) some way)
+
+  pub call_has_wanted : (x : Outcome P H) → o ≡ Some x → f.asked ≡ begun.asked → IsCallFor (stage_of f) f.asked → (releases ≡ kind_at (stage_of f) → ⊥) → IfRefused (WantsOfMaker H begun.asked told.heaps new.heaps) x
+  call_has_wanted x some same_asked for unlike =
+      subst (λ (z : Asked). IfRefused (WantsOfMaker H z told.heaps new.heaps) x) same_asked
+      (wants_last about inner (λ passed. Exchanged leads passed was now) old new a v w f next o s leads first was told begun since (stage_of f) (stage_of next) x refl for unlike (subst (λ (z : Option (Outcome P H)). Goes a.maker old new s.core f (stage_of f) (stage_of next) z) some way))
 
 -- A call that begins has asked nobody, and is not refused yet.
 returning_kept : (Q : AllocError → Type 0) (s : Stage) → kind_at s ≡ gives_back → IfRefusing Q s × AsksNobody s
@@ -693,6 +758,23 @@ returning_asked a purging is = refl
 returning_asked a reserving is = refl
 returning_asked a releasing is = refl
 
+-- what nobody asks
+none_at : (xs : List GrowthQuestion) (k : ℕ) → xs ≡ [] → slice_get xs k ≡ None
+none_at [] zero is = refl
+none_at [] (suc k) is = refl
+none_at (x ∷ xs) k is = absurd cc
+
+none_taken : (xs : List GrowthQuestion) (n : ℕ) → xs ≡ [] → take n xs ≡ []
+none_taken [] zero is = refl
+none_taken [] (suc n) is = refl
+none_taken (x ∷ xs) n is = absurd cc
+
+-- nothing passes in a call for a heap over a memory that there is, which has no question for a limiter
+over_refused : (memory : MemoryAllocationIndex) (e : AllocError) (xs : List Exchange) → RefusedAfter (asked_for.HeapOver memory) e xs → xs ≡ []
+over_refused memory (refusal.LimiterDenied table min) xs said = absurd (let none : None ≡ Some said.0.question = sym (none_at (questions (asked_for.HeapOver memory)) said.0.number refl) ∙ said.0.is in cc)
+over_refused memory (refusal.LimiterFault x) xs said = absurd (let none : None ≡ Some said.question = sym (none_at (questions (asked_for.HeapOver memory)) said.number refl) ∙ said.is in cc)
+over_refused memory e xs said = said.1 ∙ ap all_yes (none_taken (questions (asked_for.HeapOver memory)) said.0 refl)
+
 module _ {P H : Type 0} where
   not_refusing : (Q : AllocError → Type 0) (c : Call P H) (f : Frame P H) → IfRefusing Q (stage_of (begun_call c f))
   not_refusing Q call.Key f = tt
@@ -702,6 +784,7 @@ module _ {P H : Type 0} where
   not_refusing Q (call.Table ty) f = tt
   not_refusing Q call.Stack f = tt
   not_refusing Q (call.Heap ty) f = tt
+  not_refusing Q (call.HeapOver memory) f = tt
   not_refusing Q (call.GiveBack grant) f = (returning_kept Q (stage_of (begun_call (call.GiveBack grant) f)) (begun_kind (call.GiveBack grant) f)).0
   not_refusing Q (call.Purge id) f = tt
   not_refusing Q call.Release f = tt
@@ -714,6 +797,7 @@ module _ {P H : Type 0} where
   quiet_call (call.Table ty) f quiet = absurd quiet
   quiet_call call.Stack f quiet = tt
   quiet_call (call.Heap ty) f quiet = absurd quiet
+  quiet_call (call.HeapOver memory) f quiet = absurd quiet
   quiet_call (call.GiveBack grant) f quiet = (returning_kept (λ e. Unit {0}) (stage_of (begun_call (call.GiveBack grant) f)) (begun_kind (call.GiveBack grant) f)).1
   quiet_call (call.Purge id) f quiet = tt
   quiet_call call.Release f quiet = tt
@@ -726,9 +810,24 @@ module _ {P H : Type 0} where
   none_asked (call.Table ty) f none = subst (λ (n : ℕ). YesTo (asked_for.Table ty) n []) (sym none) refl
   none_asked call.Stack f none = refl
   none_asked (call.Heap ty) f none = refl
+  none_asked (call.HeapOver memory) f none = refl
   none_asked (call.GiveBack grant) f none = returning_asked (begun_call (call.GiveBack grant) f).asked (stage_of (begun_call (call.GiveBack grant) f)) (begun_kind (call.GiveBack grant) f)
   none_asked (call.Purge id) f none = refl
   none_asked call.Release f none = refl
+
+  over_says : (memory : MemoryAllocationIndex) (o : Outcome P H) (xs : List Exchange) → AnsweredAfter (asked_for.HeapOver memory) o xs → xs ≡ []
+  over_says memory (Refused e) xs says = over_refused memory e xs says
+  over_says memory (Granted (Instance lease)) xs says = says
+  over_says memory (Granted Component) xs says = says
+  over_says memory (Granted (memory_granted lease)) xs says = says
+  over_says memory (Granted (table_granted lease)) xs says = says
+  over_says memory (Granted (Stack lease)) xs says = says
+  over_says memory (Granted (Heap lease of)) xs says = says
+  over_says memory (Granted (HeapOver lease)) xs says = says
+  over_says memory Key xs says = says
+  over_says memory Returned xs says = says
+  over_says memory (Purged n) xs says = says
+  over_says memory (Released n) xs says = says
 
   -- what passed in a call that asks, and in one that doesn't
   call_says : (c : Call P H) (f : Frame P H) (o : Outcome P H) (xs : List Exchange) → (IsQuiet c → xs ≡ []) → AnsweredAfter (begun_call c f).asked o xs → CallAsks c o xs
@@ -739,6 +838,7 @@ module _ {P H : Type 0} where
   call_says (call.Table ty) f o xs quiet says = says
   call_says call.Stack f o xs quiet says = quiet tt
   call_says (call.Heap ty) f o xs quiet says = says
+  call_says (call.HeapOver memory) f o xs quiet says = over_says memory o xs says
   call_says (call.GiveBack grant) f o xs quiet says = quiet tt
   call_says (call.Purge id) f o xs quiet says = quiet tt
   call_says call.Release f o xs quiet says = quiet tt
@@ -752,13 +852,14 @@ module _ {P H : Type 0} where
   call_made Same Made (call.Table ty) f quiet made = ⊎_elim (λ (same : Same). inl same) (λ (one : (heaps_wanted (begun_call (call.Table ty) f).asked ≡ 1) × Made). absurd (omega (arith, one.0))) made
   call_made Same Made call.Stack f quiet made = inl (quiet tt)
   call_made Same Made (call.Heap ty) f quiet made = ⊎_elim (λ (same : Same). inl same) (λ (one : (heaps_wanted (begun_call (call.Heap ty) f).asked ≡ 1) × Made). inr (tt, one.1)) made
+  call_made Same Made (call.HeapOver memory) f quiet made = ⊎_elim (λ (same : Same). inl same) (λ (one : (heaps_wanted (begun_call (call.HeapOver memory) f).asked ≡ 1) × Made). inr (tt, one.1)) made
   call_made Same Made (call.GiveBack grant) f quiet made = inl (quiet tt)
   call_made Same Made (call.Purge id) f quiet made = inl (quiet tt)
   call_made Same Made call.Release f quiet made = inl (quiet tt)
 
   module _ {L : Type 0} (leads : L → Exchange → L → Type 0) where
     pub asked_begun : (limiter : L) (told : PartyTold) (c : Call P H) (f : Frame P H) → objects_in f.objects ≡ 0 → AskedSince leads limiter limiter told told (begun_call c f) (begun_call c f)
-    asked_begun limiter told c f none = record { passed = []; exchanged = refl; told = refl; made = inl refl; quiet = λ quiet. (quiet, refl, refl); cause = not_refusing (HasCause told told) c f; so_far = none_asked c f none }
+    asked_begun limiter told c f none = record { passed = []; exchanged = refl; told = refl; made = inl refl; quiet = λ quiet. (quiet, refl, refl); cause = not_refusing (HasCause told told) c f; wants = not_refusing (WantsOfMaker H (begun_call c f).asked told.heaps told.heaps) c f; so_far = none_asked c f none }
 
     -- What is so of a call that began is so of the call.
     pub call_asked : (first last : L) (old new : PartyTold) (c : Call P H) (f : Frame P H) (o : Outcome P H) → HasAsked leads (AsksNobody (stage_of (begun_call c f))) (heaps_wanted (begun_call c f).asked ≡ 1) (AnsweredAfter (begun_call c f).asked o) first last old new o → HasAsked leads (IsQuiet c) (IsForHeap c) (CallAsks c o) first last old new o

@@ -18,12 +18,12 @@ use Rattle.pool_alloc.specs.TableLeases.{LeasedTable, table_slot, table_taken}
 use Rattle.pool_alloc.specs.StackLeases.{stack_taken}
 use Rattle.pool_alloc.specs.HeapLeases.{heap_slot_taken}
 use Rattle.pool_alloc.specs.Objects.{slot_of_object}
-use Rattle.pool_alloc.specs.Places.{Thing, slot_count, both_count, taken_count, queued_count, leased_count, tables_count, freed_count, instance_count, purge_count, release_count, phase_count, frame_count}
+use Rattle.pool_alloc.specs.Places.{Thing, slot_count, both_count, taken_count, queued_count, leased_count, tables_count, freed_count, instance_count, purge_count, release_count, phase_count, frame_count, heap_memory_count}
 use Rattle.pool_alloc.specs.Stepping.{grant_count, count_granted}
 use Rattle.pool_alloc.specs.declared.frame.Frame.{Frame}
 use Rattle.pool_alloc.specs.declared.frame.FreedSlot.{FreedSlot}
 use Rattle.pool_alloc.specs.declared.frame.TakenSlot.{TakenSlot}
-use Rattle.pool_alloc.specs.declared.frame.Grant.TheVariants.{Instance, Component, Memory, Table, Stack, Heap}
+use Rattle.pool_alloc.specs.declared.frame.Grant.TheVariants.{Instance, Component, Memory, Table, Stack, Heap, HeapOver}
 use Rattle.pool_alloc.specs.declared.frame.Outcome.{Outcome}
 use Rattle.pool_alloc.specs.declared.frame.Outcome.TheVariants as answer
 use Rattle.pool_alloc.specs.declared.frame.Phase.{Phase}
@@ -118,6 +118,10 @@ module _ {P : Type 0} where
   pairs_release (releasing_step.PutRegion r k at held) = pairs_sum (λ t. taken_count t at) (λ t. freed_count t (remove r.taken.items k)) (pairs_taken at) (pairs_freed (remove r.taken.items k))
   pairs_release (releasing_step.Free r x) = pairs_sum (λ t. slot_count t x.name) (λ t. freed_count t r.taken.items) (pairs_slot x.name) (pairs_freed r.taken.items)
 
+pairs_memory : (memory : Option Lease) → Pairs (λ t. heap_memory_count t memory)
+pairs_memory (Some memory) = pairs_taken (slot_taken memory)
+pairs_memory None = pairs_none
+
 module _ {P H : Type 0} where
   pairs_phase : (p : Phase P H) → Pairs (λ t. phase_count t p)
   pairs_phase (TakeRegion name) = pairs_slot name
@@ -133,8 +137,8 @@ module _ {P H : Type 0} where
   pairs_phase (MakeHeap at) = pairs_taken at
   pairs_phase (CountHeap lease) = pairs_taken (heap_slot_taken lease)
   pairs_phase (PutNoHeap at) = pairs_taken at
-  pairs_phase (UncountHeap lease memory) = pairs_sum (λ t. taken_count t (heap_slot_taken lease)) (λ t. taken_count t (slot_taken memory)) (pairs_taken (heap_slot_taken lease)) (pairs_taken (slot_taken memory))
-  pairs_phase (PutHeap lease memory) = pairs_sum (λ t. taken_count t (heap_slot_taken lease)) (λ t. taken_count t (slot_taken memory)) (pairs_taken (heap_slot_taken lease)) (pairs_taken (slot_taken memory))
+  pairs_phase (UncountHeap lease memory) = pairs_sum (λ t. taken_count t (heap_slot_taken lease)) (λ t. heap_memory_count t memory) (pairs_taken (heap_slot_taken lease)) (pairs_memory memory)
+  pairs_phase (PutHeap lease memory) = pairs_sum (λ t. taken_count t (heap_slot_taken lease)) (λ t. heap_memory_count t memory) (pairs_taken (heap_slot_taken lease)) (pairs_memory memory)
   pairs_phase (FreeHeap name memory) = pairs_sum (λ t. slot_count t name) (λ t. taken_count t (slot_taken memory)) (pairs_slot name) (pairs_taken (slot_taken memory))
   pairs_phase (Reset object) = pairs_taken (slot_of_object object)
   pairs_phase (Purge p step) = pairs_purge step
@@ -157,6 +161,7 @@ module _ {P H : Type 0} where
   pairs_answer (Some (answer.Granted (Table lease))) = pairs_taken (table_taken lease)
   pairs_answer (Some (answer.Granted (Stack lease))) = pairs_taken (stack_taken lease)
   pairs_answer (Some (answer.Granted (Heap lease memory))) = pairs_sum (λ t. taken_count t (heap_slot_taken lease)) (λ t. taken_count t (slot_taken memory)) (pairs_taken (heap_slot_taken lease)) (pairs_taken (slot_taken memory))
+  pairs_answer (Some (answer.Granted (HeapOver lease))) = pairs_taken (heap_slot_taken lease)
   pairs_answer (Some (answer.Granted Component)) = pairs_none
   pairs_answer (Some answer.Returned) = pairs_none
   pairs_answer (Some (answer.Purged n)) = pairs_none

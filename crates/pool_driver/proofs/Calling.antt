@@ -16,7 +16,7 @@ use Rattle.pool_alloc.specs.SoundSteps.{IsSoundStep}
 use Rattle.pool_alloc.specs.Stepping.{count_granted, grant_count, grant_counted, grant_weight, is_idle}
 use Rattle.pool_alloc.specs.TableLeases.{LeasedTable}
 use Rattle.pool_alloc.specs.Targets.{next_target}
-use Rattle.pool_alloc.specs.Turns.{After, all_returned, returned_next}
+use Rattle.pool_alloc.specs.Turns.{all_returned, returned_next}
 use Rattle.pool_alloc.specs.declared.frame.Asked.{Asked}
 use Rattle.pool_alloc.specs.declared.frame.Asked.TheVariants as asked
 use Rattle.pool_alloc.specs.declared.frame.Call.{Call}
@@ -26,7 +26,7 @@ use Rattle.pool_alloc.specs.declared.frame.Ending.{Ending}
 use Rattle.pool_alloc.specs.declared.frame.Ending.TheVariants.{Returned as returned}
 use Rattle.pool_alloc.specs.declared.frame.Frame.{Frame}
 use Rattle.pool_alloc.specs.declared.frame.Grant.{Grant}
-use Rattle.pool_alloc.specs.declared.frame.Grant.TheVariants.{Instance, Component, Memory, Table, Stack, Heap}
+use Rattle.pool_alloc.specs.declared.frame.Grant.TheVariants.{Instance, Component, Memory, Table, Stack, Heap, HeapOver}
 use Rattle.pool_alloc.specs.declared.frame.Outcome.{Outcome}
 use Rattle.pool_alloc.specs.declared.frame.Outcome.TheVariants.{Key, Granted, Returned, Purged, Released, Refused}
 use Rattle.pool_alloc.specs.declared.frame.Phase.{Phase}
@@ -80,12 +80,14 @@ module _ {P H : Type 0} where
   begun_busy (call.Table ty) f = refl
   begun_busy call.Stack f = refl
   begun_busy (call.Heap ty) f = refl
+  begun_busy (call.HeapOver memory) f = refl
   begun_busy (call.GiveBack (Instance lease)) f = back_busy lease.memories.items lease.tables.items (record f { asked = asked.Nothing; objects = lease; ending = returned }) refl
   begun_busy (call.GiveBack Component) f = refl
   begun_busy (call.GiveBack (Memory lease)) f = refl
   begun_busy (call.GiveBack (Table lease)) f = refl
   begun_busy (call.GiveBack (Stack lease)) f = refl
   begun_busy (call.GiveBack (Heap lease memory)) f = refl
+  begun_busy (call.GiveBack (HeapOver lease)) f = refl
   begun_busy (call.Purge id) f = refl
   begun_busy call.Release f = refl
 
@@ -98,6 +100,7 @@ module _ {P H : Type 0} where
   brought_keeps (call.Table ty) k = tt
   brought_keeps call.Stack k = tt
   brought_keeps (call.Heap ty) k = tt
+  brought_keeps (call.HeapOver memory) k = tt
   brought_keeps (call.GiveBack grant) k = k
   brought_keeps (call.Purge id) k = tt
   brought_keeps call.Release k = tt
@@ -110,6 +113,7 @@ module _ {P H : Type 0} where
   brought_units t (call.Table ty) = refl
   brought_units t call.Stack = refl
   brought_units t (call.Heap ty) = refl
+  brought_units t (call.HeapOver memory) = refl
   brought_units t (call.GiveBack grant) = grant_units t grant
   brought_units t (call.Purge id) = refl
   brought_units t call.Release = refl
@@ -122,6 +126,7 @@ module _ {P H : Type 0} where
   brought_counts n (call.Table ty) = refl
   brought_counts n call.Stack = refl
   brought_counts n (call.Heap ty) = refl
+  brought_counts n (call.HeapOver memory) = refl
   brought_counts n (call.GiveBack grant) = grant_counts n grant
   brought_counts n (call.Purge id) = refl
   brought_counts n call.Release = refl
@@ -173,6 +178,7 @@ module _ {T P H : Type 0} (places : ℕ) (g : Given) (v : View T) (f : Frame P H
   begins_on (call.Table ty) is = asks_stands (λ of. ap (call_has of) is)
   begins_on call.Stack is = asks_stands (λ of. ap (call_has of) is)
   begins_on (call.Heap ty) is = asks_stands (λ of. ap (call_has of) is)
+  begins_on (call.HeapOver memory) is = asks_stands (λ of. ap (call_has of) is)
   begins_on (call.Purge id) is = asks_stands (λ of. ap (call_has of) is)
   begins_on call.Release is = asks_stands (λ of. ap (call_has of) is)
   begins_on (call.GiveBack (Instance lease)) is = subst (λ (z : Call P H). StandsFor (next_target g.about.settings g.about.plan (begun_call z f).phase (begun_call z f)) g.about places (begun_call z f)) (sym is)
@@ -182,6 +188,7 @@ module _ {T P H : Type 0} (places : ℕ) (g : Given) (v : View T) (f : Frame P H
   begins_on (call.GiveBack (Table lease)) is = subst (λ (z : Call P H). StandsFor (next_target g.about.settings g.about.plan (begun_call z f).phase (begun_call z f)) g.about places (begun_call z f)) (sym is) tt
   begins_on (call.GiveBack (Stack lease)) is = subst (λ (z : Call P H). StandsFor (next_target g.about.settings g.about.plan (begun_call z f).phase (begun_call z f)) g.about places (begun_call z f)) (sym is) tt
   begins_on (call.GiveBack (Heap lease memory)) is = subst (λ (z : Call P H). StandsFor (next_target g.about.settings g.about.plan (begun_call z f).phase (begun_call z f)) g.about places (begun_call z f)) (sym is) tt
+  begins_on (call.GiveBack (HeapOver lease)) is = subst (λ (z : Call P H). StandsFor (next_target g.about.settings g.about.plan (begun_call z f).phase (begun_call z f)) g.about places (begun_call z f)) (sym is) tt
 
   -- A call that begins is driven.
   pub driven_begun : IsDriven places g v (begun_call c f) None
@@ -229,6 +236,7 @@ module _ {P H : Type 0} (maker : MakerTold) (old new : PartyTold) (c : PoolCore 
   kind_answers (asks p) no_call (Granted (Table lease)) goes = tt
   kind_answers (asks p) no_call (Granted (Stack lease)) goes = tt
   kind_answers (asks p) no_call (Granted (Heap lease memory)) goes = tt
+  kind_answers (asks p) no_call (Granted (HeapOver lease)) goes = tt
   kind_answers (asks p) no_call (Refused e) goes = tt
   kind_answers (tests_component info) no_call (Refused e) goes = tt
   kind_answers counts_component no_call (Granted Component) goes = tt
@@ -278,12 +286,14 @@ module _ {P H : Type 0} where
   begun_kind (call.Table ty) f = refl
   begun_kind call.Stack f = refl
   begun_kind (call.Heap ty) f = refl
+  begun_kind (call.HeapOver memory) f = refl
   begun_kind (call.GiveBack (Instance lease)) f = back_kind lease.memories.items lease.tables.items (record f { asked = asked.Nothing; objects = lease; ending = returned }) refl refl
   begun_kind (call.GiveBack Component) f = refl
   begun_kind (call.GiveBack (Memory lease)) f = refl
   begun_kind (call.GiveBack (Table lease)) f = refl
   begun_kind (call.GiveBack (Stack lease)) f = refl
   begun_kind (call.GiveBack (Heap lease memory)) f = refl
+  begun_kind (call.GiveBack (HeapOver lease)) f = refl
   begun_kind (call.Purge id) f = refl
   begun_kind call.Release f = refl
 
@@ -308,6 +318,7 @@ begun_sort (call.Memory m) f = refl
 begun_sort (call.Table ty) f = refl
 begun_sort call.Stack f = refl
 begun_sort (call.Heap ty) f = refl
+begun_sort (call.HeapOver memory) f = refl
 begun_sort (call.GiveBack grant) f = returning_sort (stage_of (begun_call (call.GiveBack grant) f)) (begun_call (call.GiveBack grant) f).asked (begun_kind (call.GiveBack grant) f)
 begun_sort (call.Purge id) f = tt
 begun_sort call.Release f = tt
@@ -331,9 +342,14 @@ answers_call s plan (call.Table ty) f o kind may = absurd may
 answers_call s plan call.Stack f (Granted (Stack lease)) kind may = may
 answers_call s plan call.Stack f (Refused e) kind may = may
 answers_call s plan call.Stack f o kind may = absurd may
-answers_call s plan (call.Heap ty) f (Granted (Heap lease memory)) kind may = may
+answers_call s plan (call.Heap ty) f (Granted (Heap lease memory)) kind may = may.0
+answers_call s plan (call.Heap ty) f (Granted (HeapOver lease)) kind may = absurd may.1
 answers_call s plan (call.Heap ty) f (Refused e) kind may = may
 answers_call s plan (call.Heap ty) f o kind may = absurd may
+answers_call s plan (call.HeapOver memory) f (Granted (HeapOver lease)) kind may = may.0
+answers_call s plan (call.HeapOver memory) f (Granted (Heap lease of)) kind may = absurd may.1
+answers_call s plan (call.HeapOver memory) f (Refused e) kind may = may
+answers_call s plan (call.HeapOver memory) f o kind may = absurd may
 answers_call s plan (call.GiveBack grant) f Returned kind may = tt
 answers_call s plan (call.GiveBack grant) f o kind may = absurd kind
 answers_call s plan (call.Purge id) f (Purged n) kind may = tt
@@ -474,6 +490,7 @@ module _ {P H : Type 0} where
   grant_of maker s plan asked (Table lease) is = is.table_is
   grant_of maker s plan asked (Stack lease) is = is.0
   grant_of maker s plan asked (Heap lease memory) is = (is.heap, is.memory_is)
+  grant_of maker s plan asked (HeapOver lease) is = is.heap
 
   -- An answer that is no grant has nothing.
   pub none_granted : (of : Grant P H → ℕ) (o : Outcome P H) → ((grant : Grant P H) → o ≡ Granted grant → ⊥) → count_granted of (Some o) ≡ 0

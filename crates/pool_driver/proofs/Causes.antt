@@ -1,5 +1,5 @@
 -- What stands behind a refusal for which the limiter or the maker of heaps is the reason: a count that rose.
-use Rattle.std.proofs.Common.{◌≡◌, ◌⊎◌, ⊎_elim, ℕ, ◌-◌, ◌<◌, ◌≤◌, ◌^◌, min, Bool, true, false, List, [], ◌∷◌, ◌++◌, length, refl, sym, ap, subst, ◌∙◌, arith, Option, Some, None, Result, Ok, Err, slice_get}
+use Rattle.std.proofs.Common.{◌≡◌, ⊎_elim, ℕ, ◌-◌, ◌<◌, ◌≤◌, ◌^◌, min, Bool, true, false, List, [], ◌∷◌, ◌++◌, length, refl, sym, ap, subst, ◌∙◌, arith, Option, Some, None, Result, Ok, Err, slice_get}
 use Rattle.pool_types.specs.Rising.{Rose, risen}
 use Rattle.pool_types.specs.declared.unsupported.Unsupported.{Unsupported}
 use Rattle.pool_pages.specs.MakerTold.{MakerTold}
@@ -18,14 +18,13 @@ use Rattle.pool_alloc.specs.MemorySteps.{heap_refusal}
 use Rattle.pool_alloc.specs.PageCallAnswers.{AsksForMemory}
 use Rattle.pool_alloc.specs.PartyTold.{PartyTold, MakesHeap}
 use Rattle.pool_alloc.specs.Refusals.{heap_refused}
-use Rattle.pool_alloc.specs.StepReads.{memories_wanted, tables_wanted}
+use Rattle.pool_alloc.specs.StepReads.{memories_wanted, tables_wanted, HasMemories}
 use Rattle.pool_alloc.specs.TableSteps.{AsksForTable}
 use Rattle.pool_alloc.specs.declared.frame.Frame.{Frame}
 use Rattle.pool_alloc.specs.declared.pool_core.PoolCore.{PoolCore}
 use Rattle.pool_alloc.proofs.ToldElements.{told_there}
 use Rattle.pool_driver.specs.Asking.{HasCause}
 use Rattle.pool_driver.proofs.Refusing.{failed_so, memory_fails, table_fails}
-use Rattle.pool_driver.proofs.Questions.{long}
 
 -- exchanges after others
 pub exchanged_on : {L : Type 0} (leads : L → Exchange → L → Type 0) (xs ys : List Exchange) (a b c : L) → Exchanged leads xs a b → Exchanged leads ys b c → Exchanged leads (xs ++ ys) a c
@@ -167,7 +166,7 @@ module _ {P H : Type 0} (maker : MakerTold) (old new : PartyTold) (c : PoolCore 
   raise_cause seeks_stack x raises = ⊎_elim (λ (disabled : (x ≡ refusal.StacksDisabled) × (c.settings.stack_size ≡ 0)). subst (HasCause old new) (sym disabled.0) tt) (none_cause 0 x) raises
   raise_cause tests_heap x raises = ⊎_elim
       (λ (disabled : (c.settings.tunables.tunables.collector ≡ false) × (x ≡ refusal.HeapsDisabled)). subst (HasCause old new) (sym disabled.1) tt)
-      (λ (enabled : (c.settings.tunables.tunables.collector ≡ true) × IsUntested (heap_refused c.settings f.asked) x). rule_cause old new _ x enabled.1)
+      (λ (enabled : (c.settings.tunables.tunables.collector ≡ true) × HasMemories f.asked × IsUntested (heap_refused c.settings f.asked) x). rule_cause old new _ x enabled.2)
       raises
   raise_cause (seeks_heap n) x raises = ⊎_elim (none_cause n x) (⊎_elim (page_cause n x) (⊎_elim (memory_cause n x) (λ (fails : FailsHeap old new c f n x). subst (HasCause old new) (sym fails.1.1.1) (fault_cause fails.0 fails.1.1.0)))) raises
   raise_cause counts_heap x raises = absurd raises

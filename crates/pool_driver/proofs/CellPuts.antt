@@ -1,5 +1,5 @@
 -- What a seat notes of a region that comes back to its cell: whether it has more faults than it went out with.
-use Rattle.std.proofs.Common.{◌≡◌, ◌⊎◌, ⊎_elim, inl, inr, ℕ, ◌+◌, ◌<◌, ◌≤◌, Bool, true, List, ◌∷◌, length, refl, sym, ap, ◌∙◌, arith, eq-eqb, Option}
+use Rattle.std.proofs.Common.{◌≡◌, ⊎_elim, inl, inr, ℕ, ◌+◌, ◌<◌, ◌≤◌, Bool, true, List, ◌∷◌, length, refl, sym, ap, ◌∙◌, arith, eq-eqb, Option}
 use Rattle.std.specs.Prelude.{◌-◌, ◌^◌, ◌==◌, if◌then◌else◌, slice_index}
 use Rattle.pool_hall.specs.Meaning.{Meaning}
 use Rattle.pool_hall.specs.Step.{put_view}

@@ -1,6 +1,6 @@
 -- What a step counts: the seat's additions less its subtractions stay what frame, answer and the rest have counted.
-use Rattle.std.proofs.Common.{◌≡◌, ℕ, ◌+◌, ◌<◌, refl, sym, ap, subst, ◌∙◌, arith, Option, Some, None}
-use Rattle.std.specs.Prelude.{◌-◌, ◌==◌, if◌then◌else◌, Bool}
+use Rattle.std.proofs.Common.{◌≡◌, ℕ, ◌+◌, ◌<◌, refl, ap, arith, Option, Some, None}
+use Rattle.std.specs.Prelude.{◌-◌, ◌==◌}
 use Rattle.pool_hall.specs.Step.{add_view, subtract_view}
 use Rattle.pool_hall.specs.Sum.{one_if}
 use Rattle.pool_hall.specs.Tally.{additions, subtractions, number}

@@ -1,5 +1,5 @@
 -- What a frame has counted, as counters that count nothing else. They are far from their end: a pool has less than 2^64 slots.
-use Rattle.std.proofs.Common.{◌≡◌, ℕ, zero, suc, ◌+◌, ◌*◌, ◌<◌, ◌≤◌, List, [], ◌∷◌, length, refl, arith, add-mul, Option, Some, None}
+use Rattle.std.proofs.Common.{◌≡◌, ℕ, suc, ◌+◌, ◌*◌, ◌<◌, ◌≤◌, List, [], ◌∷◌, length, refl, arith, add-mul, Option, Some, None}
 use Rattle.std.specs.Prelude.{◌^◌, if◌then◌else◌}
 use Rattle.pool_hall.specs.Sum.{total}
 use Rattle.pool_hall.specs.declared.unit_name.SlotKind.{SlotKind}
@@ -23,7 +23,7 @@ use Rattle.pool_slots.specs.declared.part.PoolPart.TheVariants as part
 use Rattle.pool_slots.specs.declared.slot_name.RegionNumbers.{RegionNumbers}
 use Rattle.pool_slots.specs.declared.slot_name.SlotName.{SlotName}
 use Rattle.pool_alloc.specs.Leases.{Lease, memory_slot}
-use Rattle.pool_alloc.specs.Places.{Thing, Counter, Counts, counted_instance, counted_component, counted_object, only, away_count, both_count, frame_count, frame_counted, frame_instances, instances_for, leased_count, tables_count, phase_count, phase_counted, phase_instances, counters_counted, number_counted}
+use Rattle.pool_alloc.specs.Places.{Thing, Counter, Counts, counted_instance, counted_component, counted_object, only, away_count, both_count, frame_count, instances_for, leased_count, tables_count, phase_count, phase_counted, phase_instances, number_counted}
 use Rattle.pool_alloc.specs.BetweenSteps.{IsCore, IsPartFor}
 use Rattle.pool_alloc.specs.TableLeases.{LeasedTable, table_slot}
 use Rattle.pool_alloc.specs.declared.frame.Asked.{Asked}
@@ -43,8 +43,10 @@ module _ {P H : Type 0} where
   phase_splits n (UncountObject (Memory lease)) = omega arith
   phase_splits n (UncountObject (Table lease)) = omega arith
   phase_splits n (UncountObject (Stack lease)) = omega arith
-  phase_splits n (UncountHeap lease memory) = omega arith
-  phase_splits n (PutHeap lease memory) = omega arith
+  phase_splits n (UncountHeap lease (Some memory)) = omega arith
+  phase_splits n (UncountHeap lease None) = omega arith
+  phase_splits n (PutHeap lease (Some memory)) = omega arith
+  phase_splits n (PutHeap lease None) = omega arith
   phase_splits n (FreeHeap name memory) = omega arith
   phase_splits n UncountComponent = omega arith
   phase_splits n p = omega arith
@@ -90,6 +92,7 @@ table_rights (l ∷ ls) = omega (arith, sum_by-cons (λ (m : LeasedTable). both_
 asked_one : (a : Asked) → instances_for a ≤ 1
 asked_one asked.Stack = omega arith
 asked_one (asked.Heap ty) = omega arith
+asked_one (asked.HeapOver memory) = omega arith
 asked_one a = omega arith
 
 module _ {P H : Type 0} where
@@ -115,8 +118,10 @@ module _ {P H : Type 0} where
   memory_right (UncountObject (Memory lease)) = omega arith
   memory_right (UncountObject (Table lease)) = omega arith
   memory_right (UncountObject (Stack lease)) = omega arith
-  memory_right (UncountHeap lease memory) = omega arith
-  memory_right (PutHeap lease memory) = omega arith
+  memory_right (UncountHeap lease (Some memory)) = omega arith
+  memory_right (UncountHeap lease None) = omega arith
+  memory_right (PutHeap lease (Some memory)) = omega arith
+  memory_right (PutHeap lease None) = omega arith
   memory_right (FreeHeap name memory) = omega arith
   memory_right UncountComponent = omega arith
   memory_right p = omega arith
@@ -125,8 +130,10 @@ module _ {P H : Type 0} where
   table_right (UncountObject (Memory lease)) = omega arith
   table_right (UncountObject (Table lease)) = omega arith
   table_right (UncountObject (Stack lease)) = omega arith
-  table_right (UncountHeap lease memory) = omega arith
-  table_right (PutHeap lease memory) = omega arith
+  table_right (UncountHeap lease (Some memory)) = omega arith
+  table_right (UncountHeap lease None) = omega arith
+  table_right (PutHeap lease (Some memory)) = omega arith
+  table_right (PutHeap lease None) = omega arith
   table_right (FreeHeap name memory) = omega arith
   table_right UncountComponent = omega arith
   table_right p = omega arith
@@ -135,8 +142,10 @@ module _ {P H : Type 0} where
   component_one (UncountObject (Memory lease)) = omega arith
   component_one (UncountObject (Table lease)) = omega arith
   component_one (UncountObject (Stack lease)) = omega arith
-  component_one (UncountHeap lease memory) = omega arith
-  component_one (PutHeap lease memory) = omega arith
+  component_one (UncountHeap lease (Some memory)) = omega arith
+  component_one (UncountHeap lease None) = omega arith
+  component_one (PutHeap lease (Some memory)) = omega arith
+  component_one (PutHeap lease None) = omega arith
   component_one (FreeHeap name memory) = omega arith
   component_one UncountComponent = omega arith
   component_one p = omega arith
@@ -145,8 +154,10 @@ module _ {P H : Type 0} where
   stack_one (UncountObject (Memory lease)) = omega arith
   stack_one (UncountObject (Table lease)) = omega arith
   stack_one (UncountObject (Stack lease)) = omega arith
-  stack_one (UncountHeap lease memory) = omega arith
-  stack_one (PutHeap lease memory) = omega arith
+  stack_one (UncountHeap lease (Some memory)) = omega arith
+  stack_one (UncountHeap lease None) = omega arith
+  stack_one (PutHeap lease (Some memory)) = omega arith
+  stack_one (PutHeap lease None) = omega arith
   stack_one (FreeHeap name memory) = omega arith
   stack_one UncountComponent = omega arith
   stack_one p = omega arith
@@ -155,8 +166,10 @@ module _ {P H : Type 0} where
   heap_one (UncountObject (Memory lease)) = omega arith
   heap_one (UncountObject (Table lease)) = omega arith
   heap_one (UncountObject (Stack lease)) = omega arith
-  heap_one (UncountHeap lease memory) = omega arith
-  heap_one (PutHeap lease memory) = omega arith
+  heap_one (UncountHeap lease (Some memory)) = omega arith
+  heap_one (UncountHeap lease None) = omega arith
+  heap_one (PutHeap lease (Some memory)) = omega arith
+  heap_one (PutHeap lease None) = omega arith
   heap_one (FreeHeap name memory) = omega arith
   heap_one UncountComponent = omega arith
   heap_one p = omega arith

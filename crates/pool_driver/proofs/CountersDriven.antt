@@ -1,5 +1,5 @@
 -- A seat whose frame's next step counts, or is made without any part: the step can be made, and what it leaves is driven.
-use Rattle.std.proofs.Common.{◌≡◌, ℕ, ◌+◌, ◌-◌, ◌<◌, Bool, true, false, List, [], ◌∷◌, length, map, refl, sym, ap, subst, ◌∙◌, arith, Option, Some, None, true≢false}
+use Rattle.std.proofs.Common.{◌≡◌, ℕ, ◌-◌, ◌<◌, Bool, true, false, List, [], ◌∷◌, length, map, refl, sym, ap, subst, ◌∙◌, arith, Option, Some, None, true≢false}
 use Rattle.pool_hall.specs.Moment.{Moment}
 use Rattle.pool_hall.specs.Step.{add_view, subtract_view}
 use Rattle.pool_hall.specs.Tally.{additions, subtractions, number}
@@ -9,12 +9,11 @@ use Rattle.pool_slots.specs.declared.part.PoolPart.{PoolPart}
 use Rattle.pool_slots.specs.declared.plan.Plan.{Plan}
 use Rattle.pool_alloc.specs.HeapLeases.{LeasedHeap}
 use Rattle.pool_alloc.specs.Leases.{Lease}
-use Rattle.pool_alloc.specs.OnCounters.{CanStepCounted, counted_on, heap_found}
+use Rattle.pool_alloc.specs.OnCounters.{CanStepCounted, counted_on, heap_found, heap_found_for}
 use Rattle.pool_alloc.specs.PartyTold.{PartyTold}
-use Rattle.pool_alloc.specs.Places.{Counter, frame_counted, only}
 use Rattle.pool_alloc.specs.StepsAlone.{CanStepAlone, StepsAlone}
 use Rattle.pool_alloc.specs.Stepping.{CanStep, StepsTo, StepsAsking}
-use Rattle.pool_alloc.specs.Targets.{CanFindTarget, counted_up, counting, next_target, number_at}
+use Rattle.pool_alloc.specs.Targets.{counted_up, counting, next_target, number_at}
 use Rattle.pool_alloc.specs.Turns.{After, Left, left_by, resting}
 use Rattle.pool_alloc.specs.declared.counters.CounterName.{CounterName}
 use Rattle.pool_alloc.specs.declared.counters.CounterName.TheVariants as counter
@@ -22,7 +21,9 @@ use Rattle.pool_alloc.specs.declared.frame.Frame.{Frame}
 use Rattle.pool_alloc.specs.declared.frame.Object.TheVariants.{Memory, Table, Stack}
 use Rattle.pool_alloc.specs.declared.frame.Outcome.{Outcome}
 use Rattle.pool_alloc.specs.declared.frame.Phase.{Phase}
-use Rattle.pool_alloc.specs.declared.frame.Phase.TheVariants.{Key, CountInstance, CountObject, CountHeap, UncountObject, CountComponent}
+use Rattle.pool_alloc.specs.declared.frame.Phase.TheVariants.{Key, CountInstance, CountObject, CountHeap, CountComponent}
+use Rattle.pool_alloc.specs.declared.frame.Asked.{Asked}
+use Rattle.pool_alloc.specs.declared.frame.Asked.TheVariants.{HeapOver as heap_over_asked}
 use Rattle.pool_alloc.specs.declared.pool_core.Counters.{Counters}
 use Rattle.pool_alloc.specs.declared.pool_core.PoolCore.{PoolCore}
 use Rattle.pool_alloc.specs.declared.pool_core.Settings.{Settings}
@@ -32,7 +33,7 @@ use Rattle.pool_alloc.proofs.OnCounters.{steps_up, steps_down}
 use Rattle.pool_alloc.proofs.StepNeeds.{step_ok}
 use Rattle.pool_alloc.proofs.NextTargets.{can_up, can_down, can_alone}
 use Rattle.pool_driver.specs.Beside.{StepsBeside, StepsBesideAlike}
-use Rattle.pool_driver.specs.Driving.{Given, IsDriven, StandsOn, StandsFor, SeesStep, SeesAlike, Decides, counted, uncounted, unchanged, counted_by, counter_number, counter_of}
+use Rattle.pool_driver.specs.Driving.{Given, IsDriven, StandsOn, StandsFor, SeesStep, SeesAlike, Decides, counted, uncounted, unchanged, counted_by, counter_number}
 use Rattle.pool_driver.specs.Growing.{AreKept}
 use Rattle.pool_driver.specs.Placed.{About, about_made, pool_meaning}
 use Rattle.pool_driver.specs.Pools.{IsPool, core_of}
@@ -56,6 +57,10 @@ module _ {P H : Type 0} (s : Settings) (plan : Plan) where
   heap_alike [] lease n m f = refl
   heap_alike (memory ∷ rest) lease n m f = refl
 
+  heap_for_alike : (what : Asked) (lease : LeasedHeap H) (n m : ℕ) (f : Frame P H) → left_by (heap_found_for what lease n f) ≡ left_by (heap_found_for what lease m f)
+  heap_for_alike (heap_over_asked memory) lease n m f = refl
+  heap_for_alike what lease n m f = heap_alike f.objects.memories.items lease n m f
+
   -- elsewhere the step goes on alike, whatever the number
   left_alike : (p : Phase P H) (f e : Frame P H) (n m : ℕ) → decides (next_target s plan p f) ≡ false → left_by (counted_on s plan p n e) ≡ left_by (counted_on s plan p m e)
   left_alike Key f e n m free' = absurd (true≢false free')
@@ -64,7 +69,7 @@ module _ {P H : Type 0} (s : Settings) (plan : Plan) where
   left_alike (CountObject (Memory lease)) f e n m free' = refl
   left_alike (CountObject (Table lease)) f e n m free' = refl
   left_alike (CountObject (Stack lease)) f e n m free' = refl
-  left_alike (CountHeap lease) f e n m free' = heap_alike e.objects.memories.items lease n m e
+  left_alike (CountHeap lease) f e n m free' = heap_for_alike e.asked lease n m e
   left_alike p f e n m free' = refl
 
 module _ {T P H : Type 0} (about : T → About) (inner : T → PoolPart P H) (made : List T) (limits : List ℕ) (g : Given) (of : about_made about made ≡ Some g.about) (pool : IsPool g.about (length made)) (v : View T) (f : Frame P H) (driven : IsDriven (length made) g v f None) (moment : Moment (pool_meaning about inner) made limits v.units) (name : CounterName) where

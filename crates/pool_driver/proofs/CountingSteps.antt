@@ -1,5 +1,5 @@
 -- What a frame's next step changes, as its seat needs to know it.
-use Rattle.std.proofs.Common.{◌≡◌, ℕ, ◌+◌, ◌*◌, ◌<◌, Bool, true, false, List, refl, sym, ap, subst, ◌∙◌, arith, Option, Some, None, true≢false}
+use Rattle.std.proofs.Common.{◌≡◌, ℕ, ◌*◌, ◌<◌, Bool, true, false, List, refl, sym, ap, ◌∙◌, arith, Option, Some, None, true≢false}
 use Rattle.std.specs.Prelude.{if◌then◌else◌}
 use Rattle.pool_pages.specs.MakerTold.{MakerTold}
 use Rattle.pool_hall.specs.declared.unit_name.SlotKind.TheVariants.{Memory as memory_kind, Table as table_kind, Stack as stack_kind, Heap as heap_kind}
@@ -8,15 +8,15 @@ use Rattle.pool_slots.specs.declared.plan.Plan.{Plan}
 use Rattle.pool_alloc.specs.Places.{Counter, counted_instance, counted_component, counted_object, only, frame_counted, instances_for, phase_counted, phase_instances}
 use Rattle.pool_alloc.specs.Purges.{has_turns}
 use Rattle.pool_alloc.specs.StepTable.{FlushStep, run, zero, put, free, flush_step}
-use Rattle.pool_alloc.specs.BetweenSteps.{IsFrame, IsShapedAt}
-use Rattle.pool_alloc.specs.Targets.{next_target, flush_target, put_target, purge_target, release_target, object_counter}
+use Rattle.pool_alloc.specs.BetweenSteps.{IsShapedAt}
+use Rattle.pool_alloc.specs.Targets.{next_target, flush_target, put_target, purge_target, release_target}
 use Rattle.pool_alloc.specs.declared.counters.CounterName.{CounterName}
 use Rattle.pool_alloc.specs.declared.counters.CounterName.TheVariants as counter
 use Rattle.pool_alloc.specs.declared.frame.Frame.{Frame}
 use Rattle.pool_alloc.specs.declared.frame.FreedSlot.{FreedSlot}
 use Rattle.pool_alloc.specs.declared.frame.Object.TheVariants.{Memory, Table, Stack}
 use Rattle.pool_alloc.specs.declared.frame.Phase.{Phase}
-use Rattle.pool_alloc.specs.declared.frame.Phase.TheVariants.{Idle, Key, Validate, TestStack, TestHeap, CountInstance, Pick, TakeQueue, TakeRegion, Empty, Instantiate, MakeMemory, MakeTable, CountObject, TakeHeap, MakeHeap, CountHeap, PutNoHeap, PutBack, FreeOne, UncountObject, UncountHeap, PutHeap, FreeHeap, Reset, Merge, Flush, UncountInstance, ValidateComponent, CountComponent, UncountComponent, Purge, Release}
+use Rattle.pool_alloc.specs.declared.frame.Phase.TheVariants.{CountObject, UncountObject, UncountHeap, PutHeap, Flush, UncountInstance, UncountComponent, Purge, Release}
 use Rattle.pool_alloc.specs.declared.pool_core.Settings.{Settings}
 use Rattle.pool_alloc.specs.declared.purge.PurgeCursor.{PurgeCursor}
 use Rattle.pool_alloc.specs.declared.purge.PurgeStep.{PurgeStep}
@@ -107,6 +107,10 @@ module _ {P H : Type 0} (s : Settings) (plan : Plan) where
   first_component f (UncountObject (Memory lease)) = refl
   first_component f (UncountObject (Table lease)) = refl
   first_component f (UncountObject (Stack lease)) = refl
+  first_component f (UncountHeap lease (Some memory)) = refl
+  first_component f (UncountHeap lease None) = refl
+  first_component f (PutHeap lease (Some memory)) = refl
+  first_component f (PutHeap lease None) = refl
   first_component f Flush = omega arith
   first_component f (Purge c step) = omega arith
   first_component f (Release step) = omega arith

@@ -1,5 +1,5 @@
 -- A frame that is driven over a hall: it can make its step on what a moment shows, and what the step leaves is driven.
-use Rattle.std.proofs.Common.{◌≡◌, ℕ, ◌+◌, ◌*◌, ◌<◌, ◌≤◌, List, [], length, map, set, refl, sym, ap, subst, ◌∙◌, arith, Option, Some, None}
+use Rattle.std.proofs.Common.{◌≡◌, ℕ, ◌*◌, ◌≤◌, List, length, map, sym, ap, subst, ◌∙◌, arith, Option, Some, None}
 use Rattle.pool_pages.specs.MakerTold.{MakerTold}
 use Rattle.pool_hall.specs.Moment.{Moment}
 use Rattle.pool_hall.specs.Sum.{total}
@@ -7,7 +7,6 @@ use Rattle.pool_hall.specs.declared.unit_name.UnitName.{UnitName}
 use Rattle.pool_hall.specs.declared.view.View.{View}
 use Rattle.pool_hall.proofs.Totals.{element, got}
 use Rattle.pool_slots.specs.ListUnits.{all_away, all_kept}
-use Rattle.pool_slots.specs.Parts.{part_at}
 use Rattle.pool_slots.specs.declared.part.PoolPart.{PoolPart}
 use Rattle.pool_slots.proofs.ListUnits.{read_at}
 use Rattle.pool_alloc.specs.CanStep.{CanStepAt}

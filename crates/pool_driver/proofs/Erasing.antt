@@ -19,7 +19,7 @@ use Rattle.pool_hall.specs.declared.unit_name.SlotKind.TheVariants.{Memory as me
 use Rattle.pool_hall.specs.declared.view.View.{View}
 use Rattle.pool_images.specs.Images.{Image}
 use Rattle.pool_images.specs.declared.image_slot.ImageName.{ImageName}
-use Rattle.pool_images.specs.Slots.{Slot, coloured, hides, renewed, replaced, resized, reused, size_of, with_image, without_image, without_mapped, wiped}
+use Rattle.pool_images.specs.Slots.{Slot, coloured, hides, renewed, replaced, resized, size_of, with_image, without_image, without_mapped, wiped}
 use Rattle.pool_index.specs.Shard.{ShardState}
 use Rattle.pool_index.specs.declared.ids.SlotId.{SlotId}
 use Rattle.pool_memory.specs.Making.{limits_answer}
@@ -28,7 +28,7 @@ use Rattle.pool_memory.specs.Static.{static_capacity}
 use Rattle.pool_memory.specs.declared.memory_error.MemoryError.{MemoryError}
 use Rattle.pool_slots.specs.Cells.{Cell, unmapped, unknown, previously_used, taken}
 use Rattle.pool_slots.specs.HeapLists.{heap_in}
-use Rattle.pool_slots.specs.RegionCells.{CellState, erases_told, numbers_by}
+use Rattle.pool_slots.specs.RegionCells.{erases_told, numbers_by}
 use Rattle.pool_slots.specs.SlotQueues.{Queue, Queued, first_of_kind, others_of_kind}
 use Rattle.pool_slots.specs.declared.errors.AllocError.{AllocError}
 use Rattle.pool_slots.specs.declared.heap_maker.HeapMakeFault.{HeapMakeFault}
@@ -47,7 +47,7 @@ use Rattle.pool_alloc.specs.Modules.{IfAllocated}
 use Rattle.pool_alloc.specs.Objects.{objects_in, objects_wanted}
 use Rattle.pool_alloc.specs.PageCallAnswers.{Empties, InstantiatesFor, IsInstantiated, MayBeTold}
 use Rattle.pool_alloc.specs.PartyTold.{PartyTold}
-use Rattle.pool_alloc.specs.StepReads.{StepGiven, allocator_for, cell_named, counting_memories, counting_tables, heaps_at, image_wanted, memories_wanted, queue_at, queue_tried, shard_at, shard_tried}
+use Rattle.pool_alloc.specs.StepReads.{StepGiven, allocator_for, cell_named, heaps_at, image_wanted, memories_wanted, queue_at, queue_tried, shard_at, shard_tried}
 use Rattle.pool_alloc.specs.StepTable as rows
 use Rattle.pool_alloc.specs.StepTable.{row_of}
 use Rattle.pool_alloc.specs.TableLeases.{LeasedTable}
@@ -59,7 +59,6 @@ use Rattle.pool_alloc.specs.declared.frame.Call.TheVariants as call
 use Rattle.pool_alloc.specs.declared.frame.Ending.{Ending}
 use Rattle.pool_alloc.specs.declared.frame.Ending.TheVariants.{Granted as granted, Returned as returned, Refused as refused}
 use Rattle.pool_alloc.specs.declared.frame.Frame.{Frame}
-use Rattle.pool_alloc.specs.declared.frame.Grant.{Grant}
 use Rattle.pool_alloc.specs.declared.frame.Grant.TheVariants as grant
 use Rattle.pool_alloc.specs.declared.frame.Object.TheVariants as object
 use Rattle.pool_alloc.specs.declared.frame.Outcome.{Outcome}
@@ -69,6 +68,7 @@ use Rattle.pool_alloc.specs.declared.frame.Phase.TheVariants.{Idle, Key, Validat
 use Rattle.pool_alloc.specs.declared.frame.TakenSlot.{TakenSlot}
 use Rattle.pool_alloc.specs.declared.pool_core.PoolCore.{PoolCore}
 use Rattle.pool_alloc.specs.declared.pool_core.Settings.{Settings}
+use Rattle.pool_alloc.specs.Refusals.{heap_refused}
 use Rattle.pool_alloc.proofs.PoolParts.{sound_cell}
 use Rattle.pool_alloc.proofs.ToldElements.{told_there}
 use Rattle.pool_driver.specs.Calling.{CallKind, MayAnswer, asks_component, asks_for, draws_key, gives_back, is_refused, kind_at, kind_of, purges, releases}
@@ -181,6 +181,7 @@ module _ {P H : Type 0} where
       all (asked.Table ty) = record { frame = λ asks. absurd cc; answer = answer_erased P H g.ending }
       all asked.Stack = record { frame = λ asks. absurd cc; answer = answer_erased P H g.ending }
       all (asked.Heap ty) = record { frame = λ asks. absurd cc; answer = answer_erased P H g.ending }
+      all (asked.HeapOver memory) = record { frame = λ asks. absurd cc; answer = answer_erased P H g.ending }
       all asked.Nothing = record { frame = λ asks. never_back g.asked g.ending (objects_in g.objects) back asks; answer = tt }
       all (asked.Module m) = record { frame = λ asks. never_back g.asked g.ending (objects_in g.objects) back asks; answer = tt }
 
@@ -268,9 +269,13 @@ module _ {P H : Type 0} (c : PoolCore P H) (f : Frame P H) (has : AllByRecursion
   stacks_erased true = by_turn (rows.stacks_tested true c e) has tt
   stacks_erased false = by_turn (rows.stacks_tested false c e) tt tt
 
+  tested_erased : (what : Asked) (wants : Bool) → RowErased (rows.memory_tested what wants c e)
+  tested_erased (asked.HeapOver memory) wants = by_turn (rows.memory_tested (asked.HeapOver memory) wants c e) has tt
+  tested_erased what wants = validated_erased (heap_refused c.settings what) wants (Pick 0) tt
+
   heaps_erased : (b wants : Bool) → RowErased (rows.heaps_tested b wants c e)
   heaps_erased false wants = by_turn (rows.heaps_tested false wants c e) has tt
-  heaps_erased true wants = validated_erased _ wants (Pick 0) tt
+  heaps_erased true wants = tested_erased f.asked wants
 
   counted_erased : (b : Bool) → RowErased (rows.counted b c e)
   counted_erased true = by_turn (rows.counted true c e) has tt
@@ -329,6 +334,10 @@ module _ {P H : Type 0} (c : PoolCore P H) (f : Frame P H) (has : AllByRecursion
   heap_granted_erased [] lease ms = by_turn (rows.heap_granted [] lease c e) has tt
   heap_granted_erased (memory ∷ rest) lease ms = by_turn (rows.heap_granted (memory ∷ rest) lease c e) tt ms.0
 
+  heap_counted_erased : (what : Asked) (lease : LeasedHeap H) → RowErased (rows.heap_counted what lease c e)
+  heap_counted_erased (asked.HeapOver memory) lease = by_turn (rows.heap_counted (asked.HeapOver memory) lease c e) has tt
+  heap_counted_erased what lease = heap_granted_erased f.objects.memories.items lease has
+
   put_first_erased : (o : Option Queued) (rest : List Queued) → RowErased (rows.put_first o rest c e)
   put_first_erased None rest = by_turn (rows.put_first None rest c e) has tt
   put_first_erased (Some m) rest = by_turn (rows.put_first (Some m) rest c e) has tt
@@ -363,7 +372,7 @@ module _ {P H : Type 0} (c : PoolCore P H) (f : Frame P H) (has : AllByRecursion
   row_erased maker g (CountObject (object.Stack lease)) core shape told asks hand = by_turn (row_of g (CountObject (object.Stack lease)) c e) has tt
   row_erased maker g (TakeHeap name) core shape told asks hand = by_turn (row_of g (TakeHeap name) c e) has (heap_next_erased _ (heap_in name.slot (heaps_at c)))
   row_erased maker g (MakeHeap at) core shape told asks hand = made_heap_erased g.heap at
-  row_erased maker g (CountHeap lease) core shape told asks hand = heap_granted_erased f.objects.memories.items lease has
+  row_erased maker g (CountHeap lease) core shape told asks hand = heap_counted_erased f.asked lease
   row_erased maker g (PutNoHeap at) core shape told asks hand = never_back f.asked f.ending (objects_in f.objects) shape.1 asks
   row_erased maker g (PutBack at held) core shape told asks hand = never_back f.asked f.ending (objects_in f.objects) shape.1 asks
   row_erased maker g (FreeOne name) core shape told asks hand = never_back f.asked f.ending (objects_in f.objects) shape.1 asks
@@ -396,6 +405,7 @@ erased_begins {P} {H} c f rests kind asks = go c (sym kind ∙ asks)
     go (call.Table ty) is = record { objects = none; hand = tt }
     go call.Stack is = record { objects = none; hand = tt }
     go (call.Heap ty) is = record { objects = none; hand = tt }
+    go (call.HeapOver memory) is = record { objects = none; hand = tt }
     go (call.GiveBack x) is = absurd cc
     go (call.Purge id) is = absurd cc
     go call.Release is = absurd cc
@@ -427,6 +437,7 @@ module _ {T P H : Type 0} (about : T → About) (inner : T → PoolPart P H) (Pa
       by asks_component (answer.Granted (grant.Table lease)) may known = tt
       by asks_component (answer.Granted (grant.Stack lease)) may known = tt
       by asks_component (answer.Granted (grant.Heap lease memory)) may known = absurd may
+      by asks_component (answer.Granted (grant.HeapOver lease)) may known = absurd may
       by draws_key (answer.Granted x) may known = absurd may
       by is_refused (answer.Granted x) may known = absurd may
       by gives_back (answer.Granted x) may known = absurd may

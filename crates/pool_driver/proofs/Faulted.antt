@@ -18,7 +18,7 @@ use Rattle.pool_alloc.specs.PageCallAnswers.{MayBeTold, PurgeTold, ReleaseTold}
 use Rattle.pool_alloc.specs.PartyTold.{PartyTold}
 use Rattle.pool_alloc.specs.Purges.{affine_picked, behind_memory, behind_turn, has_turns, image_in, pick_affine_row, purge_row, purge_to, purged_stripe}
 use Rattle.pool_alloc.specs.Releases.{behind_stripe, drain_at, drain_from, free_first, nth_taken, release_row, released_stripe, reserve_row, releasing, warm_taken}
-use Rattle.pool_alloc.specs.StepTable.{flush_step, row_of}
+use Rattle.pool_alloc.specs.StepTable.{flush_step, row_of, heap_freed}
 use Rattle.pool_alloc.specs.BetweenSteps.{IsFrame}
 use Rattle.pool_alloc.specs.Stepping.{CanStep, StepsTo}
 use Rattle.pool_alloc.specs.StepReads.{StepGiven, cell_named, queue_tried, shard_tried}
@@ -41,7 +41,7 @@ use Rattle.pool_driver.specs.Faults.{AnswerKeeps, FrameKeeps, KeepsFaults, PartK
 use Rattle.pool_driver.specs.Growing.{AreKept}
 use Rattle.pool_driver.proofs.QueueFaults.{by_choice}
 use Rattle.pool_driver.proofs.RegionFaults.{drains_keep, forgets_keep}
-use Rattle.pool_driver.proofs.RowFaults.{at_each, QueuesKeep, cell_set, shard_set, AreSmall, small_cell, RowKeeps, AfterKeeps, stepped_keeps, key_keeps, validated_keeps, stacks_keep, heaps_keep, component_keeps, counted_keeps, component_counted_keeps, uncount_instance_keeps, uncount_component_keeps, pick_keeps, take_queue_keeps, take_region_keeps, empty_keeps, instantiate_keeps, make_memory_keeps, make_table_keeps, count_object_keeps, take_heap_keeps, make_heap_keeps, heap_granted_keeps, put_heap_keeps, put_back_keeps, free_one_keeps, uncount_heap_keeps, free_heap_keeps, uncount_object_keeps, reset_row_keeps, merge_keeps, flush_row_keeps}
+use Rattle.pool_driver.proofs.RowFaults.{at_each, QueuesKeep, cell_set, shard_set, AreSmall, small_cell, RowKeeps, AfterKeeps, stepped_keeps, key_keeps, validated_keeps, stacks_keep, heaps_keep, component_keeps, counted_keeps, component_counted_keeps, uncount_instance_keeps, uncount_component_keeps, pick_keeps, take_queue_keeps, take_region_keeps, empty_keeps, instantiate_keeps, make_memory_keeps, make_table_keeps, count_object_keeps, take_heap_keeps, make_heap_keeps, put_heap_keeps, put_back_keeps, free_one_keeps, uncount_heap_keeps, free_heap_keeps, uncount_object_keeps, reset_row_keeps, merge_keeps, flush_row_keeps, heap_counted_keeps, freed_keeps}
 use Rattle.pool_driver.proofs.TurnFaults.{HandKeeps, TurnKeeps}
 
 -- What is taken out of a cell for a purge or a release goes with its own count.
@@ -131,13 +131,13 @@ module _ {P H : Type 0} (maker : MakerTold) (old new : PartyTold) where
   rows_keep g (CountObject object) c f can told after hand one parts small = stepped_keeps _ (count_object_keeps c (in_phase Idle f) hand parts object one)
   rows_keep g (TakeHeap name) c f can told after hand one parts small = stepped_keeps _ (take_heap_keeps c (in_phase Idle f) hand parts name)
   rows_keep g (MakeHeap at) c f can told after hand one parts small = stepped_keeps _ (make_heap_keeps c (in_phase Idle f) hand parts g.heap at)
-  rows_keep g (CountHeap lease) c f can told after hand one parts small = stepped_keeps _ (heap_granted_keeps c (in_phase Idle f) hand parts f.objects.memories.items lease hand.0.0)
+  rows_keep g (CountHeap lease) c f can told after hand one parts small = stepped_keeps _ (heap_counted_keeps c (in_phase Idle f) hand parts f.asked lease)
   rows_keep g (PutNoHeap at) c f can told after hand one parts small = stepped_keeps _ (put_heap_keeps c (in_phase Idle f) hand parts at.name.slot None (FreeOne at.name) tt)
   rows_keep g (PutBack at held) c f can told after hand one parts small = stepped_keeps _ (put_back_keeps c (in_phase Idle f) hand parts at.name (cell_of held))
   rows_keep g (FreeOne name) c f can told after hand one parts small = stepped_keeps _ (free_one_keeps c (in_phase Idle f) hand parts (home_of c.plan name).place name)
   rows_keep g (UncountObject object) c f can told after hand one parts small = stepped_keeps _ (uncount_object_keeps c (in_phase Idle f) hand parts object one)
   rows_keep g (UncountHeap lease memory) c f can told after hand one parts small = stepped_keeps _ (uncount_heap_keeps c (in_phase Idle f) hand parts lease memory one)
-  rows_keep g (PutHeap lease memory) c f can told after hand one parts small = stepped_keeps _ (put_heap_keeps c (in_phase Idle f) hand parts lease.index (Some lease.heap) (FreeHeap _ memory) one)
+  rows_keep g (PutHeap lease memory) c f can told after hand one parts small = stepped_keeps _ (put_heap_keeps c (in_phase Idle f) hand parts lease.index (Some lease.heap) (heap_freed _ memory) (freed_keeps c (in_phase Idle f) hand parts _ memory one))
   rows_keep g (FreeHeap name memory) c f can told after hand one parts small = stepped_keeps _ (free_heap_keeps c (in_phase Idle f) hand parts (home_of c.plan name).place name memory one)
   rows_keep g (Reset object) c f can told after hand one parts small = stepped_keeps _ (reset_row_keeps c (in_phase Idle f) hand parts g object told one)
   rows_keep g Merge c f can told after hand one parts small = stepped_keeps _ (merge_keeps c (in_phase Idle f) hand parts (queue_tried 0 c.plan (in_phase Idle f)))

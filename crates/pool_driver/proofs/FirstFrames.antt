@@ -1,5 +1,5 @@
 -- The first seat of a pool may drive a frame as it is made.
-use Rattle.std.proofs.Common.{◌≡◌, ℕ, ◌+◌, ◌<◌, List, length, sym, subst, arith, None}
+use Rattle.std.proofs.Common.{◌≡◌, ℕ, ◌<◌, List, length, arith, None}
 use Rattle.pool_pages.specs.MakerTold.{MakerTold}
 use Rattle.pool_hall.specs.Rule.{first_view}
 use Rattle.pool_slots.specs.Parts.{part_at}

@@ -1,5 +1,5 @@
 -- The parts of a closed hall, as a core of which all was given back.
-use Rattle.std.proofs.Common.{◌≡◌, ℕ, ◌+◌, ◌*◌, ◌-◌, List, [], length, map, sym, ap, ◌∙◌, subst, arith, Option, Some}
+use Rattle.std.proofs.Common.{◌≡◌, ℕ, ◌*◌, ◌-◌, List, [], length, map, sym, ap, ◌∙◌, subst, arith, Option, Some}
 use Rattle.std.specs.Prelude.{◌%◌, ◌^◌}
 use Rattle.pool_hall.specs.Meaning.{AllStand}
 use Rattle.pool_hall.specs.Moment.{Moment}

@@ -27,7 +27,7 @@ use Rattle.pool_alloc.specs.PartyTold.{PartyTold}
 use Rattle.pool_alloc.specs.Purges.{has_turns, pick_affine_row, purge_row, purged_memory, purged_stripe}
 use Rattle.pool_alloc.specs.Refusals.{heap_refused}
 use Rattle.pool_alloc.specs.Releases.{bytes_kept, nth_taken, release_row, released_stripe, reserve_row}
-use Rattle.pool_alloc.specs.StepTable.{FlushStep, run, zero, put, free, component_counted, component_tested, counted, flush_row, flush_step, heap_granted, heaps_tested, in_queue, make_heap_row, merged, paged, put_first, reserved, row_of, stacks_tested, validated, was_made, was_made_table, was_reset}
+use Rattle.pool_alloc.specs.StepTable.{FlushStep, run, zero, put, free, component_counted, component_tested, counted, flush_row, flush_step, heap_granted, heaps_tested, in_queue, make_heap_row, merged, paged, put_first, reserved, row_of, stacks_tested, validated, was_made, was_made_table, was_reset, memory_tested, heap_counted}
 use Rattle.pool_alloc.specs.BetweenSteps.{IsPartAt, IsPartFor}
 use Rattle.pool_alloc.specs.SoundSteps.{IsSoundStep}
 use Rattle.pool_alloc.specs.Stepping.{CanStep, StepsTo}
@@ -39,6 +39,8 @@ use Rattle.pool_alloc.specs.declared.frame.Object.TheVariants.{Memory, Table, St
 use Rattle.pool_alloc.specs.declared.frame.Phase.{Phase}
 use Rattle.pool_alloc.specs.declared.frame.Phase.TheVariants.{Idle, Key, Validate, TestStack, TestHeap, CountInstance, Pick, TakeQueue, TakeRegion, Empty, Instantiate, MakeMemory, MakeTable, CountObject, TakeHeap, MakeHeap, CountHeap, PutNoHeap, PutBack, FreeOne, UncountObject, UncountHeap, PutHeap, FreeHeap, Reset, Merge, Flush, UncountInstance, ValidateComponent, CountComponent, UncountComponent, Purge, Release}
 use Rattle.pool_alloc.specs.declared.frame.TakenSlot.{TakenSlot}
+use Rattle.pool_alloc.specs.declared.frame.Asked.{Asked}
+use Rattle.pool_alloc.specs.declared.frame.Asked.TheVariants.{HeapOver as heap_over_asked}
 use Rattle.pool_alloc.specs.declared.pool_core.PoolCore.{PoolCore}
 use Rattle.pool_alloc.specs.declared.purge.PurgeCursor.{PurgeCursor}
 use Rattle.pool_alloc.specs.declared.purge.PurgeStep.{PurgeStep}
@@ -82,9 +84,13 @@ module _ {P H : Type 0} where
   none_validated (Some rule) wants p c f = all_stay c.parts
   none_validated None wants p c f = none_reserved wants p c f
 
+  none_memory_tested : (what : Asked) (wants : Bool) (c : PoolCore P H) (f : Frame P H) → AllMayGrow c.parts (memory_tested what wants c f).part.parts
+  none_memory_tested (heap_over_asked memory) wants c f = all_stay c.parts
+  none_memory_tested what wants c f = none_validated (heap_refused c.settings what) wants (Pick 0) c f
+
   none_heap_tested : (b wants : Bool) (c : PoolCore P H) (f : Frame P H) → AllMayGrow c.parts (heaps_tested b wants c f).part.parts
   none_heap_tested false wants c f = all_stay c.parts
-  none_heap_tested true wants c f = none_validated (heap_refused c.settings f.asked) wants (Pick 0) c f
+  none_heap_tested true wants c f = none_memory_tested f.asked wants c f
 
   none_heap_made : (r : Result H HeapMakeFault) (at : TakenSlot) (c : PoolCore P H) (f : Frame P H) → AllMayGrow c.parts (make_heap_row r at c f).part.parts
   none_heap_made (Ok heap) at c f = all_stay c.parts
@@ -93,6 +99,10 @@ module _ {P H : Type 0} where
   none_heap_granted : (leases : List Lease) (lease : LeasedHeap H) (c : PoolCore P H) (f : Frame P H) → AllMayGrow c.parts (heap_granted leases lease c f).part.parts
   none_heap_granted [] lease c f = all_stay c.parts
   none_heap_granted (memory ∷ rest) lease c f = all_stay c.parts
+
+  none_heap_counted : (what : Asked) (lease : LeasedHeap H) (c : PoolCore P H) (f : Frame P H) → AllMayGrow c.parts (heap_counted what lease c f).part.parts
+  none_heap_counted (heap_over_asked memory) lease c f = all_stay c.parts
+  none_heap_counted what lease c f = none_heap_granted f.objects.memories.items lease c f
 
   none_counted : (b : Bool) (c : PoolCore P H) (f : Frame P H) → AllMayGrow c.parts (counted b c f).part.parts
   none_counted true c f = all_stay c.parts
@@ -196,7 +206,7 @@ module _ {P H : Type 0} (maker : MakerTold) where
   grows_at g (CountObject (Stack lease)) c f can keeps local = all_stay c.parts
   grows_at g (TakeHeap name) c f can keeps local = with_heaps_grows _ c
   grows_at g (MakeHeap at) c f can keeps local = none_heap_made g.heap at c (in_phase Idle f)
-  grows_at g (CountHeap lease) c f can keeps local = none_heap_granted f.objects.memories.items lease c (in_phase Idle f)
+  grows_at g (CountHeap lease) c f can keeps local = none_heap_counted f.asked lease c (in_phase Idle f)
   grows_at g (PutNoHeap at) c f can keeps local = with_heaps_grows _ c
   grows_at g (PutBack at held) c f can keeps local = grows_filled at.name at.numbers (cell_of held) c (own_at maker (PutBack at held) c f can) keeps
   grows_at g (FreeOne name) c f can keeps local = grows_freed (home_of c.plan name).place (home_of c.plan name).local 0 c

@@ -1,5 +1,5 @@
 -- A step on a part or on a counter says nothing to the limiter.
-use Rattle.std.proofs.Common.{◌≡◌, ℕ, Bool, true, false, List, [], sym, ap, refl, ◌∙◌, true≢false, Option}
+use Rattle.std.proofs.Common.{◌≡◌, Bool, true, false, List, [], true≢false, Option}
 use Rattle.pool_limits.specs.Exchanges.{Exchange}
 use Rattle.pool_slots.specs.declared.plan.Plan.{Plan}
 use Rattle.pool_alloc.specs.PageCallAnswers.{LimiterHears}

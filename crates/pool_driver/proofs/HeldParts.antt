@@ -1,22 +1,15 @@
 -- A seat that took the place of a frame's next step: the step can be made on the part, and after it the part may be put.
-use Rattle.std.proofs.Common.{◌≡◌, ℕ, ◌+◌, ◌<◌, ◌≤◌, true, List, [], ◌∷◌, length, map, set, refl, sym, ap, subst, ◌∙◌, arith, Option, Some, None, length-set, ◌≢◌, ⊎_elim}
+use Rattle.std.proofs.Common.{◌≡◌, ℕ, ◌<◌, List, [], length, map, refl, sym, ap, subst, ◌∙◌, arith, Option, Some, None, length-set, ◌≢◌, ⊎_elim}
 use Rattle.std.proofs.lemmas.Bool.{cases_eq}
 use Rattle.std.proofs.lemmas.Option.{same_Some}
 use Rattle.pool_limits.specs.Exchanges.{Exchanged}
 use Rattle.pool_limits.specs.LimiterTold.{unlimited}
-use Rattle.pool_hall.specs.Meaning.{Meaning}
-use Rattle.pool_hall.specs.Step.{Taken, MayPut, moved, put_view}
-use Rattle.pool_hall.specs.Seat.{made_with, limits_of, view, HasPart, with_part as seat_with_part, IsTaken, CanPut, IsPut}
-use Rattle.pool_hall.specs.Tally.{additions, subtractions, number}
-use Rattle.pool_hall.specs.declared.hall.Hall.{Hall}
-use Rattle.pool_hall.specs.declared.hall.HallSeat.{HallSeat}
+use Rattle.pool_hall.specs.Step.{Taken, MayPut, put_view}
 use Rattle.pool_hall.specs.declared.view.View.{View}
-use Rattle.pool_hall.proofs.Callers.{lent_is, can_put, view_after}
 use Rattle.pool_hall.proofs.Totals.{inside, gotten}
 use Rattle.pool_slots.specs.Parts.{part_at}
 use Rattle.pool_slots.specs.Plans.{IsPlanned}
 use Rattle.pool_slots.specs.declared.part.PoolPart.{PoolPart}
-use Rattle.pool_slots.specs.declared.plan.Plan.{Plan}
 use Rattle.pool_slots.proofs.ListUnits.{read_at}
 use Rattle.pool_alloc.specs.OnParts.{CanStepOn, row_on}
 use Rattle.pool_alloc.specs.PartFlows.{FlowsOnPart}
@@ -29,7 +22,6 @@ use Rattle.pool_alloc.specs.Turns.{After, PartAfter, part_after, resting}
 use Rattle.pool_alloc.specs.declared.frame.Frame.{Frame}
 use Rattle.pool_alloc.specs.declared.frame.Outcome.{Outcome}
 use Rattle.pool_alloc.specs.declared.pool_core.PoolCore.{PoolCore}
-use Rattle.pool_alloc.specs.declared.pool_core.Settings.{Settings}
 use Rattle.pool_alloc.specs.declared.step.targets.Target.TheVariants.{Part}
 use Rattle.pool_alloc.proofs.OnParts.{steps_at as steps_on}
 use Rattle.pool_alloc.proofs.PartFlows.{flows_on_part}
@@ -37,7 +29,6 @@ use Rattle.pool_alloc.proofs.PoolParts.{part_same, part_other}
 use Rattle.pool_alloc.proofs.StepNeeds.{can_still, step_ok}
 use Rattle.pool_alloc.proofs.NextTargets.{can_on}
 use Rattle.pool_driver.specs.Beside.{StepsBesideAlike}
-use Rattle.pool_driver.specs.Carrying.{Carries, Grows}
 use Rattle.pool_driver.specs.Driving.{Given, IsDriven, SeesAlike, changed, counted_by}
 use Rattle.pool_driver.specs.Faults.{PartKeeps}
 use Rattle.pool_driver.specs.Growing.{AreKept, IsKept, PartGrows}

@@ -1,19 +1,19 @@
 -- A seat that has nothing but an idle frame, and whose call wasn't granted, has no unit, and has subtracted as often as it has added.
-use Rattle.std.proofs.Common.{◌≡◌, ℕ, zero, suc, ◌+◌, ◌<◌, List, [], ◌∷◌, refl, ap, sym, ◌∙◌, arith, Option, Some, None}
+use Rattle.std.proofs.Common.{◌≡◌, ℕ, zero, suc, List, [], ◌∷◌, refl, arith, Option}
 use Rattle.pool_hall.specs.Sum.{total}
 use Rattle.pool_hall.specs.Tally.{additions, subtractions, number}
 use Rattle.pool_hall.specs.declared.unit_name.SlotKind.TheVariants.{Memory as memory_kind, Table as table_kind, Stack as stack_kind, Heap as heap_kind}
 use Rattle.pool_hall.specs.declared.unit_name.UnitName.{UnitName}
 use Rattle.pool_hall.specs.declared.view.View.{View}
 use Rattle.pool_alloc.specs.Calls.{IsIdle}
-use Rattle.pool_alloc.specs.Places.{Counter, Counts, Thing, Weight, counted_instance, counted_component, counted_object, frame_count, frame_counted, frame_weight, of_counts, of_units, only}
+use Rattle.pool_alloc.specs.Places.{Counter, Weight, counted_instance, counted_component, counted_object, frame_weight, of_counts, of_units, only}
 use Rattle.pool_alloc.specs.Stepping.{count_granted, grant_count, grant_counted}
 use Rattle.pool_alloc.specs.declared.frame.Frame.{Frame}
 use Rattle.pool_alloc.specs.declared.frame.Grant.{Grant}
 use Rattle.pool_alloc.specs.declared.frame.Outcome.{Outcome}
 use Rattle.pool_alloc.proofs.BegunFrames.{at_rest, idle_weight}
 use Rattle.pool_alloc.proofs.Weights.{frame_counts, frame_units}
-use Rattle.pool_driver.specs.Counts.{IsEven, counter_total}
+use Rattle.pool_driver.specs.Counts.{IsEven}
 use Rattle.pool_driver.specs.Driving.{IsDriven, alone_of, counter_number, counter_of}
 use Rattle.pool_driver.specs.Placed.{About}
 

@@ -36,6 +36,7 @@ pub mod Multisets
 pub mod Naming
 pub mod Noted
 pub mod OtherKinds
+pub mod OverWants
 pub mod OwnNumbers
 pub mod PageFaultRows
 pub mod PageFaults

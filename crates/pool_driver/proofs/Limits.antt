@@ -60,6 +60,7 @@ module _ {P H : Type 0} where
   not_refused (call.Table ty) is = absurd cc
   not_refused call.Stack is = absurd cc
   not_refused (call.Heap ty) is = absurd cc
+  not_refused (call.HeapOver memory) is = absurd cc
   not_refused (call.GiveBack grant) is = absurd cc
   not_refused (call.Purge id) is = absurd cc
   not_refused call.Release is = absurd cc

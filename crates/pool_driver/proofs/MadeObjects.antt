@@ -26,7 +26,7 @@ use Rattle.pool_alloc.specs.declared.frame.Asked.TheVariants as asked_for
 use Rattle.pool_alloc.specs.declared.frame.Ending.{Ending}
 use Rattle.pool_alloc.specs.declared.frame.Ending.TheVariants.{Granted as granted, Returned as returned, Refused as refused}
 use Rattle.pool_alloc.specs.declared.frame.Frame.{Frame}
-use Rattle.pool_alloc.specs.declared.frame.Grant.TheVariants.{Instance, Component, Memory as memory_granted, Table as table_granted, Stack, Heap}
+use Rattle.pool_alloc.specs.declared.frame.Grant.TheVariants.{Instance, Component, Memory as memory_granted, Table as table_granted, Stack, Heap, HeapOver}
 use Rattle.pool_alloc.specs.declared.frame.Outcome.{Outcome}
 use Rattle.pool_alloc.specs.declared.frame.Outcome.TheVariants.{Key, Granted, Returned, Purged, Released, Refused}
 use Rattle.pool_alloc.specs.declared.frame.Phase.{Phase}
@@ -108,6 +108,7 @@ not_stack asked_for.Stack granted k has = absurd has
 not_stack asked_for.Stack returned k has = absurd has
 not_stack asked_for.Stack (refused e) k has = absurd has
 not_stack (asked_for.Heap ty) aim k has = refl
+not_stack (asked_for.HeapOver memory) aim k has = refl
 
 other_kind : (b : Bool) (last : SlotKind) → (last ≡ stack_kind → ⊥) → (if b then memory_kind else last) ≡ stack_kind → ⊥
 other_kind true last other is = absurd cc
@@ -120,6 +121,7 @@ no_stack_next (asked_for.Memory m) j none is = other_kind (nat_lt j 1) table_kin
 no_stack_next (asked_for.Table ty) j none is = other_kind (nat_lt j 0) table_kind (λ e. absurd cc) is
 no_stack_next asked_for.Stack j none is = absurd (omega (arith, none))
 no_stack_next (asked_for.Heap ty) j none is = other_kind (nat_lt j 1) heap_kind (λ e. absurd cc) is
+no_stack_next (asked_for.HeapOver memory) j none is = other_kind (nat_lt j 0) heap_kind (λ e. absurd cc) is
 
 -- so many are numbered where a request goes on
 pub number_is : (a : Asked) (aim : Ending) (k : ℕ) → HasNumber (stage_by a aim k) → made_until (stage_by a aim k) ≡ k
@@ -129,6 +131,7 @@ number_is (asked_for.Memory m) granted k has = refl
 number_is (asked_for.Table ty) granted k has = refl
 number_is asked_for.Stack granted k has = absurd has
 number_is (asked_for.Heap ty) granted k has = refl
+number_is (asked_for.HeapOver memory) granted k has = refl
 number_is a returned k has = absurd has
 number_is a (refused e) k has = absurd has
 
@@ -140,6 +143,7 @@ at_most (asked_for.Memory m) granted k = omega arith
 at_most (asked_for.Table ty) granted k = omega arith
 at_most asked_for.Stack granted k = omega arith
 at_most (asked_for.Heap ty) granted k = omega arith
+at_most (asked_for.HeapOver memory) granted k = omega arith
 at_most a returned k = omega arith
 at_most a (refused e) k = omega arith
 
@@ -167,6 +171,7 @@ module _ {P H : Type 0} where
   HasAtMost k (Some (Granted (table_granted lease))) = 1 ≤ k
   HasAtMost k (Some (Granted (Stack lease))) = Unit {0}
   HasAtMost k (Some (Granted (Heap lease memory))) = Unit {0}
+  HasAtMost k (Some (Granted (HeapOver lease))) = Unit {0}
   HasAtMost k (Some Key) = Unit {0}
   HasAtMost k (Some Returned) = Unit {0}
   HasAtMost k (Some (Purged n)) = Unit {0}
@@ -193,6 +198,7 @@ module _ {P H : Type 0} where
   all_keeps (asked_for.Table ty) f = record { frame = omega arith; whole = back_answered P H _ f.ending }
   all_keeps asked_for.Stack f = record { frame = omega arith; whole = back_answered P H _ f.ending }
   all_keeps (asked_for.Heap ty) f = record { frame = omega arith; whole = back_answered P H _ f.ending }
+  all_keeps (asked_for.HeapOver memory) f = record { frame = omega arith; whole = back_answered P H _ f.ending }
   all_keeps asked_for.Nothing f = goes_keeps f UncountInstance (at_most f.asked f.ending (objects_in f.objects))
   all_keeps (asked_for.Module m) f = goes_keeps f UncountInstance (at_most f.asked f.ending (objects_in f.objects))
 

@@ -1,5 +1,5 @@
 -- A moment of the hall, as a core on which the frame can make its step.
-use Rattle.std.proofs.Common.{◌≡◌, ℕ, ◌+◌, ◌<◌, ◌≤◌, true, false, List, ◌++◌, length, map, ⊎_elim, sym, ap, subst, arith, Option, Some, None}
+use Rattle.std.proofs.Common.{◌≡◌, ℕ, ◌<◌, ◌≤◌, true, false, List, ◌++◌, length, map, ⊎_elim, sym, ap, subst, arith, Option, Some, None}
 use Rattle.std.proofs.lemmas.Bool.{cases_Bool, cases_lt}
 use Rattle.pool_hall.specs.Sum.{one_if, total}
 use Rattle.pool_hall.specs.Unit.{same, times, pick_of, Beside}

@@ -1,5 +1,5 @@
 -- What else a seat has is away at each moment that the hall shows it.
-use Rattle.std.proofs.Common.{◌≡◌, ℕ, ◌+◌, ◌≤◌, Bool, false, List, [], map, arith, Option, None}
+use Rattle.std.proofs.Common.{◌≡◌, ℕ, ◌+◌, ◌≤◌, false, List, [], map, arith, Option, None}
 use Rattle.pool_hall.specs.Sum.{total}
 use Rattle.pool_hall.specs.Moment.{Moment}
 use Rattle.pool_hall.specs.declared.unit_name.UnitName.{UnitName}
@@ -11,7 +11,7 @@ use Rattle.pool_alloc.specs.Places.{Thing, frame_count}
 use Rattle.pool_alloc.specs.Targets.{next_target}
 use Rattle.pool_alloc.specs.declared.frame.Frame.{Frame}
 use Rattle.pool_alloc.specs.declared.frame.Outcome.{Outcome}
-use Rattle.pool_driver.specs.Beside.{BesideStep, StepsBeside, StepsBesideAlike}
+use Rattle.pool_driver.specs.Beside.{StepsBeside, StepsBesideAlike}
 use Rattle.pool_driver.specs.Carrying.{Carries}
 use Rattle.pool_driver.specs.Driving.{Given}
 use Rattle.pool_driver.specs.Placed.{About, pool_meaning}

@@ -31,7 +31,7 @@ use Rattle.pool_alloc.specs.TableLeases.{LeasedTable}
 use Rattle.pool_alloc.specs.TableSteps.{made_table, table_reset_into}
 use Rattle.pool_alloc.specs.Turns.{Left, Row, Turn, after, all_returned, answer_of, ends, ends_with, failing, flush, goes, goes_to, granted_next, is_flushed, next, next_by, returned_next, search, slot_search, stays}
 use Rattle.pool_alloc.specs.declared.frame.Asked.{Asked}
-use Rattle.pool_alloc.specs.declared.frame.Asked.TheVariants.{Memory as memory_asked, Table as table_asked, Stack as stack_asked, Heap as heap_asked}
+use Rattle.pool_alloc.specs.declared.frame.Asked.TheVariants.{Memory as memory_asked, Table as table_asked, Stack as stack_asked, Heap as heap_asked, HeapOver as heap_over_asked}
 use Rattle.pool_alloc.specs.declared.frame.Ending.{Ending}
 use Rattle.pool_alloc.specs.declared.frame.Ending.TheVariants.{Granted as granted, Returned as returned, Refused as refused}
 use Rattle.pool_alloc.specs.declared.frame.Frame.{Frame}
@@ -51,6 +51,7 @@ use Rattle.pool_alloc.specs.declared.purge.PurgeStep.TheVariants as purging_step
 use Rattle.pool_alloc.specs.declared.release.ReleaseCursor.{ReleaseCursor}
 use Rattle.pool_alloc.specs.declared.release.ReleaseStep.{ReleaseStep}
 use Rattle.pool_alloc.specs.declared.release.ReleaseStep.TheVariants as releasing_step
+use Rattle.pool_alloc.specs.Refusals.{heap_refused}
 use Rattle.pool_driver.specs.Faults.{HasFaulted, KeepsFaults}
 use Rattle.pool_driver.specs.Limits.{IfRefused}
 use Rattle.pool_driver.specs.PageFaults.{IfFaulted, IfToFault, PhaseFaulted}
@@ -149,6 +150,7 @@ module _ {P H : Type 0} (X : Type 0) where
   all_returned_faulted (table_asked ty) f k = record { frame = tt; answer = answer_faulted P H X f.ending k }
   all_returned_faulted stack_asked f k = record { frame = tt; answer = answer_faulted P H X f.ending k }
   all_returned_faulted (heap_asked ty) f k = record { frame = tt; answer = answer_faulted P H X f.ending k }
+  all_returned_faulted (heap_over_asked memory) f k = record { frame = tt; answer = answer_faulted P H X f.ending k }
   all_returned_faulted asked f k = record { frame = k; answer = tt }
 
   -- An object leaves those in hand,
@@ -231,9 +233,13 @@ module _ {P H : Type 0} (X : Type 0) where
       stacks_faulted true = tt
       stacks_faulted false = k
 
+      tested_faulted : (what : Asked) (wants : Bool) → RowFaulted (rows.memory_tested what wants c f)
+      tested_faulted (heap_over_asked memory) wants = k
+      tested_faulted what wants = validated_faulted (heap_refused c.settings what) wants (Pick 0) k
+
       pub heaps_faulted : (b wants : Bool) → RowFaulted (rows.heaps_tested b wants c f)
       heaps_faulted false wants = tt
-      heaps_faulted true wants = validated_faulted _ wants (Pick 0) k
+      heaps_faulted true wants = tested_faulted f.asked wants
 
       pub counted_faulted : (b : Bool) → RowFaulted (rows.counted b c f)
       counted_faulted true = k
@@ -292,6 +298,10 @@ module _ {P H : Type 0} (X : Type 0) where
       pub heap_granted_faulted : (memories : List Lease) (lease : LeasedHeap H) → RowFaulted (rows.heap_granted memories lease c f)
       heap_granted_faulted [] lease = tt
       heap_granted_faulted (memory ∷ rest) lease = tt
+
+      pub heap_counted_faulted : (what : Asked) (lease : LeasedHeap H) → RowFaulted (rows.heap_counted what lease c f)
+      heap_counted_faulted (heap_over_asked memory) lease = tt
+      heap_counted_faulted what lease = heap_granted_faulted f.objects.memories.items lease
 
       -- given back,
       pub uncount_object_faulted : (o : Object P) → RowFaulted (rows.uncount_object_row o c f)

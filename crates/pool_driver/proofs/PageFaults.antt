@@ -1,6 +1,6 @@
 -- A call that is refused for a failed page call: a memory's region goes back into its cell with more faults than it left it with, and the
 -- seat notes that.
-use Rattle.std.proofs.Common.{◌≡◌, ◌⊎◌, ⊎_elim, ℕ, Bool, true, false, List, length, refl, sym, ap, subst, Option, slice_get}
+use Rattle.std.proofs.Common.{◌≡◌, ◌⊎◌, ⊎_elim, ℕ, Bool, true, false, List, length, refl, sym, ap, subst, Option, slice_get, Some, None}
 use Rattle.std.specs.Prelude.{nat_le}
 use Rattle.pool_hall.specs.declared.unit_name.SlotKind.TheVariants.{Memory as memory_kind}
 use Rattle.pool_hall.specs.declared.view.View.{View}
@@ -31,7 +31,7 @@ use Rattle.pool_alloc.specs.declared.frame.Call.{Call}
 use Rattle.pool_alloc.specs.declared.frame.Call.TheVariants as call
 use Rattle.pool_alloc.specs.declared.frame.Ending.TheVariants.{Returned as returned}
 use Rattle.pool_alloc.specs.declared.frame.Frame.{Frame}
-use Rattle.pool_alloc.specs.declared.frame.Grant.TheVariants.{Instance, Component, Memory, Table, Stack, Heap}
+use Rattle.pool_alloc.specs.declared.frame.Grant.TheVariants.{Instance, Component, Memory, Table, Stack, Heap, HeapOver}
 use Rattle.pool_alloc.specs.declared.frame.Outcome.{Outcome}
 use Rattle.pool_alloc.specs.declared.frame.Phase.{Phase}
 use Rattle.pool_alloc.specs.declared.frame.Phase.TheVariants.{Idle, Key, Validate, TestStack, TestHeap, CountInstance, Pick, TakeQueue, TakeRegion, Empty, Instantiate, MakeMemory, MakeTable, CountObject, TakeHeap, MakeHeap, CountHeap, PutNoHeap, PutBack, FreeOne, UncountObject, UncountHeap, PutHeap, FreeHeap, Reset, Merge, Flush, UncountInstance, ValidateComponent, CountComponent, UncountComponent, Purge, Release}
@@ -46,7 +46,7 @@ use Rattle.pool_driver.specs.Placed.{About}
 use Rattle.pool_driver.specs.Telling.{HoldsMore}
 use Rattle.pool_driver.proofs.Naming.{PutAt, left_is, placed_at, sees_more}
 use Rattle.pool_driver.proofs.OwnNumbers.{IsOwn, OwnPut, own_numbers}
-use Rattle.pool_driver.proofs.PageFaultRows.{LeftFaulted, RowFaulted, after_faulted, answer_faulted, component_counted_faulted, component_faulted, count_object_faulted, counted_faulted, flush_row_faulted, heap_faulted, heap_granted_faulted, heaps_faulted, make_heap_faulted, make_memory_faulted, make_table_faulted, merged_faulted, paged_faulted, picked_faulted, purge_faulted, region_faulted, release_faulted, reset_row_faulted, returned_faulted, stacks_faulted, take_queue_faulted, to_fault_more, uncount_object_faulted, validated_faulted}
+use Rattle.pool_driver.proofs.PageFaultRows.{LeftFaulted, RowFaulted, after_faulted, answer_faulted, component_counted_faulted, component_faulted, count_object_faulted, counted_faulted, flush_row_faulted, heap_faulted, heap_counted_faulted, heaps_faulted, make_heap_faulted, make_memory_faulted, make_table_faulted, merged_faulted, paged_faulted, picked_faulted, purge_faulted, region_faulted, release_faulted, reset_row_faulted, returned_faulted, stacks_faulted, take_queue_faulted, to_fault_more, uncount_object_faulted, validated_faulted}
 use Rattle.pool_driver.proofs.RegionFaults.{empties_faulted, instantiates_faulted}
 use Rattle.pool_driver.proofs.CellPuts.{faulted_home, still_faulted}
 
@@ -124,13 +124,14 @@ module _ {T P H : Type 0} (about : T → About) (inner : T → PoolPart P H) (Pa
   row_faulted (CountObject object) is on_way k = count_object_faulted X c e (on k) object
   row_faulted (TakeHeap name) is on_way k = heap_faulted P H X f.ending _ (heap_in name.slot (heaps_at c)) (on k)
   row_faulted (MakeHeap at) is on_way k = make_heap_faulted X c e (on k) given.heap at
-  row_faulted (CountHeap lease) is on_way k = heap_granted_faulted X c e (on k) f.objects.memories.items lease
+  row_faulted (CountHeap lease) is on_way k = heap_counted_faulted X c e (on k) f.asked lease
   row_faulted (PutNoHeap at) is on_way k = on k
   row_faulted (PutBack at held) is on_way k = put_back at held is k
   row_faulted (FreeOne name) is on_way k = on k
   row_faulted (UncountObject object) is on_way k = uncount_object_faulted X c e (on k) object
   row_faulted (UncountHeap lease memory) is on_way k = on k
-  row_faulted (PutHeap lease memory) is on_way k = on k
+  row_faulted (PutHeap lease (Some memory)) is on_way k = on k
+  row_faulted (PutHeap lease None) is on_way k = on k
   row_faulted (FreeHeap name memory) is on_way k = on k
   row_faulted (Reset object) is on_way k = reset_row_faulted X c e (on k) given object
   row_faulted Merge is on_way k =
@@ -159,11 +160,13 @@ faulted_begins known (call.Memory m) f = tt
 faulted_begins known (call.Table ty) f = tt
 faulted_begins known call.Stack f = tt
 faulted_begins known (call.Heap ty) f = tt
+faulted_begins known (call.HeapOver memory) f = tt
 faulted_begins known (call.GiveBack (Instance lease)) f = (returned_faulted known lease.memories.items lease.tables.items (record f { asked = asked.Nothing; objects = lease; ending = returned }) tt).frame
 faulted_begins known (call.GiveBack Component) f = tt
 faulted_begins known (call.GiveBack (Memory lease)) f = tt
 faulted_begins known (call.GiveBack (Table lease)) f = tt
 faulted_begins known (call.GiveBack (Stack lease)) f = tt
 faulted_begins known (call.GiveBack (Heap lease memory)) f = tt
+faulted_begins known (call.GiveBack (HeapOver lease)) f = tt
 faulted_begins known (call.Purge id) f = tt
 faulted_begins known call.Release f = tt

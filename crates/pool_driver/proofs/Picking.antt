@@ -25,7 +25,7 @@ use Rattle.pool_alloc.specs.MemorySteps.{image_made}
 use Rattle.pool_alloc.specs.Objects.{objects_in, objects_wanted}
 use Rattle.pool_alloc.specs.PoolStacks.{stack_made}
 use Rattle.pool_alloc.specs.StepReads.{IsForObjects, StepGiven, cell_named, heaps_at, kind_by, kind_next, memories_wanted}
-use Rattle.pool_alloc.specs.StepTable.{FlushStep, run, zero, put, free, count_object_row, memory_kept, memory_turn, table_kept, table_turn, flush_row, flush_step, heap_granted, heap_next, make_heap_row, paged, put_first, region_next, row_of, unmapped_next, was_made, was_made_table}
+use Rattle.pool_alloc.specs.StepTable.{FlushStep, run, zero, put, free, count_object_row, memory_kept, memory_turn, table_kept, table_turn, flush_row, flush_step, heap_granted, heap_next, make_heap_row, paged, put_first, region_next, row_of, unmapped_next, was_made, was_made_table, heap_counted}
 use Rattle.pool_alloc.specs.TableLeases.{LeasedTable}
 use Rattle.pool_alloc.specs.Reserved.{with_item}
 use Rattle.pool_alloc.proofs.BeforeTheTurn.{kept_of}
@@ -96,10 +96,12 @@ kind_memory (asked.Memory m) n below = if_memory n _ _ below
 kind_memory asked.Nothing n below = absurd (omega (arith, below))
 kind_memory (asked.Module m) n below = if_memory n _ _ below
 kind_memory (asked.Heap ty) n below = if_memory n _ _ below
+kind_memory (asked.HeapOver memory) n below = absurd (omega (arith, below))
 
 kind_table : (what : Asked) (n : ℕ) → length (memories_wanted what) ≤ n → IsForObjects what → kind_by what n ≡ table_kind
 kind_table asked.Stack n most for = absurd (omega (arith, for.no_stack))
 kind_table (asked.Heap ty) n most for = absurd (omega (arith, for.no_heap))
+kind_table (asked.HeapOver memory) n most for = absurd (omega (arith, for.no_heap))
 kind_table (asked.Memory m) n most for = if_last n _ _ most
 kind_table (asked.Table ty) n most for = if_last n _ _ most
 kind_table asked.Nothing n most for = if_last n _ _ most
@@ -129,6 +131,11 @@ module _ {P : Type 0} (s : Settings) (plan : Plan) (aim : Ending) (queues : ℕ)
     where
       go : (b : Bool) → nat_lt (length objects.memories.items) 1 ≡ b → granted_of (if b then memory_kind else heap_kind) objects < wanted_of (if b then memory_kind else heap_kind) (asked.Heap ty)
       go true is = ltb-true _ _ is
+      go false is = omega arith
+  room_next (asked.HeapOver memory) grants = go (nat_lt (length objects.memories.items) 0) refl
+    where
+      go : (b : Bool) → nat_lt (length objects.memories.items) 0 ≡ b → granted_of (if b then memory_kind else heap_kind) objects < wanted_of (if b then memory_kind else heap_kind) (asked.HeapOver memory)
+      go true is = absurd (omega (arith, ltb-true (length objects.memories.items) 0 is))
       go false is = omega arith
 
   few_granted : (what : Asked) → GrantsMore s plan aim what queues objects → (kind : SlotKind) → granted_of kind objects ≤ wanted_of kind what
@@ -183,6 +190,7 @@ module _ {P H : Type 0} where
         all (asked.Table ty) = λ asks. absurd cc
         all asked.Stack = λ asks. absurd cc
         all (asked.Heap ty) = λ asks. absurd cc
+        all (asked.HeapOver memory) = λ asks. absurd cc
         all asked.Nothing = λ asks. never_back g.asked g.ending (objects_in g.objects) back asks
         all (asked.Module m) = λ asks. never_back g.asked g.ending (objects_in g.objects) back asks
 
@@ -293,6 +301,10 @@ module _ {P H : Type 0} (c : PoolCore P H) (f : Frame P H) where
   heap_granted_keeps p [] lease = λ asks. absurd cc
   heap_granted_keeps p (memory ∷ rest) lease = λ asks. absurd cc
 
+  heap_counted_keeps : (p : Phase P H) (what : Asked) (lease : LeasedHeap H) → RowKeeps p (heap_counted what lease c e)
+  heap_counted_keeps p (asked.HeapOver memory) lease = λ asks. absurd cc
+  heap_counted_keeps p what lease = heap_granted_keeps p f.objects.memories.items lease
+
   -- An object in hand is granted.
   one_at_most : (b : Bool) → (if b then 1 else 0) ≤ 1
   one_at_most true = omega arith
@@ -364,7 +376,7 @@ module _ {P H : Type 0} (c : PoolCore P H) (f : Frame P H) where
   row_keeps maker g (CountObject (object.Stack lease)) shape asks = λ on. absurd cc
   row_keeps maker g (TakeHeap name) shape asks = heap_keeps (TakeHeap name) refl _ (heap_in name.slot (heaps_at c))
   row_keeps maker g (MakeHeap at) shape asks = heap_made_keeps (MakeHeap at) refl g.heap at
-  row_keeps maker g (CountHeap lease) shape asks = heap_granted_keeps (CountHeap lease) f.objects.memories.items lease
+  row_keeps maker g (CountHeap lease) shape asks = heap_counted_keeps (CountHeap lease) f.asked lease
   row_keeps maker g (PutNoHeap at) shape asks = never_back f.asked f.ending (objects_in f.objects) shape.1 asks
   row_keeps maker g (PutBack at has) shape asks = never_back f.asked f.ending (objects_in f.objects) shape.1 asks
   row_keeps maker g (FreeOne name) shape asks = never_back f.asked f.ending (objects_in f.objects) shape.1 asks

@@ -323,6 +323,7 @@ missed_begins v plan per_module (call.Memory m) f kind = tt
 missed_begins v plan per_module (call.Table ty) f kind = tt
 missed_begins v plan per_module call.Stack f kind = tt
 missed_begins v plan per_module (call.Heap ty) f kind = tt
+missed_begins v plan per_module (call.HeapOver memory) f kind = tt
 missed_begins v plan per_module (call.GiveBack grant) f kind = none_missed_on v v plan per_module (begun_call (call.GiveBack grant) f) (λ on. let apart : gives_back ≡ purges = sym kind ∙ on in absurd cc)
 missed_begins v plan per_module (call.Purge id) f kind = record {
   small = omega arith;

@@ -163,6 +163,7 @@ yes_here a aim k s xs is grants none had = by a none (subst (λ (z : Stage). Ask
     by (asked_for.Table ty) no_stack so = so
     by asked_for.Stack no_stack so = absurd (omega (arith, no_stack))
     by (asked_for.Heap ty) no_stack so = so
+    by (asked_for.HeapOver memory) no_stack so = so
 
 pub yes_there : (a b : Asked) (k : ℕ) (xs : List Exchange) → stacks_wanted b ≡ 0 → YesTo a k xs → AskedSoFar a (asks (progress_by b k)) xs
 yes_there a asked_for.Nothing k xs none allowed = allowed
@@ -171,6 +172,7 @@ yes_there a (asked_for.Memory m) k xs none allowed = allowed
 yes_there a (asked_for.Table ty) k xs none allowed = allowed
 yes_there a asked_for.Stack k xs none allowed = absurd (omega (arith, none))
 yes_there a (asked_for.Heap ty) k xs none allowed = allowed
+yes_there a (asked_for.HeapOver memory) k xs none allowed = allowed
 
 pub some_yes : (a : Asked) (p : Progress) (xs : List Exchange) → RequestAsked a p xs → (n : ℕ) × YesTo a n xs
 some_yes a untested xs had = (0, had)
@@ -189,3 +191,4 @@ no_tables (asked_for.Memory m) one = refl
 no_tables (asked_for.Table ty) one = absurd (omega (arith, one))
 no_tables asked_for.Stack one = refl
 no_tables (asked_for.Heap ty) one = refl
+no_tables (asked_for.HeapOver memory) one = refl

@@ -1,6 +1,6 @@
 -- What is so of each error with which a step may refuse a call: of each that is no limit, of the refusal for room, and of those by a
 -- counter.
-use Rattle.std.proofs.Common.{◌≡◌, ◌⊎◌, ⊎_elim, ℕ, length, sym, refl, subst, true, false, Option, Some, None, Result, Err}
+use Rattle.std.proofs.Common.{◌≡◌, ⊎_elim, ℕ, length, sym, refl, subst, true, false, Option, Some, None, Result, Err}
 use Rattle.std.specs.Prelude.{slice_get}
 use Rattle.pool_types.specs.declared.unsupported.Unsupported.{Unsupported}
 use Rattle.pool_pages.specs.MakerTold.{MakerTold}
@@ -10,7 +10,7 @@ use Rattle.pool_alloc.specs.CallStages.{FailsHeap, FindsNone, Goes, IsBroken, Is
 use Rattle.pool_alloc.specs.MemorySteps.{heap_refusal, memory_made}
 use Rattle.pool_alloc.specs.PartyTold.{PartyTold}
 use Rattle.pool_alloc.specs.Refusals.{heap_refused}
-use Rattle.pool_alloc.specs.StepReads.{memories_wanted, tables_wanted}
+use Rattle.pool_alloc.specs.StepReads.{memories_wanted, tables_wanted, HasMemories}
 use Rattle.pool_alloc.specs.StepTable.{no_component_left, no_instance_left}
 use Rattle.pool_alloc.specs.TableSteps.{table_made}
 use Rattle.pool_alloc.specs.declared.frame.Frame.{Frame}
@@ -62,7 +62,7 @@ module _ {P H : Type 0} (maker : MakerTold) (old new : PartyTold) (c : PoolCore 
   raised_so asking seeks_stack e raised = ⊎_elim (λ (off : (e ≡ refusal.StacksDisabled) × (c.settings.stack_size ≡ 0)). not_limit e refusal.StacksDisabled off.0 tt) (λ (none : FindsNone c f 0 e). room asking 0 e none) raised
   raised_so asking tests_heap e raised = ⊎_elim
       (λ (off : (c.settings.tunables.tunables.collector ≡ false) × (e ≡ refusal.HeapsDisabled)). not_limit e refusal.HeapsDisabled off.1 tt)
-      (λ (rule : (c.settings.tunables.tunables.collector ≡ true) × IsUntested (heap_refused c.settings f.asked) e). untested_so _ e rule.1)
+      (λ (rule : (c.settings.tunables.tunables.collector ≡ true) × HasMemories f.asked × IsUntested (heap_refused c.settings f.asked) e). untested_so _ e rule.2)
       raised
   raised_so asking (seeks_heap n) e raised = ⊎_elim
       (λ (none : FindsNone c f n e). room asking n e none)

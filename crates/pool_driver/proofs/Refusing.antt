@@ -16,6 +16,7 @@ use Rattle.pool_memory.specs.Making.{limits_answer, maximum_asked}
 use Rattle.pool_memory.specs.Static.{static_capacity}
 use Rattle.pool_memory.specs.declared.memory_error.MemoryError.TheVariants as unmade
 use Rattle.pool_hall.specs.declared.unit_name.SlotKind.TheVariants.{Memory as memory_kind, Table as table_kind, Heap as heap_kind}
+use Rattle.pool_hall.specs.declared.unit_name.SlotKind.{SlotKind}
 use Rattle.pool_slots.specs.declared.errors.AllocError.{AllocError}
 use Rattle.pool_slots.specs.declared.errors.AllocError.TheVariants as refusal
 use Rattle.pool_slots.specs.declared.heap_maker.HeapMakeFault.{HeapMakeFault}
@@ -27,7 +28,7 @@ use Rattle.pool_alloc.specs.MemorySteps.{heap_refusal, made_for, made_of, made_o
 use Rattle.pool_alloc.specs.PartyTold.{PartyTold}
 use Rattle.pool_alloc.specs.PlainModules.{MemoryAsked}
 use Rattle.pool_alloc.specs.Refusals.{heap_refused}
-use Rattle.pool_alloc.specs.StepReads.{IsModule, heaps_wanted, kind_by, memories_wanted, singles_wanted, tables_wanted}
+use Rattle.pool_alloc.specs.StepReads.{IsModule, heaps_wanted, kind_by, memories_wanted, singles_wanted, tables_wanted, HasMemories}
 use Rattle.pool_alloc.specs.TableLeases.{LeasedTable}
 use Rattle.pool_alloc.specs.TableSteps.{made_table, made_unless}
 use Rattle.pool_alloc.specs.Turns.{limit_of}
@@ -35,7 +36,7 @@ use Rattle.pool_alloc.specs.declared.frame.Asked.{Asked}
 use Rattle.pool_alloc.specs.declared.frame.Asked.TheVariants as asked_for
 use Rattle.pool_alloc.specs.declared.frame.Frame.{Frame}
 use Rattle.pool_alloc.specs.declared.frame.Grant.{Grant}
-use Rattle.pool_alloc.specs.declared.frame.Grant.TheVariants.{Instance, Component, Memory as memory_granted, Table as table_granted, Stack, Heap}
+use Rattle.pool_alloc.specs.declared.frame.Grant.TheVariants.{Instance, Component, Memory as memory_granted, Table as table_granted, Stack, Heap, HeapOver}
 use Rattle.pool_alloc.specs.declared.frame.Outcome.{Outcome}
 use Rattle.pool_alloc.specs.declared.frame.Outcome.TheVariants.{Key, Granted, Returned, Purged, Released, Refused}
 use Rattle.pool_alloc.specs.declared.frame.TakenSlot.{TakenSlot}
@@ -44,7 +45,8 @@ use Rattle.pool_alloc.specs.declared.pool_core.Settings.{Settings}
 use Rattle.pool_alloc.specs.Objects.{objects_in}
 use Rattle.pool_alloc.proofs.BeforeTheTurn.{kept_of}
 use Rattle.pool_driver.proofs.Questions.{there_is}
-use Rattle.pool_driver.specs.Refusing.{FailsHeap, FailsMemory, FailsModule, FailsSingle, FailsTable, IsCallFor, IsHeapLimit, IsMemoryAsked, IsMemoryLimit, IsModuleLimit, IsRequestFor, IsTableAsked, MayEnd, RequestGranted, RequestRefused, StackRefused}
+use Rattle.pool_driver.specs.Refusing.{FailsHeap, FailsMemory, FailsModule, FailsSingle, FailsTable, IsCallFor, IsHeapLimit, IsMemoryAsked, IsMemoryLimit, IsModuleLimit, IsRequestFor, IsTableAsked, MayEnd, RequestGranted, RequestRefused, StackRefused, FailsHeapFor, FailsHeapOver, IsOverAsked}
+use Rattle.pool_slots.specs.declared.allocation_index.MemoryAllocationIndex.{MemoryAllocationIndex}
 
 -- Whatever wasn't made, the reason is one of these
 abbrev pub IfFails : {X : Type 0} → (AllocError → Type 0) → Result X AllocError → Type 0
@@ -98,9 +100,15 @@ module_limit (asked_for.Memory m) k stripe is = absurd is
 module_limit (asked_for.Table ty) k stripe is = absurd is
 module_limit asked_for.Stack k stripe is = absurd is
 module_limit (asked_for.Heap ty) k stripe is = absurd is
+module_limit (asked_for.HeapOver memory) k stripe is = absurd is
 
 heap_limit : (a : Asked) (k stripe : ℕ) → heaps_wanted a ≡ 1 → IsHeapLimit (limit_of (kind_by a k) stripe)
 heap_limit (asked_for.Heap ty) k stripe is = by (nat_lt k 1)
+  where
+    by : (b : Bool) → IsHeapLimit (limit_of (if b then memory_kind else heap_kind) stripe)
+    by true = tt
+    by false = tt
+heap_limit (asked_for.HeapOver memory) k stripe is = by (nat_lt k 0)
   where
     by : (b : Bool) → IsHeapLimit (limit_of (if b then memory_kind else heap_kind) stripe)
     by true = tt
@@ -124,6 +132,23 @@ heap_fault : (fault : HeapMakeFault) → FailsHeap (heap_refusal fault)
 heap_fault no_heap.Memory = tt
 heap_fault no_heap.HeapFault = tt
 
+over_fault : (fault : HeapMakeFault) → FailsHeapOver (heap_refusal fault)
+over_fault no_heap.Memory = tt
+over_fault no_heap.HeapFault = tt
+
+-- the only slot of a heap over a memory that there is is one of a heap
+over_kind : (memory : MemoryAllocationIndex) (k : ℕ) → kind_by (asked_for.HeapOver memory) k ≡ heap_kind
+over_kind memory k = by (nat_lt k 0) refl
+  where
+    by : (b : Bool) → nat_lt k 0 ≡ b → (if b then memory_kind else heap_kind) ≡ heap_kind
+    by true is = absurd (omega (arith, ltb-true k 0 is))
+    by false is = refl
+
+-- a heap that has a memory of its own
+with_memory_fails : (a : Asked) (e : AllocError) → HasMemories a → FailsHeap e → FailsHeapFor a e
+with_memory_fails (asked_for.HeapOver memory) e has fails = absurd has
+with_memory_fails a e has fails = fails
+
 module _ {P H : Type 0} (maker : MakerTold) (old new : PartyTold) (c : PoolCore P H) (f : Frame P H) (settings : IsSettings c.settings) where
   -- Why a step fails a request is one of the reasons for which it may be refused.
   none_found : (n : ℕ) (e : AllocError) (Q : AllocError → Type 0) → ((limit : ℕ) → Q (refusal.Limit (record { limit = limit; kind = limit_of (kind_by f.asked (length f.objects.memories.items)) f.stripe }))) → FindsNone c f n e → Q e
@@ -146,6 +171,22 @@ module _ {P H : Type 0} (maker : MakerTold) (old new : PartyTold) (c : PoolCore 
       (⊎_elim
       (λ (makes : Makes old new c f n (Err e)). failed_so FailsHeap _ e makes.is (memory_fails FailsHeap makes.given (λ min is. refl) (λ x is. tt) (λ is. tt) c.settings settings makes.held _ (slice_get (memories_wanted f.asked) (length f.objects.memories.items)) (λ none. tt) (makes.allocating.to_grant.supported.each (length f.objects.memories.items))))
       (λ (fails : HeapFails old new c f n e). subst FailsHeap (sym fails.1.1.1) (heap_fault fails.0))))
+
+  -- and over a memory that there is none is made
+  over_raises : (memory : MemoryAllocationIndex) (n : ℕ) (e : AllocError) → f.asked ≡ asked_for.HeapOver memory → FindsNone c f n e ⊎ (IsPageFaulted maker c f n e ⊎ (Makes old new c f n (Err e) ⊎ HeapFails old new c f n e)) → FailsHeapOver e
+  over_raises memory n e is =
+      let none : length (memories_wanted f.asked) ≡ 0 = ap (λ (a : Asked). length (memories_wanted a)) is in
+      ⊎_elim
+      (λ (finds : FindsNone c f n e). none_found n e FailsHeapOver (λ limit. ap (λ (a : Asked). limit_of (kind_by a (length f.objects.memories.items)) f.stripe) is ∙ ap (λ (k : SlotKind). limit_of k f.stripe) (over_kind memory (length f.objects.memories.items))) finds)
+      (⊎_elim
+      (λ (faulted : IsPageFaulted maker c f n e). absurd (omega (arith, faulted.next, none)))
+      (⊎_elim
+      (λ (makes : Makes old new c f n (Err e)). absurd (omega (arith, makes.next, none)))
+      (λ (fails : HeapFails old new c f n e). subst FailsHeapOver (sym fails.1.1.1) (over_fault fails.0))))
+
+  heap_raises_for : (a : Asked) (n : ℕ) (e : AllocError) → f.asked ≡ a → heaps_wanted f.asked ≡ 1 → FindsNone c f n e ⊎ (IsPageFaulted maker c f n e ⊎ (Makes old new c f n (Err e) ⊎ HeapFails old new c f n e)) → FailsHeapFor a e
+  heap_raises_for (asked_for.HeapOver memory) n e is one raises = over_raises memory n e is raises
+  heap_raises_for a n e is one raises = heap_raises n e one raises
 
   -- A request for an object by itself has none yet.
   none_single : IsAllocating c.settings c.plan f → singles_wanted f.asked ≡ 1 → objects_in f.objects ≡ 0
@@ -190,6 +231,7 @@ module _ {P H : Type 0} (maker : MakerTold) (old new : PartyTold) (c : PoolCore 
   single_raises n e (asked_for.Module m) is one raises = absurd (omega (arith, one))
   single_raises n e asked_for.Stack is one raises = absurd (omega (arith, one))
   single_raises n e (asked_for.Heap ty) is one raises = absurd (omega (arith, one))
+  single_raises n e (asked_for.HeapOver memory) is one raises = absurd (omega (arith, one))
 
   raises_so : (p : Progress) (e : AllocError) → IsRequestFor p f.asked → Raises maker old new c f p e → RequestRefused c.settings c.plan f.asked p e
   raises_so untested e is raises = module_untested _ e raises
@@ -202,12 +244,12 @@ module _ {P H : Type 0} (maker : MakerTold) (old new : PartyTold) (c : PoolCore 
       raises
   raises_so tests_heap e is raises = ⊎_elim
       (λ (disabled : (c.settings.tunables.tunables.collector ≡ false) × (e ≡ refusal.HeapsDisabled)). inl disabled)
-      (λ (enabled : (c.settings.tunables.tunables.collector ≡ true) × IsUntested (heap_refused c.settings f.asked) e). ⊎_elim
+      (λ (enabled : (c.settings.tunables.tunables.collector ≡ true) × HasMemories f.asked × IsUntested (heap_refused c.settings f.asked) e). ⊎_elim
       (λ (broken : IsBroken (heap_refused c.settings f.asked) e). inr (inl (enabled.0, broken)))
-      (λ (fails : (heap_refused c.settings f.asked ≡ None) × FailsHeap e). inr (inr ((enabled.0, fails.0), fails.1)))
-      (heap_untested (heap_refused c.settings f.asked) e enabled.1))
+      (λ (fails : (heap_refused c.settings f.asked ≡ None) × FailsHeap e). inr (inr ((enabled.0, fails.0), with_memory_fails f.asked e enabled.1 fails.1)))
+      (heap_untested (heap_refused c.settings f.asked) e enabled.2))
       raises
-  raises_so (seeks_heap n) e is raises = heap_raises n e is raises
+  raises_so (seeks_heap n) e is raises = heap_raises_for f.asked n e refl is raises
   raises_so counts_heap e is raises = absurd raises
 
   -- A step takes a request on so that it may be refused, or granted, only as it might have been.
@@ -233,11 +275,14 @@ module _ {P H : Type 0} (maker : MakerTold) (old new : PartyTold) (c : PoolCore 
   granted_before (seeks_single n) (seeks_single m) (table_granted lease) follows granted = granted
   granted_before (seeks_single n) (seeks_single m) grant follows granted = absurd granted
   granted_before seeks_stack seeks_stack grant follows granted = granted
-  granted_before tests_heap (seeks_heap n) (Heap lease memory) follows granted = (follows.1.enabled, follows.1.rules)
+  granted_before tests_heap (seeks_heap n) (Heap lease memory) follows granted = ((follows.1.enabled, follows.1.rules), granted)
+  granted_before tests_heap (seeks_heap n) (HeapOver lease) follows granted = ((follows.1.enabled, follows.1.rules), granted)
   granted_before tests_heap (seeks_heap n) grant follows granted = absurd granted
-  granted_before (seeks_heap n) (seeks_heap m) (Heap lease memory) follows granted = tt
+  granted_before (seeks_heap n) (seeks_heap m) (Heap lease memory) follows granted = granted
+  granted_before (seeks_heap n) (seeks_heap m) (HeapOver lease) follows granted = granted
   granted_before (seeks_heap n) (seeks_heap m) grant follows granted = absurd granted
-  granted_before (seeks_heap n) counts_heap (Heap lease memory) follows granted = tt
+  granted_before (seeks_heap n) counts_heap (Heap lease memory) follows granted = granted
+  granted_before (seeks_heap n) counts_heap (HeapOver lease) follows granted = granted
   granted_before (seeks_heap n) counts_heap grant follows granted = absurd granted
   granted_before p q grant follows granted = absurd follows
 
@@ -278,7 +323,8 @@ module _ {P H : Type 0} (maker : MakerTold) (old new : PartyTold) (c : PoolCore 
   ends_so (asks p) no_call (Granted (table_granted lease)) is of goes = granted_before p (seeks_single 1) (table_granted lease) goes (subst IsTableAsked (sym of.asked_for) tt)
   ends_so (asks p) no_call (Granted (Stack lease)) is of goes = granted_before p seeks_stack (Stack lease) goes.0 goes.1
   ends_so (asks p) no_call (Granted (Instance lease)) is of goes = granted_before p (admitted _) (Instance lease) goes.0 tt
-  ends_so (asks counts_heap) no_call (Granted (Heap lease memory)) is of goes = tt
+  ends_so (asks counts_heap) no_call (Granted (Heap lease memory)) is of goes = subst HasMemories (sym of.asked_for) tt
+  ends_so (asks counts_heap) no_call (Granted (HeapOver lease)) is of goes = subst IsOverAsked (sym of.asked_for) tt
   ends_so (asks untested) no_call (Refused e) is of goes = raises_so untested e is goes
   ends_so (asks (seeks_single n)) no_call (Refused e) is of goes = raises_so (seeks_single n) e is goes.0
   ends_so (asks seeks_stack) no_call (Refused e) is of goes = raises_so seeks_stack e is goes

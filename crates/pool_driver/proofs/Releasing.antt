@@ -204,6 +204,7 @@ module _ {T P H : Type 0} (base w : View T) (plan : Plan) where
   taken_begins (call.Table ty) f kind = tt
   taken_begins call.Stack f kind = tt
   taken_begins (call.Heap ty) f kind = tt
+  taken_begins (call.HeapOver memory) f kind = tt
   taken_begins (call.GiveBack grant) f kind = none_taken_on (begun_call (call.GiveBack grant) f) (λ on. let apart : gives_back ≡ releases = sym kind ∙ on in absurd cc)
   taken_begins (call.Purge id) f kind = tt
   taken_begins call.Release f kind = tt

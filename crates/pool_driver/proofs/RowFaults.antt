@@ -1,5 +1,5 @@
 -- The rows of calls: what the frame has, and what queues of the pool hold, keeps its faults.
-use Rattle.std.proofs.Common.{◌≡◌, ℕ, ◌+◌, ◌<◌, Bool, true, false, List, [], ◌∷◌, length, sym, subst, arith, Option, Some, None, Result, Ok, Err, inl, inr, set, nat_lt, nat_le, slice_get}
+use Rattle.std.proofs.Common.{◌≡◌, ℕ, ◌+◌, ◌<◌, Bool, true, false, List, [], ◌∷◌, length, sym, subst, arith, Option, Some, None, Result, Ok, Err, inl, inr, set, nat_lt, nat_le, slice_get, IfSome}
 use Rattle.std.specs.Prelude.{if◌then◌else◌, ◌^◌, ◌==◌, ◌||◌}
 use Rattle.std.specs.List.{AllByRecursion}
 use Rattle.std.proofs.lemmas.Bool.{cases_lt}
@@ -61,6 +61,7 @@ use Rattle.pool_alloc.specs.declared.frame.Phase.TheVariants.{Merge, Pick}
 use Rattle.pool_alloc.specs.declared.frame.TakenSlot.{TakenSlot}
 use Rattle.pool_alloc.specs.declared.pool_core.PoolCore.{PoolCore}
 use Rattle.pool_alloc.specs.declared.pool_core.Settings.{Settings}
+use Rattle.pool_alloc.specs.Refusals.{heap_refused}
 use Rattle.pool_alloc.proofs.CoreChanges.{at_set}
 use Rattle.pool_alloc.proofs.ToldElements.{told_there}
 use Rattle.pool_driver.specs.Faults.{AnswerKeeps, FrameKeeps, KeepsFaults, LeaseKeeps, ObjectKeeps, PartKeeps, PhaseKeeps, QueueKeeps, QueuedKeeps, TableKeeps}
@@ -241,9 +242,13 @@ module _ {P H : Type 0} (c : PoolCore P H) (f : Frame P H) (hand : HandKeeps f) 
   stacks_keep true = record { hand = hand; turn = tt; parts = parts }
   stacks_keep false = record { hand = ((tt, tt), hand.1); turn = tt; parts = parts }
 
+  tested_keeps : (what : Asked) (wants : Bool) → RowKeeps (rows.memory_tested what wants c f)
+  tested_keeps (asked.HeapOver memory) wants = record { hand = hand; turn = tt; parts = parts }
+  tested_keeps what wants = validated_keeps (heap_refused c.settings what) wants (Pick 0) tt
+
   pub heaps_keep : (b wants : Bool) → RowKeeps (rows.heaps_tested b wants c f)
   heaps_keep false wants = record { hand = hand; turn = tt; parts = parts }
-  heaps_keep true wants = validated_keeps _ wants (Pick 0) tt
+  heaps_keep true wants = tested_keeps f.asked wants
 
   pub component_keeps : (o : Option Unsupported) → RowKeeps (rows.component_tested o c f)
   component_keeps (Some rule) = record { hand = hand; turn = tt; parts = parts }
@@ -343,6 +348,14 @@ module _ {P H : Type 0} (c : PoolCore P H) (f : Frame P H) (hand : HandKeeps f) 
   heap_granted_keeps [] lease ms = record { hand = hand; turn = tt; parts = parts }
   heap_granted_keeps (memory ∷ rest) lease ms = record { hand = ((tt, tt), hand.1); turn = ms.0; parts = parts }
 
+  pub heap_counted_keeps : (what : Asked) (lease : LeasedHeap H) → RowKeeps (rows.heap_counted what lease c f)
+  heap_counted_keeps (asked.HeapOver memory) lease = record { hand = hand; turn = tt; parts = parts }
+  heap_counted_keeps what lease = heap_granted_keeps f.objects.memories.items lease hand.0.0
+
+  pub freed_keeps : (name : SlotName) (memory : Option Lease) → IfSome memory LeaseKeeps → PhaseKeeps {P = P} {H = H} (rows.heap_freed name memory)
+  freed_keeps name (Some memory) one = one
+  freed_keeps name None one = tt
+
   pub put_heap_keeps : (slot : ℕ) (o : Option H) (phase : Phase P H) → PhaseKeeps phase → RowKeeps (rows.in_heaps c (rows.put_heap_on slot o phase (heaps_at c) f))
   put_heap_keeps slot o phase one = record { hand = hand; turn = one; parts = part_set c.plan.heap_list _ c parts tt }
 
@@ -353,7 +366,7 @@ module _ {P H : Type 0} (c : PoolCore P H) (f : Frame P H) (hand : HandKeeps f) 
   pub free_one_keeps : (place : ℕ) (name : SlotName) → RowKeeps (rows.in_shard place c (rows.free_one_on c.plan name (shard_at place c) f))
   free_one_keeps place name = record { hand = hand; turn = tt; parts = shard_set place _ c parts }
 
-  pub uncount_heap_keeps : (lease : LeasedHeap H) (memory : Lease) → LeaseKeeps memory → RowKeeps (rows.uncount_heap_row lease memory c f)
+  pub uncount_heap_keeps : (lease : LeasedHeap H) (memory : Option Lease) → IfSome memory LeaseKeeps → RowKeeps (rows.uncount_heap_row lease memory c f)
   uncount_heap_keeps lease memory one = record { hand = hand; turn = one; parts = parts }
 
   pub free_heap_keeps : (place : ℕ) (name : SlotName) (memory : Lease) → LeaseKeeps memory → RowKeeps (rows.in_shard place c (rows.free_heap_on c.plan name memory (shard_at place c) f))

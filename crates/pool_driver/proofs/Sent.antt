@@ -11,7 +11,6 @@ use Rattle.pool_hall.specs.contracts.hall.HallSeat as HallSeat
 use Rattle.pool_hall.specs.declared.part.Part as Part
 use Rattle.pool_hall.proofs.hall.Hall.TheSendSync as sent_hall
 use Rattle.pool_hall.proofs.hall.HallSeat.TheSendSync as sent_seat
-use Rattle.pool_slots.specs.contracts.part.PoolPart as PoolPart
 use Rattle.pool_slots.specs.contracts.plan.Plan as Plan
 use Rattle.pool_slots.specs.declared.heap_maker.GcHeap as GcHeap
 use Rattle.pool_slots.proofs.part.PoolPart.TheSendSync as sent_part

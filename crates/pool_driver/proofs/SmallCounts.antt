@@ -1,5 +1,5 @@
 -- The counts of a shard fit 64 bits.
-use Rattle.std.proofs.Common.{◌≡◌, ℕ, zero, suc, ◌+◌, ◌*◌, ◌<◌, ◌≤◌, length, arith}
+use Rattle.std.proofs.Common.{zero, suc, ◌*◌, ◌≤◌, length, arith}
 use Rattle.std.proofs.lemmas.List.Sums.{sum_by-le}
 use Rattle.std.specs.Prelude.{◌^◌}
 use Rattle.pool_index.specs.Shard.{ShardState, IsShard, resident_bytes}

@@ -25,7 +25,7 @@ use Rattle.pool_alloc.specs.declared.frame.Call.TheVariants as call
 use Rattle.pool_alloc.specs.declared.frame.Ending.{Ending}
 use Rattle.pool_alloc.specs.declared.frame.Ending.TheVariants.{Granted as granted, Returned as returned, Refused as refused}
 use Rattle.pool_alloc.specs.declared.frame.Frame.{Frame}
-use Rattle.pool_alloc.specs.declared.frame.Grant.TheVariants.{Instance, Component, Memory, Table, Stack, Heap}
+use Rattle.pool_alloc.specs.declared.frame.Grant.TheVariants.{Instance, Component, Memory, Table, Stack, Heap, HeapOver}
 use Rattle.pool_alloc.specs.declared.frame.Outcome.{Outcome}
 use Rattle.pool_alloc.specs.declared.frame.Phase.{Phase}
 use Rattle.pool_alloc.specs.declared.frame.Phase.TheVariants.{Idle, Key, Validate, TestStack, TestHeap, CountInstance, Pick, TakeQueue, TakeRegion, Empty, Instantiate, MakeMemory, MakeTable, CountObject, TakeHeap, MakeHeap, CountHeap, PutNoHeap, PutBack, FreeOne, UncountObject, UncountHeap, PutHeap, FreeHeap, Reset, Merge, Flush, UncountInstance, ValidateComponent, CountComponent, UncountComponent, Purge, Release}
@@ -39,7 +39,7 @@ use Rattle.pool_driver.proofs.Holding.{counts_same, counts_over, counts_off, goi
 use Rattle.pool_driver.proofs.Naming.{sees_more, unchanged_at, counted_at, uncounted_at, pick_at, take_at}
 use Rattle.pool_driver.proofs.Searching.{pick_told, take_told}
 use Rattle.pool_driver.proofs.Sparing.{takes_queue, none_taken_still}
-use Rattle.pool_driver.proofs.TellingRows.{RowTold, validate_told, heap_test_told, stack_test_told, region_told, paged_told, made_told, memory_fails, table_made_told, table_fails, object_told, heap_told, heap_made_told, heap_granted_told, uncount_told, flush_row_told, merge_told, reset_told, purge_told, release_told}
+use Rattle.pool_driver.proofs.TellingRows.{RowTold, validate_told, heap_test_told, stack_test_told, region_told, paged_told, made_told, memory_fails, table_made_told, table_fails, object_told, heap_told, heap_made_told, heap_counted_told, uncount_told, flush_row_told, merge_told, reset_told, purge_told, release_told}
 use Rattle.pool_driver.proofs.Turning.{LeftTold, answered, next_told}
 
 -- The stripe that a step of a phase leaves: that of the party, or what a key gives.
@@ -62,6 +62,7 @@ module _ {T P H : Type 0} (base w : View T) (plan : Plan) (f : Frame P H) (over 
       go (asked.Table ty) is = absurd is
       go asked.Stack is = absurd is
       go (asked.Heap ty) is = absurd is
+      go (asked.HeapOver memory) is = absurd is
 
 module _ {T P H : Type 0} (about : T → About) (inner : T → PoolPart P H) (Passes : List Exchange → Type 0) (old new : PartyTold) (a : About) (base v w : View T) (f next : Frame P H) (o : Option (Outcome P H)) (began : HoldsMore base v) (limits : v.limits ≡ counter_limits a.settings) (s : SeesStep about inner Passes old new a v w f next o) where
   more : HoldsMore v w
@@ -175,13 +176,14 @@ module _ {T P H : Type 0} (about : T → About) (inner : T → PoolPart P H) (Pa
   told_at (CountObject object) is told = object_told base w c.plan c e object (held _ is refl told)
   told_at (TakeHeap name) is told = heap_told base w c.plan c e _ (heap_in name.slot (heaps_at c)) (held _ is refl told)
   told_at (MakeHeap at) is told = heap_made_told base w c.plan c e given.heap at (held _ is refl told)
-  told_at (CountHeap lease) is told = heap_granted_told base w c.plan c e f.objects.memories.items lease
+  told_at (CountHeap lease) is told = heap_counted_told base w c.plan c e f.asked lease
   told_at (PutNoHeap at) is told = (held _ is refl told, tt, refl)
   told_at (PutBack at has) is told = (held _ is refl told, tt, refl)
   told_at (FreeOne name) is told = next_told base w c.plan f.ending e refl (held _ is refl told)
   told_at (UncountObject object) is told = uncount_told base w c.plan c e object (held _ is refl told)
   told_at (UncountHeap lease memory) is told = (held _ is refl told, tt, refl)
-  told_at (PutHeap lease memory) is told = (held _ is refl told, tt, refl)
+  told_at (PutHeap lease (Some memory)) is told = (held _ is refl told, tt, refl)
+  told_at (PutHeap lease None) is told = (held _ is refl told, tt, refl)
   told_at (FreeHeap name memory) is told = (held _ is refl told, tt, refl)
   told_at (Reset object) is told = reset_told base w c.plan c e given object (held _ is refl told)
   told_at Merge is told =
@@ -248,11 +250,13 @@ module _ {T P H : Type 0} (v : View T) (plan : Plan) where
   tells_begin (call.Table ty) f = (λ j below. absurd (omega arith), record { queues = λ j below. absurd (omega arith); none = tt; ending = tt })
   tells_begin call.Stack f = record { queues = λ j below. absurd (omega arith); none = tt; ending = tt }
   tells_begin (call.Heap ty) f = record { queues = λ j below. absurd (omega arith); none = tt; ending = tt }
+  tells_begin (call.HeapOver memory) f = record { queues = λ j below. absurd (omega arith); none = tt; ending = tt }
   tells_begin (call.GiveBack (Instance lease)) f = back_begins lease.memories.items lease.tables.items (record f { asked = asked.Nothing; objects = lease; ending = returned }) refl refl
   tells_begin (call.GiveBack Component) f = record { none = λ q place. refl; ending = tt }
   tells_begin (call.GiveBack (Memory lease)) f = record { queues = tt; none = λ q place. refl; ending = tt }
   tells_begin (call.GiveBack (Table lease)) f = record { queues = tt; none = λ q place. refl; ending = tt }
   tells_begin (call.GiveBack (Stack lease)) f = record { queues = tt; none = λ q place. refl; ending = tt }
   tells_begin (call.GiveBack (Heap lease memory)) f = record { queues = tt; none = λ q place. refl; ending = tt }
+  tells_begin (call.GiveBack (HeapOver lease)) f = record { queues = tt; none = λ q place. refl; ending = tt }
   tells_begin (call.Purge id) f = tt
   tells_begin call.Release f = tt

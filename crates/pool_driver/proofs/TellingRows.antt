@@ -28,7 +28,7 @@ use Rattle.pool_alloc.specs.HeapLeases.{LeasedHeap}
 use Rattle.pool_alloc.specs.MemorySteps.{refusal_of, heap_refusal, made_of, made_of_limits, made_for}
 use Rattle.pool_alloc.specs.Purges.{purge_to, affine_picked, behind_memory, behind_turn, purge_row, has_turns, purged_stripe}
 use Rattle.pool_alloc.specs.Releases.{behind_stripe, free_first, drain_at, warm_taken, release_row, released_stripe}
-use Rattle.pool_alloc.specs.StepTable.{memory_kept, memory_turn, table_kept, table_turn, unmapped_next, region_next, heap_next, validated, stacks_tested, heaps_tested, paged, was_made, was_made_table, make_heap_row, heap_granted, count_object_row, uncount_object_row, reset_row, was_reset, reset_turn, merged, flush_row, FlushStep, run, zero, put, free, put_first}
+use Rattle.pool_alloc.specs.StepTable.{memory_kept, memory_turn, table_kept, table_turn, unmapped_next, region_next, heap_next, validated, stacks_tested, heaps_tested, paged, was_made, was_made_table, make_heap_row, heap_granted, count_object_row, uncount_object_row, reset_row, was_reset, reset_turn, merged, flush_row, FlushStep, run, zero, put, free, put_first, memory_tested, heap_counted}
 use Rattle.pool_alloc.specs.StepReads.{StepGiven}
 use Rattle.pool_alloc.specs.TableLeases.{LeasedTable}
 use Rattle.pool_alloc.specs.TableSteps.{made_unless, made_table}
@@ -51,6 +51,7 @@ use Rattle.pool_alloc.specs.declared.release.ReleaseCursor.{ReleaseCursor}
 use Rattle.pool_alloc.specs.declared.release.ReleaseStep.{ReleaseStep}
 use Rattle.pool_alloc.specs.declared.release.ReleaseStep.TheVariants as releasing_step
 use Rattle.pool_alloc.specs.declared.frame.FreedSlot.{FreedSlot}
+use Rattle.pool_alloc.specs.Refusals.{heap_refused}
 use Rattle.pool_driver.specs.Telling.{CallGoes, NoneCounted, RefusalTold, instance_counter}
 use Rattle.pool_driver.proofs.Turning.{LeftTold, none_taken, next_told, flush_told}
 
@@ -123,9 +124,13 @@ module _ {T P H : Type 0} (base w : View T) where
     heap_rules_told None true going = (tt, tt, refl)
     heap_rules_told None false going = ((λ j below. absurd (omega arith), going), tt, refl)
 
+    memory_test_told : (what : Asked) (wants : Bool) → CallGoes base w plan f → RowTold plan f.home f.stripe (memory_tested what wants c f)
+    memory_test_told (asked.HeapOver memory) wants going = ((λ j below. absurd (omega arith), going), tt, refl)
+    memory_test_told what wants going = heap_rules_told (heap_refused c.settings what) wants going
+
     pub heap_test_told : (b wants : Bool) → CallGoes base w plan f → RowTold plan f.home f.stripe (heaps_tested b wants c f)
     heap_test_told false wants going = (tt, tt, refl)
-    heap_test_told true wants going = heap_rules_told _ wants going
+    heap_test_told true wants going = memory_test_told f.asked wants going
 
     pub stack_test_told : (b : Bool) → CallGoes base w plan f → RowTold plan f.home f.stripe (stacks_tested b c f)
     stack_test_told true going = (tt, tt, refl)
@@ -175,6 +180,10 @@ module _ {T P H : Type 0} (base w : View T) where
     pub heap_granted_told : (leases : List Lease) (lease : LeasedHeap H) → RowTold plan f.home f.stripe (heap_granted leases lease c f)
     heap_granted_told [] lease = (tt, tt, refl)
     heap_granted_told (memory ∷ rest) lease = (tt, tt, refl)
+
+    pub heap_counted_told : (what : Asked) (lease : LeasedHeap H) → RowTold plan f.home f.stripe (heap_counted what lease c f)
+    heap_counted_told (asked.HeapOver memory) lease = (tt, tt, refl)
+    heap_counted_told what lease = heap_granted_told f.objects.memories.items lease
 
     pub uncount_told : (o : Object P) → CallGoes base w plan f → RowTold plan f.home f.stripe (uncount_object_row o c f)
     uncount_told (object.Memory lease) going = (going, tt, refl)

@@ -7,14 +7,14 @@ use Rattle.pool_alloc.specs.Objects.{no_objects, objects_in, objects_wanted}
 use Rattle.pool_alloc.specs.TableLeases.{LeasedTable}
 use Rattle.pool_alloc.specs.Turns.{Turn, goes, ends, next, flush, search, stays, Left, after, all_returned, answer_of, ends_with, failing, flush_next, goes_to, granted_next, is_flushed, next_by, returned_next, search_next}
 use Rattle.pool_alloc.specs.declared.frame.Asked.{Asked}
-use Rattle.pool_alloc.specs.declared.frame.Asked.TheVariants.{Nothing as nothing_asked, Memory as memory_asked, Table as table_asked, Stack as stack_asked, Heap as heap_asked}
+use Rattle.pool_alloc.specs.declared.frame.Asked.TheVariants.{Nothing as nothing_asked, Memory as memory_asked, Table as table_asked, Stack as stack_asked, Heap as heap_asked, HeapOver as heap_over_asked}
 use Rattle.pool_alloc.specs.declared.frame.Call.{Call}
 use Rattle.pool_alloc.specs.declared.frame.Call.TheVariants as call
 use Rattle.pool_alloc.specs.declared.frame.Ending.{Ending}
 use Rattle.pool_alloc.specs.declared.frame.Ending.TheVariants.{Granted as granted, Returned as returned, Refused as refused}
 use Rattle.pool_alloc.specs.declared.frame.Frame.{Frame}
 use Rattle.pool_alloc.specs.declared.frame.Grant.{Grant}
-use Rattle.pool_alloc.specs.declared.frame.Grant.TheVariants.{Instance, Component, Memory as memory_grant, Table as table_grant, Stack as stack_grant, Heap as heap_grant}
+use Rattle.pool_alloc.specs.declared.frame.Grant.TheVariants.{Instance, Component, Memory as memory_grant, Table as table_grant, Stack as stack_grant, Heap as heap_grant, HeapOver as heap_over_grant}
 use Rattle.pool_alloc.specs.declared.frame.Object.TheVariants.{Memory, Table}
 use Rattle.pool_alloc.specs.declared.frame.Outcome.{Outcome}
 use Rattle.pool_alloc.specs.declared.frame.Outcome.TheVariants as answer
@@ -59,6 +59,7 @@ module _ {P H : Type 0} where
   all_returned_keeps (table_asked ty) f k = ends_keeps f (answer_of f.ending) k (answer_keeps P H f.ending)
   all_returned_keeps stack_asked f k = ends_keeps f (answer_of f.ending) k (answer_keeps P H f.ending)
   all_returned_keeps (heap_asked ty) f k = ends_keeps f (answer_of f.ending) k (answer_keeps P H f.ending)
+  all_returned_keeps (heap_over_asked memory) f k = ends_keeps f (answer_of f.ending) k (answer_keeps P H f.ending)
   all_returned_keeps asked f k = goes_keeps f UncountInstance k tt
 
   -- An object leaves those in hand,
@@ -110,6 +111,7 @@ module _ {P H : Type 0} where
   back_keeps (table_grant lease) f k one = record { objects = k.objects; local = k.local; phase = one }
   back_keeps (stack_grant lease) f k one = record { objects = k.objects; local = k.local; phase = one }
   back_keeps (heap_grant lease memory) f k one = record { objects = k.objects; local = k.local; phase = one }
+  back_keeps (heap_over_grant lease) f k one = record { objects = k.objects; local = k.local; phase = tt }
 
   -- A call begins.
   pub begun_keeps : (c : Call P H) (f : Frame P H) → FrameKeeps f → CallKeeps c → FrameKeeps (begun_call c f)
@@ -120,6 +122,7 @@ module _ {P H : Type 0} where
   begun_keeps (call.Table ty) f k one = record { objects = k.objects; local = k.local; phase = tt }
   begun_keeps call.Stack f k one = record { objects = k.objects; local = k.local; phase = tt }
   begun_keeps (call.Heap ty) f k one = record { objects = k.objects; local = k.local; phase = tt }
+  begun_keeps (call.HeapOver memory) f k one = record { objects = k.objects; local = k.local; phase = tt }
   begun_keeps (call.GiveBack grant) f k one = back_keeps grant f k one
   begun_keeps (call.Purge id) f k one = record { objects = k.objects; local = k.local; phase = tt }
   begun_keeps call.Release f k one = record { objects = k.objects; local = k.local; phase = tt }

@@ -58,6 +58,7 @@ module _ {T P H : Type 0} (base v : View T) where
       all (asked.Table ty) = (tt, ended, refl)
       all asked.Stack = (tt, ended, refl)
       all (asked.Heap ty) = (tt, ended, refl)
+      all (asked.HeapOver memory) = (tt, ended, refl)
       all asked.Nothing = (over_told base v plan f.home f.queues f.ending going, tt, refl)
       all (asked.Module m) = (over_told base v plan f.home f.queues f.ending going, tt, refl)
 

@@ -1,5 +1,5 @@
 -- A call puts regions of which nothing is known into their cells only where it also puts one back that has faulted: each step keeps that.
-use Rattle.std.proofs.Common.{◌≡◌, ◌⊎◌, ⊎_elim, ℕ, Bool, true, false, List, length, refl, sym, ap, subst, Option, slice_get, ◌+◌, ◌<◌, [], ◌∷◌, ◌++◌, arith, Some, None, nat_le, inl, inr, map, IfSome, ◌^◌, slice_index, ◌∙◌}
+use Rattle.std.proofs.Common.{◌≡◌, ⊎_elim, ℕ, Bool, true, false, List, length, refl, sym, ap, subst, Option, slice_get, ◌+◌, ◌<◌, [], ◌∷◌, ◌++◌, arith, Some, None, nat_le, inl, inr, map, IfSome, ◌^◌, slice_index, ◌∙◌}
 use Rattle.std.specs.Prelude.{if◌then◌else◌, ◌==◌}
 use Rattle.pool_hall.specs.declared.view.View.{View}
 use Rattle.pool_limits.specs.Exchanges.{Exchange}
@@ -20,11 +20,11 @@ use Rattle.pool_alloc.specs.PartyTold.{PartyTold}
 use Rattle.pool_alloc.specs.StepReads.{StepGiven, cell_named, heaps_at, memories_wanted, queue_at, queue_tried, shard_at, shard_tried, wanted, cell_returned, with_cell, with_part}
 use Rattle.pool_alloc.specs.StepTable.{flush_step, row_of}
 use Rattle.pool_alloc.specs.Stepping.{is_idle}
-use Rattle.pool_alloc.specs.Turns.{After, resting, after, Left}
+use Rattle.pool_alloc.specs.Turns.{After, resting, Left}
 use Rattle.pool_alloc.specs.declared.frame.Call.{Call}
 use Rattle.pool_alloc.specs.declared.frame.Ending.TheVariants.{Returned as returned}
 use Rattle.pool_alloc.specs.declared.frame.Frame.{Frame}
-use Rattle.pool_alloc.specs.declared.frame.Grant.TheVariants.{Instance, Component, Memory, Table, Stack, Heap}
+use Rattle.pool_alloc.specs.declared.frame.Grant.TheVariants.{Instance, Component, Memory, Table, Stack, Heap, HeapOver}
 use Rattle.pool_alloc.specs.declared.frame.Outcome.{Outcome}
 use Rattle.pool_alloc.specs.declared.frame.Phase.{Phase}
 use Rattle.pool_alloc.specs.declared.frame.Phase.TheVariants.{Idle, Key, Validate, TestStack, TestHeap, CountInstance, Pick, TakeQueue, TakeRegion, Empty, Instantiate, MakeMemory, MakeTable, CountObject, TakeHeap, MakeHeap, CountHeap, PutNoHeap, PutBack, FreeOne, UncountObject, UncountHeap, PutHeap, FreeHeap, Reset, Merge, Flush, UncountInstance, ValidateComponent, CountComponent, UncountComponent, Purge, Release}
@@ -43,7 +43,7 @@ use Rattle.pool_driver.proofs.OwnNumbers.{IsOwn, OwnPut, own_numbers}
 use Rattle.pool_driver.proofs.CellPuts.{faulted_home, still_faulted}
 use Rattle.pool_pages.specs.Told.{Told}
 use Rattle.pool_hall.specs.declared.unit_name.SlotKind.{SlotKind}
-use Rattle.pool_slots.specs.Cells.{Cell, unknown}
+use Rattle.pool_slots.specs.Cells.{Cell}
 use Rattle.pool_slots.specs.Parts.{part_at, IsCellPart}
 use Rattle.pool_slots.specs.declared.slot_name.SlotName.{SlotName}
 use Rattle.pool_slots.specs.declared.slot_name.RegionNumbers.{RegionNumbers}
@@ -65,7 +65,7 @@ use Rattle.pool_alloc.specs.MemorySteps.{made_for, slot_ended}
 use Rattle.pool_alloc.specs.declared.frame.Object.{Object}
 use Rattle.pool_driver.proofs.QueueFaults.{joined_each, others_each, first_zeroed_each, pushed_each}
 use Rattle.pool_driver.proofs.UnknownSlots.{AllStill, PutsKnown, all_known, decide_unknown, first_faulted, first_zeroed_faulted, is_cell, known_returned, ranges_run, run_fails, run_faulted, run_known, still_at, zeroed_known}
-use Rattle.pool_driver.proofs.UnknownRows.{FlushLeaves, ResetCaused, RowCaused, component_caused, component_counted_caused, count_object_caused, counted_caused, flush_row_caused, heap_granted_caused, heaps_caused, make_heap_caused, merged_caused, paged_caused, picked_caused, purge_caused, release_caused, reset_row_caused, stacks_caused, take_queue_caused, uncount_object_caused, validated_caused, was_made_caused, was_made_table_caused}
+use Rattle.pool_driver.proofs.UnknownRows.{FlushLeaves, ResetCaused, RowCaused, component_caused, component_counted_caused, count_object_caused, counted_caused, flush_row_caused, heap_counted_caused, heaps_caused, make_heap_caused, merged_caused, paged_caused, picked_caused, purge_caused, release_caused, reset_row_caused, stacks_caused, take_queue_caused, uncount_object_caused, validated_caused, was_made_caused, was_made_table_caused}
 use Rattle.pool_driver.proofs.Refusing.{IfFails, memory_fails}
 use Rattle.pool_driver.proofs.UnknownTurns.{LeftCaused, after_caused, answer_caused, ending_more, ending_so, heap_caused, region_caused, returned_caused}
 use Rattle.pool_driver.proofs.Holding.{counted_put}
@@ -83,7 +83,6 @@ use Rattle.pool_alloc.specs.declared.frame.Asked.TheVariants as asked
 use Rattle.pool_alloc.specs.declared.frame.Call.TheVariants as call
 use Rattle.pool_alloc.specs.declared.purge.PurgeStep.TheVariants as purging_step
 use Rattle.pool_alloc.specs.declared.release.ReleaseStep.TheVariants as releasing_step
-use Rattle.pool_slots.specs.declared.part.PoolPart.TheVariants as part
 use Rattle.pool_alloc.specs.StepTable as rows
 use Rattle.pool_alloc.specs.declared.frame.Object.TheVariants as object
 use Rattle.pool_alloc.specs.TableSteps.{reset_in, table_queued}
@@ -363,13 +362,14 @@ module _ {T P H : Type 0} (about : T → About) (inner : T → PoolPart P H) (Pa
   row_caused (CountObject thing) is on_way k = count_object_caused Is Flushing c e (goes_on (CountObject thing) is tt k) thing
   row_caused (TakeHeap name) is on_way k = heap_caused P H Is (Flushing f.local.slots) f.ending _ (heap_in name.slot (heaps_at c)) (goes_on (TakeHeap name) is tt k)
   row_caused (MakeHeap at) is on_way k = make_heap_caused Is Flushing c e (goes_on (MakeHeap at) is tt k) given.heap at
-  row_caused (CountHeap lease) is on_way k = heap_granted_caused Is Flushing c e (goes_on (CountHeap lease) is tt k) f.objects.memories.items lease
+  row_caused (CountHeap lease) is on_way k = heap_counted_caused Is Flushing c e (goes_on (CountHeap lease) is tt k) f.asked lease
   row_caused (PutNoHeap at) is on_way k = back (PutNoHeap at) is tt k
   row_caused (PutBack at held) is on_way k = ending_more (Was × HandCaused at held) Is (put_back at held is) f.ending k
   row_caused (FreeOne name) is on_way k = back (FreeOne name) is tt k
   row_caused (UncountObject thing) is on_way k = uncount_object_caused Is Flushing c e (back (UncountObject thing) is tt k) thing
   row_caused (UncountHeap lease memory) is on_way k = back (UncountHeap lease memory) is tt k
-  row_caused (PutHeap lease memory) is on_way k = back (PutHeap lease memory) is tt k
+  row_caused (PutHeap lease (Some memory)) is on_way k = back (PutHeap lease (Some memory)) is tt k
+  row_caused (PutHeap lease None) is on_way k = back (PutHeap lease None) is tt k
   row_caused (FreeHeap name memory) is on_way k = back (FreeHeap name memory) is tt k
   row_caused (Reset thing) is on_way k = let on = back (Reset thing) is tt k in reset_row_caused Is Flushing c e on given thing (reset_known thing is thing refl)
   row_caused Merge is on_way k =
@@ -411,11 +411,13 @@ caused_begins v plan (call.Memory m) f = inr (λ place slot role. refl)
 caused_begins v plan (call.Table ty) f = inr (λ place slot role. refl)
 caused_begins v plan call.Stack f = inr (λ place slot role. refl)
 caused_begins v plan (call.Heap ty) f = inr (λ place slot role. refl)
+caused_begins v plan (call.HeapOver memory) f = inr (λ place slot role. refl)
 caused_begins v plan (call.GiveBack (Instance lease)) f = (returned_caused (UnknownCaused v v plan) (FlushCaused v v plan) lease.memories.items lease.tables.items (record f { asked = asked.Nothing; objects = lease; ending = returned }) (inr (λ place slot role. refl))).frame
 caused_begins v plan (call.GiveBack Component) f = inr (λ place slot role. refl)
 caused_begins v plan (call.GiveBack (Memory lease)) f = inr (λ place slot role. refl)
 caused_begins v plan (call.GiveBack (Table lease)) f = inr (λ place slot role. refl)
 caused_begins v plan (call.GiveBack (Stack lease)) f = inr (λ place slot role. refl)
 caused_begins v plan (call.GiveBack (Heap lease memory)) f = inr (λ place slot role. refl)
+caused_begins v plan (call.GiveBack (HeapOver lease)) f = inr (λ place slot role. refl)
 caused_begins v plan (call.Purge id) f = inr (λ place slot role. refl)
 caused_begins v plan call.Release f = inr (λ place slot role. refl)

@@ -7,7 +7,6 @@ use Rattle.pool_index.specs.Shard.{ShardState}
 use Rattle.pool_index.specs.declared.ids.SlotId.{SlotId}
 use Rattle.pool_images.specs.Slots.{Slot, forgotten}
 use Rattle.pool_memory.specs.Memories.{MemoryState, slot_of}
-use Rattle.pool_slots.specs.Cells.{unknown}
 use Rattle.pool_slots.specs.SlotQueues.{Queue, Queued, drained, first_of_kind, others_of_kind, first_zeroed}
 use Rattle.pool_slots.specs.declared.errors.AllocError.{AllocError}
 use Rattle.pool_slots.specs.declared.errors.AllocError.TheVariants as refusal
@@ -26,8 +25,7 @@ use Rattle.pool_alloc.specs.TableLeases.{LeasedTable}
 use Rattle.pool_alloc.specs.TableSteps.{table_reset_into}
 use Rattle.pool_alloc.specs.Turns.{Row, flush, goes, slot_search}
 use Rattle.pool_alloc.specs.declared.frame.Asked.{Asked}
-use Rattle.pool_alloc.specs.declared.frame.Asked.TheVariants.{Memory as memory_asked, Table as table_asked}
-use Rattle.pool_alloc.specs.declared.frame.Ending.TheVariants.{Refused as refused}
+use Rattle.pool_alloc.specs.declared.frame.Asked.TheVariants.{Memory as memory_asked, Table as table_asked, HeapOver as heap_over_asked}
 use Rattle.pool_alloc.specs.declared.frame.Frame.{Frame}
 use Rattle.pool_alloc.specs.declared.frame.Object.{Object}
 use Rattle.pool_alloc.specs.declared.frame.Object.TheVariants as object
@@ -40,6 +38,7 @@ use Rattle.pool_alloc.specs.declared.purge.PurgeStep.{PurgeStep}
 use Rattle.pool_alloc.specs.declared.purge.PurgeStep.TheVariants as purging_step
 use Rattle.pool_alloc.specs.declared.release.ReleaseStep.{ReleaseStep}
 use Rattle.pool_alloc.specs.declared.release.ReleaseStep.TheVariants as releasing_step
+use Rattle.pool_alloc.specs.Refusals.{heap_refused}
 use Rattle.pool_driver.specs.Faults.{HasFaulted}
 use Rattle.pool_driver.specs.UnknownPuts.{UnlessUnmade, EndingCaused, PhaseCaused, HandCaused, ReleaseCaused}
 use Rattle.pool_driver.proofs.QueueFaults.{by_choice}
@@ -109,9 +108,13 @@ module _ {P H : Type 0} (K : Type 0) (F : List Queued → Type 0) where
       stacks_caused true = k
       stacks_caused false = k
 
+      tested_caused : (what : Asked) (wants : Bool) → RowCaused (rows.memory_tested what wants c f)
+      tested_caused (heap_over_asked memory) wants = k
+      tested_caused what wants = validated_caused (heap_refused c.settings what) wants (Pick 0) k
+
       pub heaps_caused : (b wants : Bool) → RowCaused (rows.heaps_tested b wants c f)
       heaps_caused false wants = k
-      heaps_caused true wants = validated_caused _ wants (Pick 0) k
+      heaps_caused true wants = tested_caused f.asked wants
 
       pub counted_caused : (b : Bool) → RowCaused (rows.counted b c f)
       counted_caused true = ending_so K f.ending k
@@ -160,6 +163,10 @@ module _ {P H : Type 0} (K : Type 0) (F : List Queued → Type 0) where
       pub heap_granted_caused : (memories : List Lease) (lease : LeasedHeap H) → RowCaused (rows.heap_granted memories lease c f)
       heap_granted_caused [] lease = tt
       heap_granted_caused (memory ∷ rest) lease = k
+
+      pub heap_counted_caused : (what : Asked) (lease : LeasedHeap H) → RowCaused (rows.heap_counted what lease c f)
+      heap_counted_caused (heap_over_asked memory) lease = k
+      heap_counted_caused what lease = heap_granted_caused f.objects.memories.items lease
 
     -- what a reset says, where it fails, and where it leaves a slot in the queue
     abbrev pub ResetCaused : StepGiven H → Object P → Type 0

@@ -22,7 +22,7 @@ use Rattle.pool_alloc.specs.StepTable as rows
 use Rattle.pool_alloc.specs.TableLeases.{LeasedTable}
 use Rattle.pool_alloc.specs.Turns.{Left, Turn, after, all_returned, answer_of, ends, ends_with, failing, flush, goes, goes_to, granted_next, next, next_by, returned_next, search, stays}
 use Rattle.pool_alloc.specs.declared.frame.Asked.{Asked}
-use Rattle.pool_alloc.specs.declared.frame.Asked.TheVariants.{Memory as memory_asked, Table as table_asked, Stack as stack_asked, Heap as heap_asked}
+use Rattle.pool_alloc.specs.declared.frame.Asked.TheVariants.{Memory as memory_asked, Table as table_asked, Stack as stack_asked, Heap as heap_asked, HeapOver as heap_over_asked}
 use Rattle.pool_alloc.specs.declared.frame.Ending.{Ending}
 use Rattle.pool_alloc.specs.declared.frame.Ending.TheVariants.{Granted as granted, Returned as returned, Refused as refused}
 use Rattle.pool_alloc.specs.declared.frame.Frame.{Frame}
@@ -151,6 +151,7 @@ module _ {P H : Type 0} (K : Type 0) (F : List Queued → Type 0) where
   all_returned_caused (table_asked ty) f k = record { frame = tt; answer = answer_caused P H K f.ending k }
   all_returned_caused stack_asked f k = record { frame = tt; answer = answer_caused P H K f.ending k }
   all_returned_caused (heap_asked ty) f k = record { frame = tt; answer = answer_caused P H K f.ending k }
+  all_returned_caused (heap_over_asked memory) f k = record { frame = tt; answer = answer_caused P H K f.ending k }
   all_returned_caused what f k = record { frame = k; answer = tt }
 
   -- An object leaves those in hand,

@@ -1,5 +1,5 @@
 -- What a call appends to the decommit queues: what a seat's view tells of that, and what it owes them for each object that it gives back.
-use Rattle.std.specs.Prelude.{◌≡◌, ℕ, ◌+◌, ◌*◌, ◌<◌, Bool, true, false, nat_lt, slice_index, if◌then◌else◌}
+use Rattle.std.specs.Prelude.{◌≡◌, ℕ, ◌+◌, ◌*◌, ◌<◌, Bool, true, false, nat_lt, slice_index, if◌then◌else◌, Option, Some, None}
 use Rattle.pool_types.specs.declared.decommit_behavior.DecommitBehavior.TheVariants.{RestoreOriginalMapping}
 use Rattle.pool_hall.specs.Sum.{one_if, total}
 use Rattle.pool_hall.specs.Tally.{rise}
@@ -12,7 +12,7 @@ use Rattle.pool_alloc.specs.Leases.{Lease}
 use Rattle.pool_alloc.specs.StackLeases.{LeasedStack}
 use Rattle.pool_alloc.specs.TableLeases.{LeasedTable}
 use Rattle.pool_alloc.specs.declared.frame.Asked.{Asked}
-use Rattle.pool_alloc.specs.declared.frame.Asked.TheVariants.{Memory as memory_asked, Table as table_asked, Stack as stack_asked}
+use Rattle.pool_alloc.specs.declared.frame.Asked.TheVariants.{Memory as memory_asked, Table as table_asked, Stack as stack_asked, HeapOver as heap_over_asked}
 use Rattle.pool_alloc.specs.declared.frame.Frame.{Frame}
 use Rattle.pool_alloc.specs.declared.frame.Grant.{Grant}
 use Rattle.pool_alloc.specs.declared.frame.Grant.TheVariants as grant
@@ -44,11 +44,12 @@ appended_in plan v = total (appended_rise plan) v.rises
 abbrev pub NoneAppended : {T : Type 0} → View T → View T → Plan → Type 0
 NoneAppended base v plan = appended_in plan v ≡ appended_in plan base
 
--- One object is asked for by itself: a memory, a table or a stack.
+-- One object is asked for by itself: a memory, a table, a stack, or a heap over a memory that there is.
 abbrev pub IsForOne : Asked → Type 0
 IsForOne (memory_asked m) = Unit {0}
 IsForOne (table_asked ty) = Unit {0}
 IsForOne stack_asked = Unit {0}
+IsForOne (heap_over_asked memory) = Unit {0}
 IsForOne _ = ⊥
 
 -- What a reset leaves to be decommitted is put off to a queue: one range isn't a batch yet, pages go back to what they were mapped to, and
@@ -92,6 +93,12 @@ module _ {P : Type 0} (d : Dues) where
   abbrev pub instance_dues : InstanceLease P → ℕ
   instance_dues lease = total d.memory lease.memories.items + total d.table lease.tables.items
 
+module _ (d : Dues) where
+  -- The same of the memory that was granted with a heap, if there is one.
+  abbrev pub heap_memory_dues : Option Lease → ℕ
+  heap_memory_dues (Some memory) = d.memory memory
+  heap_memory_dues None = 0
+
 module _ {P H : Type 0} (d : Dues) where
   -- The same of a grant,
   abbrev pub grant_dues : Grant P H → ℕ
@@ -101,12 +108,13 @@ module _ {P H : Type 0} (d : Dues) where
   grant_dues (grant.Table lease) = d.table lease
   grant_dues (grant.Stack lease) = d.stack lease
   grant_dues (grant.Heap lease memory) = d.memory memory
+  grant_dues (grant.HeapOver lease) = 0
 
   -- of what a call gives back next, which is 1 once its slot is to be appended,
   abbrev pub phase_dues : Phase P H → ℕ
   phase_dues (UncountObject object) = object_dues d object
-  phase_dues (UncountHeap lease memory) = d.memory memory
-  phase_dues (PutHeap lease memory) = d.memory memory
+  phase_dues (UncountHeap lease memory) = heap_memory_dues d memory
+  phase_dues (PutHeap lease memory) = heap_memory_dues d memory
   phase_dues (FreeHeap name memory) = d.memory memory
   phase_dues (Reset object) = object_dues d object
   phase_dues Merge = 1

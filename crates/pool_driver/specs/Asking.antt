@@ -7,19 +7,21 @@ use Rattle.pool_limits.specs.Exchanges.{Exchange, Exchanged, GrowthQuestion, may
 use Rattle.pool_limits.specs.declared.errors.LimiterError.{LimiterError}
 use Rattle.pool_memory.specs.Making.{minimum_question}
 use Rattle.pool_table.specs.Making.{making_question}
+use Rattle.pool_slots.specs.HeapsTold.{HeapsTold}
 use Rattle.pool_slots.specs.declared.errors.AllocError.{AllocError}
-use Rattle.pool_slots.specs.declared.errors.AllocError.TheVariants.{LimiterDenied, LimiterFault, HeapFault}
+use Rattle.pool_slots.specs.declared.errors.AllocError.TheVariants.{LimiterDenied, LimiterFault, HeapFault, Memory}
 use Rattle.pool_slots.specs.declared.heap_maker.HeapMakeFault.{HeapMakeFault}
+use Rattle.pool_slots.specs.declared.heap_maker.HeapMakeFault.TheVariants as no_heap
 use Rattle.pool_alloc.specs.CallStages.{Progress, untested, uncounted, admitted, seeks_single, seeks_stack, tests_heap, seeks_heap, counts_heap, Stage, no_call, keys, asks, tests_component, counts_component, returning, refusing, purging, reserving, releasing, stage_of}
 use Rattle.pool_alloc.specs.MemorySteps.{heap_refusal}
 use Rattle.pool_alloc.specs.PartyTold.{PartyTold, MakesHeap}
 use Rattle.pool_alloc.specs.StepReads.{heaps_wanted, memories_wanted, tables_wanted}
 use Rattle.pool_alloc.specs.declared.frame.Asked.{Asked}
-use Rattle.pool_alloc.specs.declared.frame.Asked.TheVariants.{Module as module_asked, Memory as memory_asked, Table as table_asked, Heap as heap_asked}
+use Rattle.pool_alloc.specs.declared.frame.Asked.TheVariants.{Module as module_asked, Memory as memory_asked, Table as table_asked, Heap as heap_asked, HeapOver as heap_over_asked}
 use Rattle.pool_alloc.specs.declared.frame.Call.{Call}
 use Rattle.pool_alloc.specs.declared.frame.Call.TheVariants as call
 use Rattle.pool_alloc.specs.declared.frame.Frame.{Frame}
-use Rattle.pool_alloc.specs.declared.frame.Grant.TheVariants.{Instance, Component, Memory as memory_granted, Table as table_granted, Stack, Heap}
+use Rattle.pool_alloc.specs.declared.frame.Grant.TheVariants.{Instance, Component, Memory as memory_granted, Table as table_granted, Stack, Heap, HeapOver}
 use Rattle.pool_alloc.specs.declared.frame.Outcome.{Outcome}
 use Rattle.pool_alloc.specs.declared.frame.Outcome.TheVariants.{Key, Granted, Returned, Purged, Released, Refused}
 
@@ -60,6 +62,13 @@ HasCause old new (LimiterDenied table min) = Rose old.limiter.counts.noes new.li
 HasCause old new (LimiterFault e) = Rose old.limiter.counts.errors new.limiter.counts.errors
 HasCause old new HeapFault = Rose old.heaps.faults new.heaps.faults
 HasCause old new _ = Unit {0}
+
+module _ (H : Type 0) where
+  -- Where a heap over a memory that there is is asked for: want of memory is what the maker of heaps answered, as it told first and last;
+  -- nothing else wants memory for it.
+  abbrev pub WantsOfMaker : Asked → HeapsTold → HeapsTold → AllocError → Type 0
+  WantsOfMaker (heap_over_asked memory) old new Memory = MakesHeap {H = H} (Err no_heap.Memory) old new
+  WantsOfMaker asked old new e = Unit {0}
 
 -- Something holds of the reason of a call that is to be refused.
 abbrev pub IfRefusing : (AllocError → Type 0) → Stage → Type 0
@@ -131,13 +140,14 @@ module _ {P H : Type 0} where
   AnsweredAfter asked (Granted (table_granted lease)) passed = passed ≡ all_yes (questions asked)
   AnsweredAfter asked (Granted (Stack lease)) passed = passed ≡ []
   AnsweredAfter asked (Granted (Heap lease memory)) passed = passed ≡ all_yes (questions asked)
+  AnsweredAfter asked (Granted (HeapOver lease)) passed = passed ≡ all_yes (questions asked)
   AnsweredAfter asked Returned passed = passed ≡ []
   AnsweredAfter asked (Purged n) passed = passed ≡ []
   AnsweredAfter asked (Released n) passed = passed ≡ []
   AnsweredAfter asked (Refused e) passed = RefusedAfter asked e passed
 
   -- What passes between a call and its limiter: nothing but the questions of a module, of a memory or a table by
-  -- itself, or of a heap.
+  -- itself, or of a heap with its memory.
   abbrev pub CallAsks : Call P H → Outcome P H → List Exchange → Type 0
   CallAsks call.Key o passed = passed ≡ []
   CallAsks (call.Module m) o passed = AnsweredAfter (module_asked m) o passed
@@ -146,6 +156,7 @@ module _ {P H : Type 0} where
   CallAsks (call.Table ty) o passed = AnsweredAfter (table_asked ty) o passed
   CallAsks call.Stack o passed = passed ≡ []
   CallAsks (call.Heap ty) o passed = AnsweredAfter (heap_asked ty) o passed
+  CallAsks (call.HeapOver memory) o passed = passed ≡ []
   CallAsks (call.GiveBack grant) o passed = passed ≡ []
   CallAsks (call.Purge id) o passed = passed ≡ []
   CallAsks call.Release o passed = passed ≡ []
@@ -168,6 +179,7 @@ module _ {P H : Type 0} where
   IsQuiet (call.Table ty) = ⊥
   IsQuiet call.Stack = Unit {0}
   IsQuiet (call.Heap ty) = ⊥
+  IsQuiet (call.HeapOver memory) = ⊥
   IsQuiet (call.GiveBack grant) = Unit {0}
   IsQuiet (call.Purge id) = Unit {0}
   IsQuiet call.Release = Unit {0}
@@ -178,6 +190,11 @@ module _ {P H : Type 0} where
   AnswersMade (Err fault) (Refused e) = e ≡ heap_refusal fault
   AnswersMade _ _ = ⊥
 
+  -- What want of memory says in a call, by what it is for.
+  abbrev pub CallWants : Call P H → HeapsTold → HeapsTold → AllocError → Type 0
+  CallWants (call.HeapOver memory) old new e = WantsOfMaker H (heap_over_asked memory) old new e
+  CallWants c old new e = Unit {0}
+
   -- The call is for a heap.
   abbrev pub IsForHeap : Call P H → Type 0
   IsForHeap call.Key = ⊥
@@ -187,6 +204,7 @@ module _ {P H : Type 0} where
   IsForHeap (call.Table ty) = ⊥
   IsForHeap call.Stack = ⊥
   IsForHeap (call.Heap ty) = Unit {0}
+  IsForHeap (call.HeapOver memory) = Unit {0}
   IsForHeap (call.GiveBack grant) = ⊥
   IsForHeap (call.Purge id) = ⊥
   IsForHeap call.Release = ⊥
@@ -201,6 +219,7 @@ module _ {P H : Type 0} where
       pub made : (new.heaps ≡ old.heaps) ⊎ (MayHaveMade (stage_of f) × (heaps_wanted f.asked ≡ 1) × ((answer : Result H HeapMakeFault) × (HasMade answer (stage_of f) × MakesHeap answer old.heaps new.heaps)))
       pub quiet : AsksNobody (stage_of begun) → AsksNobody (stage_of f) × (passed ≡ []) × (new.heaps ≡ old.heaps)
       pub cause : IfRefusing (HasCause old new) (stage_of f)
+      pub wants : IfRefusing (WantsOfMaker H f.asked old.heaps new.heaps) (stage_of f)
       pub so_far : AskedSoFar f.asked (stage_of f) passed
 
     -- What a call exchanged: these exchanges with its limiter, and no others, of which this is so; and with its maker of heaps nothing, or

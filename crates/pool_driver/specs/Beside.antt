@@ -1,7 +1,6 @@
 -- The rest of what a seat has, beside the frame of its call: on the core on which a step is made, that is away too.
-use Rattle.std.specs.Prelude.{◌≡◌, ℕ, ◌+◌, ◌≤◌, List, [], Option}
+use Rattle.std.specs.Prelude.{◌≡◌, ◌+◌, ◌≤◌, List, [], Option}
 use Rattle.pool_hall.specs.Sum.{total}
-use Rattle.pool_hall.specs.declared.unit_name.UnitName.{UnitName}
 use Rattle.pool_limits.specs.Exchanges.{Exchange}
 use Rattle.pool_alloc.specs.PartyTold.{PartyTold}
 use Rattle.pool_alloc.specs.Places.{Thing, away_count, frame_count, kept_count}

@@ -6,11 +6,11 @@ use Rattle.pool_alloc.specs.Calls.{IsGrantOf, IsIdle, IfGranted}
 use Rattle.pool_alloc.specs.CallStages.{Stage, no_call, keys, asks, tests_component, counts_component, returning, refusing, purging, reserving, releasing, stage_of}
 use Rattle.pool_alloc.specs.Stepping.{is_idle}
 use Rattle.pool_alloc.specs.declared.frame.Asked.{Asked}
-use Rattle.pool_alloc.specs.declared.frame.Asked.TheVariants.{Nothing as nothing_asked, Module as module_asked, Memory as memory_asked, Table as table_asked, Stack as stack_asked, Heap as heap_asked}
+use Rattle.pool_alloc.specs.declared.frame.Asked.TheVariants.{Nothing as nothing_asked, Module as module_asked, Memory as memory_asked, Table as table_asked, Stack as stack_asked, Heap as heap_asked, HeapOver as heap_over_asked}
 use Rattle.pool_alloc.specs.declared.frame.Call.{Call}
 use Rattle.pool_alloc.specs.declared.frame.Call.TheVariants as call
 use Rattle.pool_alloc.specs.declared.frame.Frame.{Frame}
-use Rattle.pool_alloc.specs.declared.frame.Grant.TheVariants.{Instance, Component, Memory, Table, Stack, Heap}
+use Rattle.pool_alloc.specs.declared.frame.Grant.TheVariants.{Instance, Component, Memory, Table, Stack, Heap, HeapOver}
 use Rattle.pool_alloc.specs.declared.frame.Outcome.{Outcome}
 use Rattle.pool_alloc.specs.declared.frame.Outcome.TheVariants.{Key, Granted, Returned, Purged, Released, Refused}
 use Rattle.pool_slots.specs.declared.plan.Plan.{Plan}
@@ -66,6 +66,7 @@ modules_asked (memory_asked m) = 0
 modules_asked (table_asked ty) = 0
 modules_asked stack_asked = 0
 modules_asked (heap_asked ty) = 0
+modules_asked (heap_over_asked memory) = 0
 
 -- How many instances a call of a kind counts at most, by what it asks for: one where it asks for a module.
 abbrev pub instances_of : CallKind → Asked → ℕ
@@ -92,6 +93,7 @@ module _ {P H : Type 0} where
   kind_of (call.Table ty) = asks_for
   kind_of call.Stack = asks_for
   kind_of (call.Heap ty) = asks_for
+  kind_of (call.HeapOver memory) = asks_for
   kind_of (call.GiveBack grant) = gives_back
   kind_of (call.Purge id) = purges
   kind_of call.Release = releases
@@ -105,6 +107,7 @@ module _ {P H : Type 0} where
   MayAnswer asks_for (Granted (Table lease)) = Unit {0}
   MayAnswer asks_for (Granted (Stack lease)) = Unit {0}
   MayAnswer asks_for (Granted (Heap lease memory)) = Unit {0}
+  MayAnswer asks_for (Granted (HeapOver lease)) = Unit {0}
   MayAnswer asks_for (Refused e) = Unit {0}
   MayAnswer asks_component (Granted Component) = Unit {0}
   MayAnswer asks_component (Refused e) = Unit {0}

@@ -1,6 +1,6 @@
 -- The region of a memory that is granted was erased no more often than its unit tells: a slot of which something is known isn't erased before
 -- its next use.
-use Rattle.std.specs.Prelude.{ℕ, ◌-◌, ◌^◌, ◌≤◌, min, Option}
+use Rattle.std.specs.Prelude.{ℕ, ◌-◌, ◌^◌, ◌≤◌, min}
 use Rattle.std.specs.List.{AllByRecursion}
 use Rattle.pool_types.specs.Rising.{risen}
 use Rattle.pool_pages.specs.Told.{Told}
@@ -30,6 +30,7 @@ module _ {P H : Type 0} where
   GrantErased (grant.Table lease) = Unit {0}
   GrantErased (grant.Stack lease) = Unit {0}
   GrantErased (grant.Heap lease memory) = LeaseErased memory
+  GrantErased (grant.HeapOver lease) = Unit {0}
 
   -- The same of the region that a call for a memory has in hand; one that is emptied next may be erased once more.
   abbrev pub PhaseErased : Phase P H → Type 0

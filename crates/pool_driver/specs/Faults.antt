@@ -1,5 +1,5 @@
 -- A region that is out, or lies in a queue, has no fewer faults than its unit tells. Whoever puts it back needs that: a cell's faults never fall.
-use Rattle.std.specs.Prelude.{◌⊎◌, ℕ, ◌+◌, ◌^◌, ◌<◌, ◌≤◌, Option, Some, None, IfSome}
+use Rattle.std.specs.Prelude.{◌⊎◌, ℕ, ◌+◌, ◌^◌, ◌<◌, ◌≤◌, Option, Some, IfSome}
 use Rattle.std.specs.List.{AllByRecursion}
 use Rattle.pool_slots.specs.CellOf.{cell_of}
 use Rattle.pool_slots.specs.RegionCells.{faults_in}
@@ -12,7 +12,7 @@ use Rattle.pool_alloc.specs.StackLeases.{LeasedStack}
 use Rattle.pool_alloc.specs.TableLeases.{LeasedTable}
 use Rattle.pool_alloc.specs.declared.frame.Frame.{Frame}
 use Rattle.pool_alloc.specs.declared.frame.Grant.{Grant}
-use Rattle.pool_alloc.specs.declared.frame.Grant.TheVariants.{Instance, Component, Memory as memory_grant, Table as table_grant, Stack as stack_grant, Heap}
+use Rattle.pool_alloc.specs.declared.frame.Grant.TheVariants.{Instance, Component, Memory as memory_grant, Table as table_grant, Stack as stack_grant, Heap, HeapOver}
 use Rattle.pool_alloc.specs.declared.frame.Object.{Object}
 use Rattle.pool_alloc.specs.declared.frame.Object.TheVariants.{Memory, Table, Stack}
 use Rattle.pool_alloc.specs.declared.frame.Outcome.{Outcome}
@@ -89,6 +89,7 @@ module _ {P H : Type 0} where
   GrantKeeps (table_grant lease) = TableKeeps lease
   GrantKeeps (stack_grant lease) = StackKeeps lease
   GrantKeeps (Heap lease memory) = LeaseKeeps memory
+  GrantKeeps (HeapOver lease) = Unit {0}
 
   -- The same of each region of an answer.
   abbrev pub AnswerKeeps : Option (Outcome P H) → Type 0
@@ -104,8 +105,8 @@ module _ {P H : Type 0} where
   PhaseKeeps (CountObject object) = ObjectKeeps object
   PhaseKeeps (PutBack at held) = KeepsFaults at.numbers.faults (faults_in (cell_of held))
   PhaseKeeps (UncountObject object) = ObjectKeeps object
-  PhaseKeeps (UncountHeap lease memory) = LeaseKeeps memory
-  PhaseKeeps (PutHeap lease memory) = LeaseKeeps memory
+  PhaseKeeps (UncountHeap lease memory) = IfSome memory LeaseKeeps
+  PhaseKeeps (PutHeap lease memory) = IfSome memory LeaseKeeps
   PhaseKeeps (FreeHeap name memory) = LeaseKeeps memory
   PhaseKeeps (Reset object) = ObjectKeeps object
   PhaseKeeps (Purge p step) = PurgeKeeps step

@@ -11,14 +11,14 @@ use Rattle.pool_slots.specs.declared.errors.ConcurrencyKind.TheVariants.{CoreIns
 use Rattle.pool_slots.specs.declared.plan.Plan.{Plan}
 use Rattle.pool_alloc.specs.CallStages.{IsBroken, Progress, untested, uncounted, admitted, seeks_single, seeks_stack, tests_heap, seeks_heap, counts_heap, Stage, no_call, keys, asks, tests_component, counts_component, returning, refusing, purging, reserving, releasing}
 use Rattle.pool_alloc.specs.Refusals.{module_refused, heap_refused, component_refused}
-use Rattle.pool_alloc.specs.StepReads.{IsModule, heaps_wanted, info_wanted, singles_wanted}
+use Rattle.pool_alloc.specs.StepReads.{HasMemories, IsModule, heaps_wanted, info_wanted, singles_wanted}
 use Rattle.pool_alloc.specs.StepTable.{no_component_left}
 use Rattle.pool_alloc.specs.declared.frame.Asked.{Asked}
-use Rattle.pool_alloc.specs.declared.frame.Asked.TheVariants.{Memory as memory_asked, Table as table_asked, Stack as stack_asked, Heap as heap_asked}
+use Rattle.pool_alloc.specs.declared.frame.Asked.TheVariants.{Memory as memory_asked, Table as table_asked, Stack as stack_asked, Heap as heap_asked, HeapOver as heap_over_asked}
 use Rattle.pool_alloc.specs.declared.frame.Call.{Call}
 use Rattle.pool_alloc.specs.declared.frame.Call.TheVariants as call
 use Rattle.pool_alloc.specs.declared.frame.Grant.{Grant}
-use Rattle.pool_alloc.specs.declared.frame.Grant.TheVariants.{Instance, Component, Memory as memory_granted, Table as table_granted, Stack, Heap}
+use Rattle.pool_alloc.specs.declared.frame.Grant.TheVariants.{Instance, Component, Memory as memory_granted, Table as table_granted, Stack, Heap, HeapOver}
 use Rattle.pool_alloc.specs.declared.frame.Outcome.{Outcome}
 use Rattle.pool_alloc.specs.declared.frame.Outcome.TheVariants.{Key, Granted, Returned, Purged, Released, Refused}
 use Rattle.pool_alloc.specs.declared.pool_core.Settings.{Settings}
@@ -132,6 +132,29 @@ FailsHeap (LimiterFault e) = Unit {0}
 FailsHeap PageFault = Unit {0}
 FailsHeap HeapFault = Unit {0}
 
+-- Why a heap over a memory that there is may be refused where there is a collector: no slot for a heap is left, or its maker makes none.
+-- Nothing is reserved for it, so want of memory is the maker's alone.
+abbrev pub FailsHeapOver : AllocError → Type 0
+FailsHeapOver Memory = Unit {0}
+FailsHeapOver (unsupported rule) = ⊥
+FailsHeapOver (Limit l) = l.kind ≡ GcHeaps
+FailsHeapOver StacksDisabled = ⊥
+FailsHeapOver HeapsDisabled = ⊥
+FailsHeapOver (LimiterDenied table min) = ⊥
+FailsHeapOver (LimiterFault e) = ⊥
+FailsHeapOver PageFault = ⊥
+FailsHeapOver HeapFault = Unit {0}
+
+-- Why a heap that passed its test may be refused, by whether it has a memory of its own.
+abbrev pub FailsHeapFor : Asked → AllocError → Type 0
+FailsHeapFor (heap_over_asked memory) e = FailsHeapOver e
+FailsHeapFor _ e = FailsHeap e
+
+-- A heap over a memory that there is is asked for.
+abbrev pub IsOverAsked : Asked → Type 0
+IsOverAsked (heap_over_asked memory) = Unit {0}
+IsOverAsked _ = ⊥
+
 -- Why a module may be refused: by the first rule that it breaks; or it breaks none, and it fails.
 abbrev pub ModuleRefused : Settings → Plan → ModuleInfo → AllocError → Type 0
 ModuleRefused s plan info e = IsBroken (module_refused s plan.totals.table info) e ⊎ ((module_refused s plan.totals.table info ≡ None) × FailsModule e)
@@ -156,7 +179,7 @@ abbrev pub HeapRefused : Settings → Asked → AllocError → Type 0
 HeapRefused s asked e =
     ((s.tunables.tunables.collector ≡ false) × (e ≡ HeapsDisabled))
     ⊎ (((s.tunables.tunables.collector ≡ true) × IsBroken (heap_refused s asked) e)
-    ⊎ (HeapPasses s asked × FailsHeap e))
+    ⊎ (HeapPasses s asked × FailsHeapFor asked e))
 
 -- Why a request that is so far may be refused still.
 abbrev pub RequestRefused : Settings → Plan → Asked → Progress → AllocError → Type 0
@@ -166,7 +189,7 @@ RequestRefused s plan asked (admitted n) e = FailsModule e
 RequestRefused s plan asked (seeks_single n) e = FailsSingle asked e
 RequestRefused s plan asked seeks_stack e = StackRefused s e
 RequestRefused s plan asked tests_heap e = HeapRefused s asked e
-RequestRefused s plan asked (seeks_heap n) e = FailsHeap e
+RequestRefused s plan asked (seeks_heap n) e = FailsHeapFor asked e
 RequestRefused s plan asked counts_heap e = ⊥
 
 -- A request is for what its progress says: an instance of a module, a memory or a table by itself, a stack or a heap.
@@ -202,9 +225,12 @@ module _ {P H : Type 0} where
   RequestGranted s plan asked (seeks_single n) (memory_granted lease) = IsMemoryAsked asked
   RequestGranted s plan asked (seeks_single n) (table_granted lease) = IsTableAsked asked
   RequestGranted s plan asked seeks_stack (Stack lease) = 0 < s.stack_size
-  RequestGranted s plan asked tests_heap (Heap lease memory) = HeapPasses s asked
-  RequestGranted s plan asked (seeks_heap n) (Heap lease memory) = Unit {0}
-  RequestGranted s plan asked counts_heap (Heap lease memory) = Unit {0}
+  RequestGranted s plan asked tests_heap (Heap lease memory) = HeapPasses s asked × HasMemories asked
+  RequestGranted s plan asked (seeks_heap n) (Heap lease memory) = HasMemories asked
+  RequestGranted s plan asked counts_heap (Heap lease memory) = HasMemories asked
+  RequestGranted s plan asked tests_heap (HeapOver lease) = HeapPasses s asked × IsOverAsked asked
+  RequestGranted s plan asked (seeks_heap n) (HeapOver lease) = IsOverAsked asked
+  RequestGranted s plan asked counts_heap (HeapOver lease) = IsOverAsked asked
   RequestGranted s plan asked _ _ = ⊥
 
   -- What a call that is so far may end with.
@@ -241,6 +267,8 @@ module _ {P H : Type 0} where
   AnswersCall s plan call.Stack (Refused e) = StackRefused s e
   AnswersCall s plan (call.Heap ty) (Granted (Heap lease memory)) = HeapPasses s (heap_asked ty)
   AnswersCall s plan (call.Heap ty) (Refused e) = HeapRefused s (heap_asked ty) e
+  AnswersCall s plan (call.HeapOver memory) (Granted (HeapOver lease)) = HeapPasses s (heap_over_asked memory)
+  AnswersCall s plan (call.HeapOver memory) (Refused e) = HeapRefused s (heap_over_asked memory) e
   AnswersCall s plan (call.GiveBack grant) Returned = Unit {0}
   AnswersCall s plan (call.Purge id) (Purged n) = Unit {0}
   AnswersCall s plan call.Release (Released n) = Unit {0}

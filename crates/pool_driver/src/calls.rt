@@ -4,8 +4,8 @@ ghost use Rattle.pool_hall.specs.Seat.{made_with, view, IsSeatOf, IsFree};
 ghost use Rattle.pool_alloc.specs.CallStages.{stage_of};
 ghost use Rattle.pool_alloc.specs.Calls.{MayBegin, begun_call};
 ghost use Rattle.pool_alloc.specs.StepReads.{heaps_wanted};
-ghost use Rattle.pool_driver.specs.Asking.{AnsweredAfter, AskedSince, AsksNobody, CallAsks, HasAsked, IsForHeap, IsQuiet};
-ghost use Rattle.pool_driver.specs.Calling.{GoesOnSince, HasEnded, MayAnswer, brought, kind_of};
+ghost use Rattle.pool_driver.specs.Asking.{AnsweredAfter, AskedSince, AsksNobody, CallAsks, CallWants, HasAsked, IfRefused, IsForHeap, IsQuiet, WantsOfMaker};
+ghost use Rattle.pool_driver.specs.Calling.{GoesOnSince, HasEnded, MayAnswer, asks_for, brought, kind_at, kind_of};
 ghost use Rattle.pool_driver.specs.Driving.{Given, IsDriven};
 ghost use Rattle.pool_driver.specs.Pools.{IsSharedOf};
 ghost use Rattle.pool_driver.specs.Refusing.{AnswersCall};
@@ -46,6 +46,7 @@ impl<P: Pages, H: GcHeap, M: PageMaker> SharedPool<PoolHall<P, H, M>> {
         ensures kind { MayAnswer (kind_of call) result }
         ensures answers { AnswersCall given.about.settings given.about.plan call result }
         ensures asked { HasAsked L.leads (IsQuiet call) (IsForHeap call) (CallAsks call result) limiter.old limiter.new (record { limiter = L.told limiter.old; heaps = K.told heaps.old }) (record { limiter = L.told limiter.new; heaps = K.told heaps.new }) result }
+        ensures wants { IfRefused (CallWants call (K.told heaps.old) (K.told heaps.new)) result }
     {
         frame.begin(call);
         self.run(rt, seat, alloc, frame, limiter, heaps)
@@ -73,6 +74,7 @@ impl<P: Pages, H: GcHeap, M: PageMaker> SharedPool<PoolHall<P, H, M>> {
         ensures driven { IsDriven (length (made_with self.now.hall)) given (view seat.new) frame.new (Some result) }
         ensures ended { HasEnded given.about (view seat.old) (view seat.new) frame.old frame.new result }
         ensures asked { HasAsked L.leads (AsksNobody (stage_of frame.old)) (heaps_wanted frame.old.asked ≡ 1) (AnsweredAfter frame.old.asked result) limiter.old limiter.new (record { limiter = L.told limiter.old; heaps = K.told heaps.old }) (record { limiter = L.told limiter.new; heaps = K.told heaps.new }) result }
+        ensures wants { kind_at (stage_of frame.old) ≡ asks_for → IfRefused (WantsOfMaker H frame.old.asked (K.told heaps.old) (K.told heaps.new)) result }
     {
         let mut outcome = None;
         for _ in rt.forever() {

@@ -5,11 +5,12 @@ ghost use Rattle.pool_alloc.specs.BetweenSteps.{IsFrame};
 ghost use Rattle.pool_alloc.specs.Calls.{IsIdle, MayBegin, begun_call, gives_back};
 ghost use Rattle.pool_slots.specs.declared.plan.Plan.{Plan};
 ghost use Rattle.pool_alloc.specs.declared.pool_core.Settings.{Settings};
-ghost use Rattle.pool_alloc.specs.PoolTotals.{calls_in_frame, calls_in_phase, calls_of_object};
+ghost use Rattle.pool_alloc.specs.PoolTotals.{calls_in_frame, calls_in_phase, calls_of_heap_memory, calls_of_object};
 ghost use Rattle.pool_alloc.specs.StepReads.{memories_wanted, wanted, tables_wanted, stacks_wanted, heaps_wanted, kind_last, kind_next, wanted_of};
 ghost use Rattle.pool_alloc.specs.Objects.{objects_wanted};
 
 use crate::frame::{Asked, Call, Ending, Frame, Grant, MemoryCall, Object, Phase};
+use crate::leases::memory::MemoryLease;
 use crate::purge::{PurgeCursor, PurgeStep};
 use crate::release::ReleaseStep;
 use pool_index::{MemoryInModule, SlotKind};
@@ -63,6 +64,13 @@ impl<P: Pages, H: GcHeap> Frame<P, H> {
                 self.enter(Phase::TestHeap);
                 self.step_count = 0;
             }
+            Call::HeapOver(memory) => {
+                self.asked = Asked::HeapOver(memory);
+                self.ending = Ending::Granted;
+                self.queues = 0;
+                self.enter(Phase::TestHeap);
+                self.step_count = 0;
+            }
             Call::GiveBack(grant) => self.give_back(grant),
             Call::Purge(id) => {
                 self.enter(Phase::Purge(PurgeCursor::new(id), PurgeStep::Pick(0)));
@@ -86,7 +94,7 @@ impl<P: Pages, H: GcHeap> Frame<P, H> {
     }
 
     // The objects of an instance are given back in order, and then the instance. A component is counted off, and a memory, a table
-    // or a stack is given back at once. A heap is given back, and then its memory.
+    // or a stack is given back at once. A heap is given back, and then the memory that was granted with it.
     fn give_back(&mut self, grant: Grant<P, H>)
         ensures { self.new ≡ gives_back grant self.old }
     {
@@ -122,7 +130,13 @@ impl<P: Pages, H: GcHeap> Frame<P, H> {
             Grant::Heap(lease, memory) => {
                 self.asked = Asked::Heap(*memory.memory.ty());
                 self.ending = Ending::Returned;
-                self.enter(Phase::UncountHeap(lease, memory));
+                self.enter(Phase::UncountHeap(lease, Some(memory)));
+                self.step_count = 0;
+            }
+            Grant::HeapOver(lease) => {
+                self.asked = Asked::HeapOver(lease.memory());
+                self.ending = Ending::Returned;
+                self.enter(Phase::UncountHeap(lease, None));
                 self.step_count = 0;
             }
         }
@@ -188,7 +202,7 @@ impl<P: Pages, H: GcHeap> Frame<P, H> {
         ensures { result ≡ heaps_wanted self.now.asked }
     {
         match &self.asked {
-            Asked::Heap(_) => 1,
+            Asked::Heap(_) | Asked::HeapOver(_) => 1,
             _ => 0,
         }
     }
@@ -226,7 +240,7 @@ impl<P: Pages, H: GcHeap> Frame<P, H> {
         ensures { result ≡ kind_last self.now.asked }
     {
         match &self.asked {
-            Asked::Heap(_) => SlotKind::Heap,
+            Asked::Heap(_) | Asked::HeapOver(_) => SlotKind::Heap,
             _ => SlotKind::Table,
         }
     }
@@ -268,14 +282,24 @@ impl<P: Pages, H: GcHeap> Phase<P, H> {
             Phase::PutBack(_, held) => held.page_calls(),
             Phase::CountObject(object) => object.page_calls(),
             Phase::UncountObject(object) => object.page_calls(),
-            Phase::UncountHeap(_, memory) => memory.page_calls(),
-            Phase::PutHeap(_, memory) => memory.page_calls(),
+            Phase::UncountHeap(_, memory) => memory_calls(memory),
+            Phase::PutHeap(_, memory) => memory_calls(memory),
             Phase::FreeHeap(_, memory) => memory.page_calls(),
             Phase::Reset(object) => object.page_calls(),
             Phase::Purge(_, step) => step.page_calls(),
             Phase::Release(step) => step.page_calls(),
             _ => PageCalls::none(),
         }
+    }
+}
+
+// The calls made so far on the region of the memory that was granted with a heap, if one was.
+fn memory_calls<P: Pages>(memory: &Option<MemoryLease<P>>) -> PageCalls
+    ensures { result ≡ calls_of_heap_memory memory.now }
+{
+    match memory {
+        Some(lease) => lease.page_calls(),
+        None => PageCalls::none(),
     }
 }
 

@@ -1,7 +1,8 @@
 //! A heap that was granted.
 ghost use Rattle.std.specs.Prelude.{◌≡◌, false};
+ghost use Rattle.pool_alloc.specs.HeapLeases.{memory_noted};
 
-use pool_slots::{GcHeap, GcHeapAllocationIndex, RegionNumbers};
+use pool_slots::{GcHeap, GcHeapAllocationIndex, MemoryAllocationIndex, RegionNumbers};
 use std::marker::Model;
 
 /// A heap that was granted, and its slot. It must be given back, or its slot stays used for good. No store uses the heap while
@@ -50,6 +51,13 @@ impl<H: GcHeap> HeapLease<H> {
         ensures { result ≡ self.now.numbers }
     {
         self.numbers
+    }
+
+    /// The index of the heap's memory.
+    pub fn memory(&self) -> MemoryAllocationIndex
+        ensures { result.0 ≡ memory_noted self.now }
+    {
+        MemoryAllocationIndex((self.numbers.faults % 0x1_0000_0000) as u32)
     }
 
     pub fn heap(&self) -> &H

@@ -87,7 +87,7 @@ fn begin<P: Pages, H: GcHeap>(
 {
     let memory = frame.objects.memories.len();
     match &frame.asked {
-        Asked::Nothing | Asked::Table(_) | Asked::Stack => unreachable!(),
+        Asked::Nothing | Asked::Table(_) | Asked::Stack | Asked::HeapOver(_) => unreachable!(),
         Asked::Module(call) => {
             let decl = &call.info.memories.as_slice()[memory];
             let image = call.image(memory);

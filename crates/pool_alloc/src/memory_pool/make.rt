@@ -62,7 +62,7 @@ fn make_next_memory<P: Pages, H: GcHeap, L: ResourceLimiter>(
 {
     let memory = frame.objects.memories.len();
     match &frame.asked {
-        Asked::Nothing | Asked::Table(_) | Asked::Stack => unreachable!(),
+        Asked::Nothing | Asked::Table(_) | Asked::Stack | Asked::HeapOver(_) => unreachable!(),
         Asked::Module(call) => {
             let decl = &call.info.memories.as_slice()[memory];
             make_memory_of(&decl.ty, settings, held, limiter)

@@ -1,9 +1,9 @@
 //! A step that counts, made by whoever found the number at the counter.
 ghost use Rattle.std.specs.Prelude.{◌≡◌, ◌<◌, ◌^◌, ℕ, true, None, length};
 ghost use Rattle.pool_slots.specs.declared.plan.Plan.{Plan};
-ghost use Rattle.pool_alloc.specs.CanStep.{CanKeepMemory, CanKeepTable};
+ghost use Rattle.pool_alloc.specs.CanStep.{CanKeepMemory, CanKeepTable, CanTakeMemory};
 ghost use Rattle.pool_alloc.specs.InHand.{holds_object};
-ghost use Rattle.pool_alloc.specs.OnCounters.{CanCountObject, CanStepCounted, counted_on, object_on, key_on, instance_on, heap_on, component_on};
+ghost use Rattle.pool_alloc.specs.OnCounters.{CanCountObject, CanStepCounted, counted_on, object_on, key_on, instance_on, heap_found, heap_on, component_on};
 ghost use Rattle.pool_alloc.specs.Turns.{Left, after, ends, answer_of, left_by, resting};
 ghost use Rattle.pool_alloc.specs.declared.pool_core.Settings.{Settings};
 
@@ -203,7 +203,7 @@ pub(crate) fn count_stack<P: Pages, H: GcHeap>(
     frame.end(Outcome::Granted(Grant::Stack(lease)), outcome)
 }
 
-// Grants a heap that is counted, with its memory.
+// Grants a heap that is counted, with its memory where that was granted for it.
 #[inline(never)]
 pub(crate) fn count_heap<P: Pages, H: GcHeap>(
     alloc: Global,
@@ -211,9 +211,26 @@ pub(crate) fn count_heap<P: Pages, H: GcHeap>(
     lease: HeapLease<H>,
     outcome: &mut Option<Outcome<P, H>>,
 )
-    requires memory { 0 < length frame.old.objects.memories.items }
+    requires memory { CanTakeMemory frame.old.asked frame.old.objects }
     requires unanswered { outcome.old ≡ None }
     ensures { (found : ℕ) → ◌≡◌ {A = Left P H} (record { frame = frame.new; outcome = outcome.new }) (left_by (heap_on lease found frame.old)) }
+{
+    match &frame.asked {
+        Asked::HeapOver(_) => frame.end(Outcome::Granted(Grant::HeapOver(lease)), outcome),
+        _ => grant_heap(alloc, frame, lease, outcome),
+    }
+}
+
+// Grants it with the memory that was granted for it.
+fn grant_heap<P: Pages, H: GcHeap>(
+    alloc: Global,
+    frame: &mut Frame<P, H>,
+    lease: HeapLease<H>,
+    outcome: &mut Option<Outcome<P, H>>,
+)
+    requires memory { 0 < length frame.old.objects.memories.items }
+    requires unanswered { outcome.old ≡ None }
+    ensures { (found : ℕ) → ◌≡◌ {A = Left P H} (record { frame = frame.new; outcome = outcome.new }) (left_by (heap_found frame.old.objects.memories.items lease found frame.old)) }
 {
     let memory = frame.objects.memories.remove_first();
     frame.objects = InstanceLease::none(alloc);

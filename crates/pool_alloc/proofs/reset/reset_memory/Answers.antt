@@ -1,4 +1,4 @@
-use Rattle.std.proofs.Common.{◌≡◌, ◌≤◌, rules, arith, true, false, List, sym, subst, is_ok}
+use Rattle.std.proofs.Common.{◌≡◌, rules, arith, true, false, List, sym, subst, is_ok}
 use Rattle.pool_alloc.proofs.Imports.{Slot, ByteRange, Zero, Queued, IsReset, given_marks, kept_most, slot_of}
 use Rattle.pool_alloc.specs.Leases.{slot_taken}
 use Rattle.pool_alloc.specs.PageCallAnswers.{Resets}

@@ -1,4 +1,4 @@
-use Rattle.std.proofs.Common.{◌≡◌, ◌∙◌, ap, sym, arith}
+use Rattle.std.proofs.Common.{◌∙◌, ap, sym, arith}
 use Rattle.pool_alloc.proofs.Imports.{false≢true, has_room, stripe_count, SlabConstraints, SlabLayout, settings_speak}
 use Rattle.pool_alloc.proofs.Striping.{slab_there}
 use Rattle.pool_alloc.proofs.memory_pool.stripes.num_stripes.Goals as goal

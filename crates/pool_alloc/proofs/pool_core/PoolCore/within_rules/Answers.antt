@@ -1,4 +1,4 @@
-use Rattle.std.proofs.Common.{◌≡◌, ℕ, ◌<◌, ◌≤◌, refl, sym, ap, subst, ◌∙◌, arith, false, Some}
+use Rattle.std.proofs.Common.{ℕ, ◌<◌, ◌≤◌, refl, sym, ap, subst, ◌∙◌, arith, false, Some}
 use Rattle.pool_alloc.proofs.Imports.{MakerTold, IsWithinRules, HaveGuards, PartSettings, StripedPlanSettings}
 use Rattle.pool_alloc.specs.declared.frame.FrameLists.{FrameLists}
 use Rattle.pool_alloc.specs.Made.{settings_of}

@@ -5,12 +5,13 @@ use Rattle.pool_alloc.specs.Calls.{MayBegin}
 use Rattle.pool_alloc.specs.PartyTold.{PartyTold}
 use Rattle.pool_alloc.specs.StepReads.{heaps_wanted}
 use Rattle.pool_alloc.specs.declared.frame.Frame.{Frame}
-use Rattle.pool_driver.specs.Asking.{AnsweredAfter, AskedSince, AsksNobody, HasAsked}
-use Rattle.pool_driver.specs.Calling.{CallKind, GoesOnSince, MayAnswer, brought, kind_at, kind_of}
+use Rattle.pool_driver.specs.Asking.{AnsweredAfter, AskedSince, AsksNobody, HasAsked, IfRefused, WantsOfMaker}
+use Rattle.pool_driver.specs.Calling.{CallKind, GoesOnSince, MayAnswer, asks_for, brought, kind_at, kind_of}
 use Rattle.pool_driver.specs.Driving.{IsDriven}
 use Rattle.pool_driver.specs.Pools.{IsSharedOf}
 use Rattle.pool_driver.specs.Refusing.{MayEnd}
 use Rattle.pool_driver.proofs.Asking.{asked_begun, call_asked}
+use Rattle.pool_driver.proofs.OverWants.{call_wants}
 use Rattle.pool_driver.proofs.Calling.{answers_call, begun_kind, driven_begun, goes_begun, none_had, rested}
 use Rattle.pool_driver.proofs.calls.SharedPool+PoolHall+P+H+M.call.Goals as goal
 
@@ -47,3 +48,8 @@ returns-clause-asked g c =
     let new : PartyTold = record { limiter = g.L.ResourceLimiter.told c.run.new.limiter; heaps = g.K.HeapMaker.told c.run.new.heaps } in
     call_asked g.L.ResourceLimiter.leads c.args.limiter.now c.run.new.limiter old new c.args.call c.args.frame.now c.run.result
     (subst (λ (f : Frame g.row.P.Denot g.row.H.Denot). HasAsked g.L.ResourceLimiter.leads (AsksNobody (stage_of f)) (heaps_wanted f.asked ≡ 1) (AnsweredAfter f.asked c.run.result) c.args.limiter.now c.run.new.limiter old new c.run.result) {x = c.begin.new.self} c.begin.ensures.value c.run.ensures.asked)
+
+pub returns-clause-wants : goal.returns-clause-wants
+returns-clause-wants g c =
+    call_wants c.args.call c.args.frame.now c.run.result (g.K.HeapMaker.told c.args.heaps.now) (g.K.HeapMaker.told c.run.new.heaps)
+    (subst (λ (f : Frame g.row.P.Denot g.row.H.Denot). kind_at (stage_of f) ≡ asks_for → IfRefused (WantsOfMaker g.row.H.Denot f.asked (g.K.HeapMaker.told c.args.heaps.now) (g.K.HeapMaker.told c.run.new.heaps)) c.run.result) {x = c.begin.new.self} c.begin.ensures.value c.run.ensures.wants)

@@ -1,13 +1,15 @@
 use Rattle.std.proofs.Common.{◌≡◌, length, rules, subst, sym, ◌∙◌, Option, None}
 use Rattle.pool_hall.specs.Seat.{made_with, view}
 use Rattle.pool_limits.specs.Exchanges.{Exchanged}
+use Rattle.pool_alloc.specs.CallStages.{stage_of}
 use Rattle.pool_alloc.specs.PartyTold.{PartyTold}
 use Rattle.pool_alloc.specs.declared.frame.Outcome.{Outcome}
-use Rattle.pool_driver.specs.Calling.{GoesOnSince}
+use Rattle.pool_driver.specs.Calling.{Becomes, CallKind, GoesOnSince, kind_at}
 use Rattle.pool_driver.specs.Driving.{IsDriven}
 use Rattle.pool_driver.specs.Origins.{about_of, inner_of}
 use Rattle.pool_driver.specs.Pools.{IsSharedOf}
-use Rattle.pool_driver.proofs.Asking.{call_asks_on, call_has_asked}
+use Rattle.pool_driver.proofs.Appending.{asks_has}
+use Rattle.pool_driver.proofs.Asking.{call_asks_on, call_has_asked, call_has_wanted}
 use Rattle.pool_driver.proofs.Calling.{goes_on, has_ended}
 use Rattle.pool_driver.proofs.calls.SharedPool+PoolHall+P+H+M.run.Goals as goal
 
@@ -28,6 +30,13 @@ pub returns-in-Some-take-clause-asked : goal.returns-in-Some-take-clause-asked
 returns-in-Some-take-clause-asked g c =
     call_has_asked (about_of g.M.PageMaker.told) inner_of g.L.ResourceLimiter.leads c.args.limiter.now c.loop.limiter c.step.new.limiter _ _ _ g.given.about (view c.loop.seat) (view c.step.new.seat) c.args.frame.now c.loop.frame c.step.new.frame c.step.new.outcome c.loop.invariant.asked c.step.ensures.sees c.in-Some-take.answer (sym c.take.ensures.value ∙ c.in-Some-take.is) c.loop.invariant.goes.asked
 
+pub returns-in-Some-take-clause-wants : goal.returns-in-Some-take-clause-wants
+returns-in-Some-take-clause-wants g c = λ was.
+    let k : CallKind = kind_at (stage_of c.loop.frame) in
+    let has = asks_has k (subst (λ (z : CallKind). Becomes z k) was c.loop.invariant.goes.kind) in
+    call_has_wanted (about_of g.M.PageMaker.told) inner_of g.L.ResourceLimiter.leads c.args.limiter.now c.loop.limiter c.step.new.limiter _ _ _ g.given.about (view c.loop.seat) (view c.step.new.seat) c.args.frame.now c.loop.frame c.step.new.frame c.step.new.outcome c.loop.invariant.asked c.step.ensures.sees c.in-Some-take.answer (sym c.take.ensures.value ∙ c.in-Some-take.is) c.loop.invariant.goes.asked
+    c.loop.invariant.goes.sort has.1
+
 pub loop-preserved : goal.loop-preserved
 loop-preserved g c =
     let none : c.take.result ≡ None = search rules in
@@ -43,5 +52,5 @@ loop-preserved g c =
       unanswered = c.take.ensures.after;
       driven = subst (λ (o : Option (Outcome g.row.P.Denot g.row.H.Denot)). IsDriven (length (made_with c.args.self.now.hall)) g.given (view c.step.new.seat) c.step.new.frame o) left c.step.ensures.driven;
       goes = goes;
-      asked = call_asks_on (about_of g.M.PageMaker.told) inner_of g.L.ResourceLimiter.leads c.args.limiter.now c.loop.limiter c.step.new.limiter first before after g.given.about (view c.loop.seat) (view c.step.new.seat) c.args.frame.now c.loop.frame c.step.new.frame c.step.new.outcome c.loop.invariant.asked c.step.ensures.sees left (goes.asked ∙ sym c.loop.invariant.goes.asked);
+      asked = call_asks_on (about_of g.M.PageMaker.told) inner_of g.L.ResourceLimiter.leads c.args.limiter.now c.loop.limiter c.step.new.limiter first before after g.given.about (view c.loop.seat) (view c.step.new.seat) c.args.frame.now c.loop.frame c.step.new.frame c.step.new.outcome c.loop.invariant.asked c.step.ensures.sees left (goes.asked ∙ sym c.loop.invariant.goes.asked) c.loop.invariant.goes.sort;
     }
