@@ -15,7 +15,7 @@ use Rattle.pool_alloc.specs.declared.frame.Grant.{Grant}
 use Rattle.pool_alloc.specs.declared.frame.Outcome.TheVariants.{Granted}
 use Rattle.pool_driver.specs.Asking.{AnsweredAfter, HasAsked, NamesObject, StoppedBy, all_yes, questions}
 use Rattle.pool_callers.specs.Callers.{outcome_of}
-use Rattle.pool_callers.specs.GivenFirst.{AskedFirst, HasAskedAll, IsGiven, Passes, leads_given, next_answer}
+use Rattle.pool_callers.specs.GivenFirst.{AskedFirst, AsksOne, HasAskedAll, IsGiven, Passes, leads_given, next_answer, yes_of}
 use Rattle.pool_callers.specs.declared.given_answers.GivenAnswers.{GivenAnswers}
 
 -- one exchange after another
@@ -150,3 +150,9 @@ pub asks_all : {R D : Type 0} (told : R → LimiterTold) (leads : R → Exchange
 asks_all told leads q ds n before after past within asked =
     let all : take n (map q ds) ≡ map q ds = ap (λ (i : ℕ). take i (map q ds)) {x = n} {y = length (map q ds)} (omega (arith, past, within, length-map ds q)) ∙ take-length (map q ds) in
     inl (sym (length-map ds q), (refl, subst (λ (qs : List GrowthQuestion). Passes told leads (all_yes qs) before after) all asked))
+
+-- One thing was asked about.
+pub asks_single : {R : Type 0} (told : R → LimiterTold) (leads : R → Exchange → R → Type 0) (q : GrowthQuestion) (answer : Result Bool LimiterError) (before after : Option R) → AsksOne told leads q answer before after → HasAskedAll told leads (q ∷ []) (yes_of answer) answer before after
+asks_single told leads q (Ok true) before after asked = inl (refl, (refl, asked))
+asks_single told leads q (Ok false) before after asked = inr (q, (refl, ((λ is. absurd cc), asked)))
+asks_single told leads q (Err e) before after asked = inr (q, (refl, ((λ is. absurd cc), asked)))

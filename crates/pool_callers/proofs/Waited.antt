@@ -22,7 +22,7 @@ use Rattle.pool_alloc.specs.Held.{GainsHeld, KeepsHeld, LosesHeld, core_counted,
 use Rattle.pool_alloc.specs.Places.{Counter, counted_component, counted_instance, counted_object, only}
 use Rattle.pool_alloc.specs.PlainModules.{ModuleAsked}
 use Rattle.pool_alloc.specs.PoolTables.{IsTableLease}
-use Rattle.pool_alloc.specs.Requests.{AreImagesOf, IsMemoryOf, IsModule, image_at, image_for}
+use Rattle.pool_alloc.specs.Requests.{AreImagesOf, IsLimit, IsMemoryOf, IsModule, image_at, image_for}
 use Rattle.pool_alloc.specs.StepReads.{images_made}
 use Rattle.pool_alloc.specs.declared.frame.Asked.{Asked}
 use Rattle.pool_alloc.specs.declared.frame.Grant.{Grant}
@@ -177,7 +177,12 @@ pub ends_of : {T P H X : Type 0} (a : About) (home stripe : ℕ) (what : Asked) 
 ends_of a home stripe what of (Ok x) v w granted refused = granted
 ends_of a home stripe what of (Err e) v w granted refused = refused
 
--- Counting, of its two clauses.
+-- What is so of a value that isn't looked at.
 pub on_ok : {X E : Type 0} (Q : Type 0) (result : Result X E) → OnOk result Q → IfOk result (λ _. Q)
 on_ok Q (Ok x) is = is
 on_ok Q (Err e) is = tt
+
+-- A refusal that is one by a limit is one.
+pub is_limit : {X : Type 0} (full : AllocError) (Q : AllocError → Type 0) (result : Result X AllocError) → IsLimit full → IfErr result (λ e. (e ≡ full) × Q e) → IfErr result IsLimit
+is_limit full Q (Ok x) limit refused = tt
+is_limit full Q (Err e) limit refused = subst IsLimit (sym refused.0) limit

@@ -14,6 +14,11 @@ use Rattle.pool_callers.specs.Callers.{outcome_of}
 use Rattle.pool_callers.specs.NoHeapsTold.{nobody_told}
 use Rattle.pool_callers.specs.declared.given_answers.GivenAnswers.{GivenAnswers}
 
+-- Whether an answer is yes, as a number.
+abbrev pub yes_of : Result Bool LimiterError → ℕ
+yes_of (Ok true) = 1
+yes_of _ = 0
+
 -- The answer that is given next, where so many are still yes and the others are this one.
 abbrev pub next_answer : ℕ → Result Bool LimiterError → Result Bool LimiterError
 next_answer n last = if nat_lt 0 n then Ok true else last

@@ -9,7 +9,7 @@ ghost use Rattle.pool_memory.specs.Making.{minimum_asked, maximum_asked, minimum
 ghost use Rattle.pool_table.specs.Making.{making_question};
 ghost use Rattle.pool_table.specs.Tables.{type_maximum};
 ghost use Rattle.pool_alloc.specs.Requests.{IsModule, IsSameRequest, if_leads, lent};
-ghost use Rattle.pool_callers.specs.GivenFirst.{AsksOne, GivesNext, HasAskedAll};
+ghost use Rattle.pool_callers.specs.GivenFirst.{AsksOne, GivesNext, HasAskedAll, yes_of};
 
 use pool_alloc::InstanceAllocationRequest;
 use pool_limits::{GrowError, LimiterError, ResourceLimiter};
@@ -34,6 +34,17 @@ impl GivenAnswers {
             last,
             noes: 0,
             errors: 0,
+        }
+    }
+
+    // The answer to one question.
+    pub(crate) fn of_one(answer: Result<bool, LimiterError>) -> Self
+        ensures yes { result.yes ≡ yes_of answer }
+        ensures last { result.last ≡ answer }
+    {
+        match answer {
+            Ok(true) => GivenAnswers::new(1, answer),
+            _ => GivenAnswers::new(0, answer),
         }
     }
 

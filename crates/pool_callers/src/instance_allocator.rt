@@ -182,14 +182,14 @@ impl<
         ty: &MemoryType,
         index: Option<DefinedMemoryIndex>,
     ) -> Result<MemoryLease<P>, AllocError> {
-        let answer = AsksFirst::<R>::ask_memory(&Asker, request, ty);
         let lent = Lent {
             module: request.module,
             images: request.images,
             id: request.unique_id,
             stripe: request.stripe,
         };
-        let mut answers = GivenAnswers::new(0, answer);
+        let answer = AsksFirst::<R>::ask_memory(&Asker, request, ty);
+        let mut answers = GivenAnswers::of_one(answer);
         self.memory_for(alloc, home, seat, &lent, ty, index, &mut answers)
     }
 
@@ -202,7 +202,7 @@ impl<
         ty: &TableType,
     ) -> Result<TableLease<P>, AllocError> {
         let answer = AsksFirst::<R>::ask_table(&Asker, request, ty);
-        let mut answers = GivenAnswers::new(0, answer);
+        let mut answers = GivenAnswers::of_one(answer);
         self.allocator
             .allocate_table(self.rt, alloc, home, seat, *ty, &mut answers)
     }
@@ -236,17 +236,17 @@ impl<
         seat: &mut CallerSeat<PoolSeat<P, H, M>, P, H>,
         request: &mut InstanceAllocationRequest<R>,
     ) -> Result<InstanceLease<P>, AllocError> {
-        self.set_stripe(seat, request.stripe);
-        if let Err(refusal) = self.allocator.validate_module(request.module) {
-            return Err(refusal);
-        }
-        let mut answers = AsksFirst::<R>::ask_all(&Asker, request);
         let lent = Lent {
             module: request.module,
             images: request.images,
             id: request.unique_id,
             stripe: request.stripe,
         };
+        self.set_stripe(seat, lent.stripe);
+        if let Err(refusal) = self.allocator.validate_module(lent.module) {
+            return Err(refusal);
+        }
+        let mut answers = AsksFirst::<R>::ask_all(&Asker, request);
         self.module_for(alloc, home, seat, &lent, &mut answers)
     }
 

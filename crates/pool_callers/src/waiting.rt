@@ -144,9 +144,17 @@ impl<'a, W: Wait, P: Pages, H: GcHeap, M: PageMaker> WaitingAllocator<'a, W, P, 
         ensures seat { IsCaller M.told self.now.allocator.now seat.new }
         ensures same { seat.new ≡ record seat.old { frame = record seat.old.frame { stripe = stripe_for stripe seat.old.frame.stripe } } }
     {
-        if let Some(stripe) = stripe {
-            seat.frame.stripe = stripe;
-        }
+        seat.frame.stripe = stripe_for(stripe, seat.frame.stripe);
+    }
+}
+
+// The stripe of a request, or else the seat's own.
+fn stripe_for(stripe: Option<u32>, own: u32) -> u32
+    ensures { result ≡ stripe_for stripe own }
+{
+    match stripe {
+        None => own,
+        Some(stripe) => stripe,
     }
 }
 
