@@ -14,7 +14,7 @@ use Rattle.pool_alloc.specs.Places.{Thing, both_count, leased_count, tables_coun
 use Rattle.pool_alloc.specs.Stepping.{grant_count}
 use Rattle.pool_alloc.specs.TableLeases.{LeasedTable, table_slot}
 use Rattle.pool_alloc.specs.declared.frame.Grant.{Grant}
-use Rattle.pool_alloc.specs.declared.frame.Grant.TheVariants.{Instance, Component, Memory, Table, Stack, Heap}
+use Rattle.pool_alloc.specs.declared.frame.Grant.TheVariants.{Instance, Component, Memory, Table, Stack, Heap, HeapOver}
 use Rattle.pool_driver.proofs.Multisets.{same_totals}
 use Rattle.pool_callers.specs.GrantUnits.{both_units, taken_units, memory_units, table_units, grant_units}
 
@@ -48,6 +48,7 @@ units_weigh t (Memory lease) = omega arith
 units_weigh t (Table lease) = omega arith
 units_weigh t (Stack lease) = omega arith
 units_weigh t (Heap lease memory) = omega (arith, total_append t (taken_units (heap_slot_taken lease)) (taken_units (slot_taken memory)))
+units_weigh t (HeapOver lease) = omega arith
 
 -- What a list weighs is what is taken from it, and what that leaves.
 pub less_total : (t : Thing) (us ws : List UnitName) → ((u : UnitName) → times u ws ≤ times u us) → total t us ≡ total t ws + total t (minus us ws)
