@@ -1,10 +1,10 @@
 -- What a call's end says of what it was for: a grant, a refusal, or a give-back.
-use Rattle.std.proofs.Common.{◌≡◌, ⊎_elim, inr, ℕ, List, [], ◌∷◌, refl, sym, subst, ◌∙◌, arith, Some, None}
+use Rattle.std.proofs.Common.{◌≡◌, ⊎_elim, inr, ℕ, List, [], ◌∷◌, refl, sym, subst, ◌∙◌, arith, Some, None, ◌⊎◌, inl, Result, Err}
 use Rattle.pool_limits.specs.Exchanges.{Exchange}
 use Rattle.pool_limits.specs.LimiterTold.{LimiterTold}
 use Rattle.pool_slots.specs.HeapsTold.{HeapsTold}
-use Rattle.pool_alloc.specs.PartyTold.{PartyTold}
-use Rattle.pool_driver.specs.Asking.{CallAsks, HasAsked}
+use Rattle.pool_alloc.specs.PartyTold.{PartyTold, MakesHeap}
+use Rattle.pool_driver.specs.Asking.{CallAsks, HasAsked, AnswersMade, CallWants, HasCause, IfRefused as IfAskedRefused, WantsOfMaker}
 use Rattle.pool_hall.specs.declared.view.View.{View}
 use Rattle.pool_slots.specs.declared.errors.AllocError.{AllocError}
 use Rattle.pool_slots.specs.declared.errors.AllocError.TheVariants as refusal
@@ -25,7 +25,7 @@ use Rattle.pool_alloc.specs.declared.frame.Call.TheVariants as call
 use Rattle.pool_alloc.specs.declared.frame.Frame.{Frame}
 use Rattle.pool_alloc.specs.declared.frame.Grant.{Grant}
 use Rattle.pool_alloc.specs.declared.frame.Outcome.{Outcome}
-use Rattle.pool_alloc.specs.declared.frame.Outcome.TheVariants.{Key, Granted, Returned, Refused}
+use Rattle.pool_alloc.specs.declared.frame.Outcome.TheVariants.{Key, Granted, Returned, Refused, Purged, Released}
 use Rattle.pool_alloc.specs.CallStages.{stage_of}
 use Rattle.pool_driver.specs.Appending.{IsForOne, NoneAppended, frame_dues, grant_dues, owed_by}
 use Rattle.pool_driver.specs.Calling.{CallKind, HasEnded, MayAnswer, asks_for, draws_key, gives_back, kind_at, purges, releases}
@@ -40,9 +40,13 @@ use Rattle.pool_driver.specs.UnknownPuts.{AnswerCaused, UnknownCaused, UnlessUnm
 use Rattle.pool_alloc.proofs.BegunFrames.{at_rest}
 use Rattle.pool_driver.proofs.Appending.{begun_owes}
 use Rattle.pool_driver.proofs.Calling.{grant_of, none_returned}
-use Rattle.pool_callers.specs.Callers.{Gives, Goes, IsBounded, IsGivenBack, IsGranted, IsKept, IsRefused, begun_from, given_for, given_in}
+use Rattle.pool_callers.specs.Callers.{Gives, Goes, IsBounded, IsGivenBack, IsGranted, IsKept, IsRefused, begun_from, given_for, given_in, HasAskedMaker}
 use Rattle.pool_callers.specs.NoHeapsTold.{nobody_told}
 use Rattle.pool_callers.proofs.Settling.{gains, keeps, loses, may_give}
+use Rattle.pool_slots.specs.declared.heap_maker.HeapMakeFault.{HeapMakeFault}
+use Rattle.pool_slots.specs.declared.heap_maker.HeapMakeFault.TheVariants as no_heap
+use Rattle.pool_types.specs.Rising.{Rose}
+use Rattle.pool_slots.specs.declared.allocation_index.MemoryAllocationIndex.{MemoryAllocationIndex}
 
 -- What a call owes that gives something back, in a seat that makes none.
 pub owes_grant : {T P H : Type 0} (places : ℕ) (a : About) (v : View T) (home : ℕ) (f : Frame P H) (x : Grant P H) → IsIdle f → IsDriven places (given_in a v) v f None → frame_dues (owed_by a.settings) (begun_from home (call.GiveBack x) f) ≡ grant_dues (owed_by a.settings) x
@@ -167,3 +171,28 @@ module _ {P H L : Type 0} (leads : L → Exchange → L → Type 0) (Silent ForH
       let then : HasAsked leads Silent ForHeap (CallAsks c o) first last (record { limiter = had; heaps = old }) (record { limiter = left; heaps = nobody_told }) o = subst (λ (h : HeapsTold). HasAsked leads Silent ForHeap (CallAsks c o) first last (record { limiter = had; heaps = old }) (record { limiter = left; heaps = h }) o) (stays ∙ nobody) asked in
       let first' : HasAsked leads Silent ForHeap (CallAsks c o) first last (record { limiter = had; heaps = nobody_told }) (record { limiter = left; heaps = nobody_told }) o = subst (λ (h : HeapsTold). HasAsked leads Silent ForHeap (CallAsks c o) first last (record { limiter = had; heaps = h }) (record { limiter = left; heaps = nobody_told }) o) nobody then in
       asked_as (record { limiter = had; heaps = nobody_told }) (record { limiter = left; heaps = nobody_told }) o x is first'
+
+module _ {P H L : Type 0} (leads : L → Exchange → L → Type 0) (Silent : Type 0) (Says : List Exchange → Type 0) (first last : L) where
+  -- What a call asked is what it asked of the maker of heaps, where its limiter is nobody's.
+  pub maker_asked : (had left : LimiterTold) (old new : HeapsTold) (o x : Outcome P H) → o ≡ x → (memory : MemoryAllocationIndex) → IfAskedRefused (CallWants {P = P} {H = H} (call.HeapOver memory) old new) o → HasAsked leads Silent (Unit {0}) Says first last (record { limiter = had; heaps = old }) (record { limiter = left; heaps = new }) o → HasAskedMaker old new x
+  maker_asked had left old new o x is memory wants has = subst (λ (z : Outcome P H). HasAskedMaker old new z) is (record {
+    made = ⊎_elim (λ (same : new ≡ old). inl same) (λ (one : Unit {0} × ((answer : Result H HeapMakeFault) × (AnswersMade answer o × MakesHeap answer old new))). inr one.1) has.made;
+    cause = by o has.cause;
+    wants = wanting o wants;
+  })
+    where
+      wanting : (z : Outcome P H) → IfAskedRefused (CallWants {P = P} {H = H} (call.HeapOver memory) old new) z → IfAskedRefused (λ e. e ≡ refusal.Memory → MakesHeap {H = H} (Err no_heap.Memory) old new) z
+      wanting (Refused e) wants = λ want. subst (WantsOfMaker H (asked.HeapOver memory) old new) want wants
+      wanting Key wants = tt
+      wanting (Granted grant) wants = tt
+      wanting Returned wants = tt
+      wanting (Purged n) wants = tt
+      wanting (Released n) wants = tt
+
+      by : (z : Outcome P H) → IfAskedRefused (HasCause (record { limiter = had; heaps = old }) (record { limiter = left; heaps = new })) z → IfAskedRefused (λ e. e ≡ refusal.HeapFault → Rose old.faults new.faults) z
+      by (Refused e) cause = λ fault. subst (HasCause (record { limiter = had; heaps = old }) (record { limiter = left; heaps = new })) fault cause
+      by Key cause = tt
+      by (Granted grant) cause = tt
+      by Returned cause = tt
+      by (Purged n) cause = tt
+      by (Released n) cause = tt

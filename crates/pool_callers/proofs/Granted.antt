@@ -1,11 +1,15 @@
 -- What a call for an instance, a memory, a table, a stack or a heap is granted, where it is granted something.
-use Rattle.std.proofs.Common.{◌≡◌, refl, subst}
+use Rattle.std.proofs.Common.{◌≡◌, ◌<◌, ◌∙◌, ap, arith, refl, subst, sym}
+use Rattle.std.specs.Prelude.{◌^◌}
+use Rattle.pool_slots.specs.declared.slot_name.RegionNumbers.{RegionNumbers}
 use Rattle.pool_slots.specs.declared.plan.Plan.{Plan}
-use Rattle.pool_alloc.specs.HeapLeases.{LeasedHeap}
+use Rattle.pool_alloc.specs.Calls.{IsHeapOverOf}
+use Rattle.pool_alloc.specs.HeapLeases.{LeasedHeap, memory_noted}
 use Rattle.pool_alloc.specs.Leases.{Lease}
 use Rattle.pool_alloc.specs.PlainModules.{MemoryAsked, ModuleAsked}
 use Rattle.pool_alloc.specs.StackLeases.{LeasedStack}
 use Rattle.pool_alloc.specs.TableLeases.{LeasedTable}
+use Rattle.pool_alloc.specs.declared.frame.Asked.TheVariants as asked
 use Rattle.pool_alloc.specs.declared.frame.Call.TheVariants as call
 use Rattle.pool_alloc.specs.declared.frame.Grant.{Grant}
 use Rattle.pool_alloc.specs.declared.frame.Grant.TheVariants as grant
@@ -16,6 +20,7 @@ use Rattle.pool_alloc.specs.declared.pool_core.Settings.{Settings}
 use Rattle.pool_types.specs.declared.module_types.MemoryType.{MemoryType}
 use Rattle.pool_types.specs.declared.table_type.TableType.{TableType}
 use Rattle.pool_driver.specs.Refusing.{AnswersCall}
+use Rattle.pool_slots.specs.declared.allocation_index.MemoryAllocationIndex.{MemoryAllocationIndex}
 
 module _ {P H : Type 0} (s : Settings) (plan : Plan) (o : Outcome P H) where
   pub stack_alone : (x : Grant P H) → o ≡ Granted x → AnswersCall s plan call.Stack o → (lease : LeasedStack) × (x ≡ grant.Stack lease)
@@ -37,3 +42,14 @@ module _ {P H : Type 0} (s : Settings) (plan : Plan) (o : Outcome P H) where
   pub heap_alone : (ty : MemoryType) (x : Grant P H) → o ≡ Granted x → AnswersCall s plan (call.Heap ty) o → (lease : LeasedHeap H) × (memory : Lease) × (x ≡ grant.Heap lease memory)
   heap_alone ty (grant.Heap lease memory) is answers = (lease, memory, refl)
   heap_alone ty _ is answers = absurd (subst (AnswersCall s plan (call.Heap ty)) is answers)
+
+  pub over_alone : (memory : MemoryAllocationIndex) (x : Grant P H) → o ≡ Granted x → AnswersCall s plan (call.HeapOver memory) o → (lease : LeasedHeap H) × (x ≡ grant.HeapOver lease)
+  over_alone memory (grant.HeapOver lease) is answers = (lease, refl)
+  over_alone memory _ is answers = absurd (subst (AnswersCall s plan (call.HeapOver memory)) is answers)
+
+-- What a heap over a memory notes is the index that was asked with.
+pub over_notes : {H : Type 0} (plan : Plan) (memory : MemoryAllocationIndex) (lease : LeasedHeap H) → memory.0 < 2 ^ 32 → IsHeapOverOf plan (asked.HeapOver memory) lease → memory_noted lease ≡ memory.0
+over_notes plan memory lease small of =
+    let same : memory ≡ of.memory = let both : asked.HeapOver memory ≡ asked.HeapOver of.memory = of.asked_for in cc in
+    let noted : lease.numbers.faults ≡ memory.0 = ap (λ (n : RegionNumbers). n.faults) of.notes ∙ ap (λ (m : MemoryAllocationIndex). m.0) (sym same) in
+    omega (arith, noted, small)

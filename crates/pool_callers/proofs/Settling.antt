@@ -198,6 +198,7 @@ module _ {T P H : Type 0} (places : ℕ) (a : About) (v : View T) (f : Frame P H
   bringing (call.Table ty) brings = driven
   bringing call.Stack brings = driven
   bringing (call.Heap ty) brings = driven
+  bringing (call.HeapOver memory) brings = driven
   bringing (call.GiveBack grant) brings = returning grant brings
   bringing (call.Purge id) brings = driven
   bringing call.Release brings = driven

@@ -1,5 +1,5 @@
 -- What an allocator and its seats are, and what a call adds to a seat's view or takes from it.
-use Rattle.std.specs.Prelude.{◌≡◌, ℕ, ◌+◌, ◌-◌, ◌≤◌, ◌∷◌, ◌++◌, false, List, [], length, Option, Some, None, Result, Ok, Err, vec_capacity}
+use Rattle.std.specs.Prelude.{◌≡◌, ℕ, ◌+◌, ◌-◌, ◌≤◌, ◌∷◌, ◌++◌, false, List, [], length, Option, Some, None, Result, Ok, Err, vec_capacity, ◌⊎◌}
 use Rattle.pool_pages.specs.MakerTold.{MakerTold}
 use Rattle.pool_hall.specs.Seat.{made_with, view, IsSeatOf, IsFree}
 use Rattle.pool_hall.specs.Sum.{total}
@@ -11,7 +11,9 @@ use Rattle.pool_hall.specs.declared.hall.Hall.{Hall}
 use Rattle.pool_hall.specs.declared.hall.HallSeat.{HallSeat}
 use Rattle.pool_hall.specs.declared.view.View.{View}
 use Rattle.pool_slots.specs.declared.errors.AllocError.{AllocError}
+use Rattle.pool_slots.specs.declared.errors.AllocError.TheVariants.{HeapFault, Memory}
 use Rattle.pool_slots.specs.declared.plan.Plan.{Plan}
+use Rattle.pool_slots.specs.HeapsTold.{HeapsTold}
 use Rattle.pool_alloc.specs.Calls.{IsGrant, IsGrantOf, IsIdle, begun_call, lists_made}
 use Rattle.pool_alloc.specs.Places.{Counter, Counts, Thing, only}
 use Rattle.pool_alloc.specs.Stepping.{grant_count, grant_counted}
@@ -23,6 +25,7 @@ use Rattle.pool_alloc.specs.declared.frame.Frame.{Frame}
 use Rattle.pool_alloc.specs.declared.frame.Grant.{Grant}
 use Rattle.pool_alloc.specs.declared.frame.Outcome.{Outcome}
 use Rattle.pool_alloc.specs.declared.frame.Outcome.TheVariants.{Granted, Refused}
+use Rattle.pool_alloc.specs.PartyTold.{MakesHeap}
 use Rattle.pool_driver.specs.Appending.{IsForOne, NoneAppended, PutsOff, appended_in, grant_dues, owed_by}
 use Rattle.pool_driver.specs.Calling.{CallKind, asks_for, components_of, gives_back, instances_of, objects_of}
 use Rattle.pool_driver.specs.Driving.{Given, IsDriven, counter_number, counter_of}
@@ -39,14 +42,25 @@ use Rattle.pool_driver.specs.UnknownPuts.{UnknownCaused, UnlessUnmade}
 use Rattle.pool_driver.specs.declared.open_pool.OpenPool.{OpenPool}
 use Rattle.pool_driver.specs.declared.part.HallPart.{HallPart}
 use Rattle.pool_driver.specs.declared.shared_pool.SharedPool.{SharedPool}
+use Rattle.pool_driver.specs.Asking.{AnswersMade, IfRefused}
 use Rattle.pool_callers.specs.GrantUnits.{grant_units}
 use Rattle.pool_callers.specs.declared.allocator.PoolingInstanceAllocator.{PoolingInstanceAllocator}
 use Rattle.pool_callers.specs.declared.seat.CallerSeat.{CallerSeat}
+use Rattle.pool_types.specs.Rising.{Rose}
+use Rattle.pool_slots.specs.declared.heap_maker.HeapMakeFault.{HeapMakeFault}
+use Rattle.pool_slots.specs.declared.heap_maker.HeapMakeFault.TheVariants as no_heap
 
 -- The answer to a request, as a call ends with it.
 abbrev pub outcome_of : {P H X : Type 0} → (X → Grant P H) → Result X AllocError → Outcome P H
 outcome_of of (Ok x) = Granted (of x)
 outcome_of of (Err e) = Refused e
+
+-- What a call asked that has no limiter to ask: the maker of heaps once at most, and then it ends as the maker answered. A refusal of which
+-- the maker is the reason has its cause in what the maker tells, and want of memory is the maker's.
+pub record HasAskedMaker {P H : Type 0} (old new : HeapsTold) (o : Outcome P H) : Type 0 where
+  pub made : (new ≡ old) ⊎ ((answer : Result H HeapMakeFault) × (AnswersMade answer o × MakesHeap answer old new))
+  pub cause : IfRefused (λ e. e ≡ HeapFault → Rose old.faults new.faults) o
+  pub wants : IfRefused (λ e. e ≡ Memory → MakesHeap {H = H} (Err no_heap.Memory) old new) o
 
 -- Of a view of a seat
 module _ {T : Type 0} where

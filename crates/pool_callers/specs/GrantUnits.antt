@@ -9,7 +9,7 @@ use Rattle.pool_alloc.specs.Leases.{Lease, memory_slot, slot_taken}
 use Rattle.pool_alloc.specs.StackLeases.{stack_taken}
 use Rattle.pool_alloc.specs.TableLeases.{LeasedTable, table_slot, table_taken}
 use Rattle.pool_alloc.specs.declared.frame.Grant.{Grant}
-use Rattle.pool_alloc.specs.declared.frame.Grant.TheVariants.{Instance, Component, Memory, Table, Stack, Heap}
+use Rattle.pool_alloc.specs.declared.frame.Grant.TheVariants.{Instance, Component, Memory, Table, Stack, Heap, HeapOver}
 use Rattle.pool_alloc.specs.declared.frame.TakenSlot.{TakenSlot}
 
 -- The units of a slot that is out.
@@ -37,3 +37,4 @@ grant_units (Memory lease) = taken_units (slot_taken lease)
 grant_units (Table lease) = taken_units (table_taken lease)
 grant_units (Stack lease) = taken_units (stack_taken lease)
 grant_units (Heap lease memory) = taken_units (heap_slot_taken lease) ++ taken_units (slot_taken memory)
+grant_units (HeapOver lease) = taken_units (heap_slot_taken lease)

@@ -2,7 +2,7 @@
 ghost use Rattle.std.specs.Prelude.{◌≡◌, length, Some};
 ghost use Rattle.pool_hall.specs.Seat.{made_with, view};
 ghost use Rattle.pool_alloc.specs.Calls.{MayBegin};
-ghost use Rattle.pool_driver.specs.Asking.{CallAsks, HasAsked, IsForHeap, IsQuiet};
+ghost use Rattle.pool_driver.specs.Asking.{CallAsks, CallWants, HasAsked, IfRefused, IsForHeap, IsQuiet};
 ghost use Rattle.pool_driver.specs.Calling.{HasEnded, MayAnswer, kind_of};
 ghost use Rattle.pool_driver.specs.Driving.{IsDriven};
 ghost use Rattle.pool_driver.specs.Refusing.{AnswersCall};
@@ -43,6 +43,7 @@ impl<P: Pages, H: GcHeap, M: PageMaker> PoolingInstanceAllocator<PoolHall<P, H, 
         ensures kind { MayAnswer (kind_of call) result }
         ensures answers { AnswersCall self.now.pool.settings self.now.pool.plan call result }
         ensures asked { HasAsked L.leads (IsQuiet call) (IsForHeap call) (CallAsks call result) limiter.old limiter.new (record { limiter = L.told limiter.old; heaps = K.told heaps.old }) (record { limiter = L.told limiter.new; heaps = K.told heaps.new }) result }
+        ensures wants { IfRefused (CallWants call (K.told heaps.old) (K.told heaps.new)) result }
     {
         seat.frame.home = home.0;
         self.pool.call(

@@ -1,6 +1,7 @@
 //! Requests for the heaps of collectors, and what else a caller may ask for: a stripe, a purge, and a release.
 ghost use Rattle.std.specs.Prelude.{◌≡◌, ◌<◌, is_some, IfOk, IfErr, IfSome};
 ghost use Rattle.pool_hall.specs.Seat.{view};
+ghost use Rattle.pool_alloc.specs.HeapLeases.{memory_noted};
 ghost use Rattle.pool_alloc.specs.declared.frame.Asked.TheVariants as asked;
 ghost use Rattle.pool_alloc.specs.declared.frame.Grant.TheVariants as grant;
 ghost use Rattle.pool_alloc.specs.declared.frame.Call.TheVariants as call;
@@ -11,7 +12,7 @@ ghost use Rattle.pool_driver.specs.Purging.{HasMissed};
 ghost use Rattle.pool_driver.specs.Refusing.{HeapPasses, HeapRefused};
 ghost use Rattle.pool_driver.specs.Releasing.{HasTakenWarm};
 ghost use Rattle.pool_driver.specs.UnknownPuts.{UnknownCaused};
-ghost use Rattle.pool_callers.specs.Callers.{Gives, IsAllocator, IsBounded, IsCaller, IsGivenBack, IsGranted, IsKept, IsRefused, about_pool, outcome_of};
+ghost use Rattle.pool_callers.specs.Callers.{Gives, HasAskedMaker, IsAllocator, IsBounded, IsCaller, IsGivenBack, IsGranted, IsKept, IsRefused, about_pool, outcome_of};
 
 use crate::allocator::PoolingInstanceAllocator;
 use crate::calls::NoHeaps;
@@ -21,7 +22,7 @@ use pool_driver::{PoolHall, PoolSeat};
 use pool_index::ShardId;
 use pool_limits::{ResourceLimiter, Unlimited};
 use pool_pages::{PageMaker, Pages};
-use pool_slots::{AllocError, GcHeap, HeapMaker};
+use pool_slots::{AllocError, GcHeap, HeapMaker, MemoryAllocationIndex};
 use pool_types::{CompiledModuleId, MemoryType};
 use std::alloc::Global;
 use std::sync::Wait;
@@ -84,6 +85,76 @@ impl<P: Pages, H: GcHeap, M: PageMaker> PoolingInstanceAllocator<PoolHall<P, H, 
             &mut Unlimited,
             &mut NoHeaps::new(),
         );
+    }
+
+    /// A heap of a collector over the memory with this index, which the caller has and keeps: the heap's slot notes the index, and nothing is
+    /// asked of the memory. A heap is made only where the slot has none yet. Refused with `HeapsDisabled` where there is no collector, with
+    /// `Limit` where no slot for a heap is left, and with `HeapFault` or `Memory` where the maker makes none. Takes no memory but what the
+    /// maker takes.
+    pub fn allocate_gc_heap_over<R: Wait, K: HeapMaker<Heap = H>>(
+        &self,
+        rt: &R,
+        alloc: Global,
+        home: ShardId,
+        seat: &mut CallerSeat<PoolSeat<P, H, M>, P, H>,
+        heaps: &mut K,
+        memory: MemoryAllocationIndex,
+    ) -> Result<HeapLease<H>, AllocError>
+        requires pool { IsAllocator M.told self.now }
+        requires seat { IsCaller M.told self.now seat.old }
+        ensures seat { IsCaller M.told self.now seat.new }
+        ensures stripe { seat.new.frame.stripe ≡ seat.old.frame.stripe }
+        ensures granted { IfOk result (λ lease. IsGranted {P = P} {H = H} (about_pool M.told self.now) (asked.HeapOver memory) (grant.HeapOver lease) (view seat.old.seat) (view seat.new.seat)) }
+        ensures notes { IfOk result (λ lease. memory_noted lease ≡ memory.0) }
+        ensures refused { IfErr result (λ e. IsRefused (about_pool M.told self.now) home.0 seat.old.frame.stripe (asked.HeapOver memory) e (view seat.old.seat) (view seat.new.seat)) }
+        ensures tested { IfOk result (λ lease. HeapPasses self.now.pool.settings (asked.HeapOver memory)) }
+        ensures reason { IfErr result (HeapRefused self.now.pool.settings (asked.HeapOver memory)) }
+        ensures asked { HasAskedMaker (K.told heaps.old) (K.told heaps.new) (outcome_of {P = P} {H = H} grant.HeapOver result) }
+    {
+        match self.call(
+            rt,
+            alloc,
+            home,
+            seat,
+            Call::HeapOver(memory),
+            &mut Unlimited,
+            heaps,
+        ) {
+            Outcome::Granted(Grant::HeapOver(heap)) => Ok(heap),
+            Outcome::Refused(refusal) => Err(refusal),
+            _ => unreachable!(),
+        }
+    }
+
+    /// Takes such a heap back, which stays in its slot for the next request, and answers the index of its memory, which stays with the
+    /// caller. Never refused; takes no memory.
+    pub fn deallocate_gc_heap_over<R: Wait>(
+        &self,
+        rt: &R,
+        alloc: Global,
+        home: ShardId,
+        seat: &mut CallerSeat<PoolSeat<P, H, M>, P, H>,
+        heap: HeapLease<H>,
+    ) -> MemoryAllocationIndex
+        requires pool { IsAllocator M.told self.now }
+        requires seat { IsCaller M.told self.now seat.old }
+        requires gives { Gives {P = P} {H = H} (about_pool M.told self.now) (grant.HeapOver heap) (view seat.old.seat) }
+        ensures seat { IsCaller M.told self.now seat.new }
+        ensures stripe { seat.new.frame.stripe ≡ seat.old.frame.stripe }
+        ensures returned { IsGivenBack {P = P} {H = H} (about_pool M.told self.now) (grant.HeapOver heap) (view seat.old.seat) (view seat.new.seat) }
+        ensures memory { result.0 ≡ memory_noted heap }
+    {
+        let memory = heap.memory();
+        self.call(
+            rt,
+            alloc,
+            home,
+            seat,
+            Call::GiveBack(Grant::HeapOver(heap)),
+            &mut Unlimited,
+            &mut NoHeaps::new(),
+        );
+        memory
     }
 
     /// Takes all slots that nobody uses and that the module's memories were in last, and forgets what they hold of it. Answers how many.

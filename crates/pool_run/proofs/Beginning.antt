@@ -1,6 +1,6 @@
 -- The first step of a command, and each turn, as the party sees it.
 use Rattle.std.proofs.Common.{◌≡◌, ℕ, ◌+◌, ◌<◌, ◌≤◌, ◌++◌, ◌∷◌, Bool, true, false, List, [], length, map, Option, Some, None, refl, sym, ap, ◌∙◌, subst, inl, inr, arith, IfSome, IsSome, option_map, slice_get, slice_set, slice_index_or}
-use Rattle.pool_run.proofs.Imports.{map-set, slice_get_within, PlainHeap, objects_in, IsIdle, begun_call, is_idle, PoolCore, Frame, ModuleAsked, Grant, Phase, Stage, no_call, stage_at, stage_of, LeasedTable, instance, component, one_memory, one_table, stack, heap, ListedStore, LeasedStack, option_and_then}
+use Rattle.pool_run.proofs.Imports.{map-set, slice_get_within, PlainHeap, objects_in, IsIdle, begun_call, is_idle, PoolCore, Frame, ModuleAsked, Grant, Phase, Stage, no_call, stage_at, stage_of, LeasedTable, instance, component, one_memory, one_table, stack, heap, heap_over, ListedStore, LeasedStack, option_and_then}
 use Rattle.pool_slots.specs.declared.errors.AllocError.TheVariants as alloc
 use Rattle.pool_alloc.specs.declared.frame.Call.TheVariants as call
 use Rattle.pool_run.specs.PartyRules.{rule_of}
@@ -58,6 +58,7 @@ changed_table k l (one_memory lease) = refl
 changed_table k l (one_table lease) = refl
 changed_table k l (stack lease) = refl
 changed_table k l (heap lease memory) = refl
+changed_table k l (heap_over lease) = refl
 
 tables_seen_by : (P : Type 0) → AreSeen (table_leases {P = P}) private_tables private_grant private_table
 tables_seen_by P = record { same = tables_named_of; changed = changed_table }
@@ -70,6 +71,7 @@ changed_stack k l (one_memory lease) = refl
 changed_stack k l (one_table lease) = refl
 changed_stack k l (stack lease) = refl
 changed_stack k l (heap lease memory) = refl
+changed_stack k l (heap_over lease) = refl
 
 stacks_seen : (P : Type 0) → AreSeen (stack_leases {P = P}) private_stacks private_grant private_stack
 stacks_seen P = record { same = stacks_seen_of; changed = changed_stack }
@@ -162,6 +164,7 @@ module _ {P : Type 0} (w : World) (start : Grants) (commands : List Command) (be
     bytes_move (Some (one_table lease)) op of k live reply is = named_moves w op (object_at private_memories of k private.told.grants) (with_object private_memories of k) private.told.grants (grants_of live) reply (memory_moves op of k live reply is)
     bytes_move (Some (one_memory lease)) op of k live reply is = named_moves w op (object_at private_memories of k private.told.grants) (with_object private_memories of k) private.told.grants (grants_of live) reply (memory_moves op of k live reply is)
     bytes_move (Some (heap lease memory)) op of k live reply is = named_moves w op (object_at private_memories of k private.told.grants) (with_object private_memories of k) private.told.grants (grants_of live) reply (memory_moves op of k live reply is)
+    bytes_move (Some (heap_over lease)) op of k live reply is = named_moves w op (object_at private_memories of k private.told.grants) (with_object private_memories of k) private.told.grants (grants_of live) reply (memory_moves op of k live reply is)
     bytes_move (Some (stack lease)) op of k live reply is = stack_moves op of k live reply is
 
     -- and no memory of a stack's grant tells of the pool
@@ -175,6 +178,7 @@ module _ {P : Type 0} (w : World) (start : Grants) (commands : List Command) (be
     bytes_tell (Some (one_table lease)) op of k live reply there is = named_tells w op (object_at private_memories of k private.told.grants) (with_object private_memories of k) private.told.grants (grants_of live) reply (memory_moves op of k live reply is)
     bytes_tell (Some (one_memory lease)) op of k live reply there is = named_tells w op (object_at private_memories of k private.told.grants) (with_object private_memories of k) private.told.grants (grants_of live) reply (memory_moves op of k live reply is)
     bytes_tell (Some (heap lease memory)) op of k live reply there is = named_tells w op (object_at private_memories of k private.told.grants) (with_object private_memories of k) private.told.grants (grants_of live) reply (memory_moves op of k live reply is)
+    bytes_tell (Some (heap_over lease)) op of k live reply there is = named_tells w op (object_at private_memories of k private.told.grants) (with_object private_memories of k) private.told.grants (grants_of live) reply (memory_moves op of k live reply is)
     bytes_tell (Some (stack lease)) op of k live reply there is =
         let none : object_at private_memories of k private.told.grants ≡ None = ap (λ (x : Option PrivateGrant). option_and_then (λ g. slice_get (private_memories.in_grant g) k) x) there in
         subst (Told op reply) (sym none) tt

@@ -1,6 +1,6 @@
 -- A command on the bytes of a grant, which is taken out of its place and put back; and a command on a stack.
 use Rattle.std.proofs.Common.{◌≡◌, ℕ, zero, suc, ◌+◌, ◌≤◌, true, List, [], ◌∷◌, ◌++◌, take, length, Option, Some, None, refl, sym, ap, ◌∙◌, subst, arith, IfSome, nat_le, option_map, slice_get, slice_set, slice_index_or, slice_range}
-use Rattle.pool_run.proofs.Imports.{option_and_then, take-append_seam, leb-true, set-get_or, same_lists, places, GrowthRule, Contents, Slot, StackState, Lease, LeasedHeap, LeasedStack, Grant, instance, component, one_memory, one_table, stack, heap, PlainHeap}
+use Rattle.pool_run.proofs.Imports.{option_and_then, take-append_seam, leb-true, set-get_or, same_lists, places, GrowthRule, Contents, Slot, StackState, Lease, LeasedHeap, LeasedStack, Grant, instance, component, one_memory, one_table, stack, heap, heap_over, PlainHeap}
 use Rattle.pool_run.specs.Acts.{MemoryOp}
 use Rattle.pool_run.specs.AtOnce.{MovesGrantBytes, MovesOnly, MovesTakenBytes}
 use Rattle.pool_run.specs.Objects.{MovesNamed, object_at, with_object}
@@ -34,6 +34,7 @@ module _ {P : Type 0} (op : MemoryOp) (rule : GrowthRule) (of k : ℕ) where
   taken_bytes live empty new reply (one_table lease) has taken is = taken_moved memory_leases (LeaseMoves op rule) of k live empty new reply (one_table lease) has taken is
   taken_bytes live empty new reply (one_memory lease) has taken is = taken_moved memory_leases (LeaseMoves op rule) of k live empty new reply (one_memory lease) has taken is
   taken_bytes live empty new reply (heap lease memory) has taken is = taken_moved memory_leases (LeaseMoves op rule) of k live empty new reply (heap lease memory) has taken is
+  taken_bytes live empty new reply (heap_over lease) has taken is = taken_moved memory_leases (LeaseMoves op rule) of k live empty new reply (heap_over lease) has taken is
   taken_bytes live empty new reply (stack lease) has taken is = taken_moved stack_leases (StackLeaseMoves op) of k live empty new reply (stack lease) has taken is
 
   pub bytes_taken : (live empty new : List (Option (Grant P PlainHeap))) (reply : Reply) (grant : Grant P PlainHeap) → slice_index_or live of None ≡ Some grant → empty ≡ slice_set live of None → MovesTakenBytes op rule of k grant empty reply new → MovesLeasedBytes op rule (slice_index_or live of None) of k live reply new
@@ -56,6 +57,7 @@ module _ {P : Type 0} (op : MemoryOp) (rule : GrowthRule) (of k : ℕ) where
   bytes_back live new reply (one_table lease) changed put is = put_back memory_leases (LeaseMoves op rule) of k live new reply (one_table lease) changed put is
   bytes_back live new reply (one_memory lease) changed put is = put_back memory_leases (LeaseMoves op rule) of k live new reply (one_memory lease) changed put is
   bytes_back live new reply (heap lease memory) changed put is = put_back memory_leases (LeaseMoves op rule) of k live new reply (heap lease memory) changed put (heap_moved k lease memory is.0 reply changed is.1 is.2)
+  bytes_back live new reply (heap_over lease) changed put is = put_back memory_leases (LeaseMoves op rule) of k live new reply (heap_over lease) changed put is
   bytes_back live new reply (stack lease) changed put is = put_back stack_leases (StackLeaseMoves op) of k live new reply (stack lease) changed put (grant_moved k lease is.0 reply changed is.1 is.2)
 
 -- What is read of it is read of its region.

@@ -1,6 +1,6 @@
 -- A call that ends leaves nothing of itself in its frame.
 use Rattle.std.proofs.Common.{◌≡◌, ℕ, Bool, true, false, List, [], ◌∷◌, refl, sym, ap, ◌∙◌, is_some, nat_lt, if◌then◌else◌}
-use Rattle.pool_run.proofs.Imports.{objects_in, objects_wanted, Asked, nothing_asked, module_asked, stack_asked, memory_asked, table_asked, heap_asked, Lease, LeasedTable, is_idle, Turn, goes, ends, next, flush, search, stays, Row, Left, failing, all_returned, returned_next, granted_next, next_by, is_flushed, after, stepped, Ending, granted, returned, refused, Frame, Phase, Idle, PoolCore, PlainHeap}
+use Rattle.pool_run.proofs.Imports.{objects_in, objects_wanted, Asked, nothing_asked, module_asked, stack_asked, memory_asked, table_asked, heap_asked, heap_over_asked, Lease, LeasedTable, is_idle, Turn, goes, ends, next, flush, search, stays, Row, Left, failing, all_returned, returned_next, granted_next, next_by, is_flushed, after, stepped, Ending, granted, returned, refused, Frame, Phase, Idle, PoolCore, PlainHeap}
 
 -- nothing is left of a call
 pub record IsClear (asked : Asked) (ending : Ending) (queues : ℕ) : Type 0 where
@@ -28,6 +28,7 @@ module _ {P : Type 0} where
   all_clear nothing_asked f = λ e. absurd cc
   all_clear (module_asked m) f = λ e. absurd cc
   all_clear (heap_asked ty) f = λ e. record { asked_for = refl; aim = refl; none_taken = refl }
+  all_clear (heap_over_asked memory) f = λ e. record { asked_for = refl; aim = refl; none_taken = refl }
 
   returned_clear : (items : List Lease) (tables : List LeasedTable) (f : Frame P PlainHeap) → IsClearLeft (returned_next items tables f)
   returned_clear [] [] f = all_clear f.asked f

@@ -1,7 +1,7 @@
 -- No counter of a run comes to its end: there are no more instances and components than commands, and no more memories than
 -- slots.
 use Rattle.std.proofs.Common.{◌≡◌, ℕ, ◌+◌, ◌^◌, ◌<◌, ◌≤◌, List, length, Option, Some, None, refl, inl, inr, arith, sum_by, ◌-◌, ap, ◌*◌}
-use Rattle.pool_run.proofs.Imports.{cases_eq, Frame, sum_by-le-sum_by, MakerTold, of_kind, cell_place, Plan, SlotName, PlainHeap, Lease, memory_slot, slot_taken, instances_for, taken_count, right_to, instance_count, phase_count, phase_instances, IsPoolPlan, IsSlotName, grant_stacks, grant_heaps, CanCount, grant_count, grant_instances, grant_components, grant_memories, grant_tables, memory_slots, LeasedStack, stack_slot, Asked, stack_asked, memory_asked, table_asked, heap_asked, LeasedTable, table_slot, PoolCore, Grant, instance, component, one_memory, one_table, stack, heap, Phase, Idle, UncountObject, UncountComponent, UncountHeap, PutHeap, FreeHeap, InstanceLease, below, below_sum, below_most, cell_inside, Counts, counted_component, counted_instance, counted_object, counters_counted, frame_counted, instance_counted, number_counted, of_counts, of_units, only, phase_counted, grant_counted, memory_kind, table_kind, stack_kind, heap_kind, SlotKind, frame_instances}
+use Rattle.pool_run.proofs.Imports.{cases_eq, Frame, sum_by-le-sum_by, MakerTold, of_kind, cell_place, Plan, SlotName, PlainHeap, Lease, memory_slot, slot_taken, instances_for, taken_count, right_to, instance_count, phase_count, phase_instances, IsPoolPlan, IsSlotName, grant_stacks, grant_heaps, CanCount, grant_count, grant_instances, grant_components, grant_memories, grant_tables, memory_slots, LeasedStack, stack_slot, Asked, stack_asked, memory_asked, table_asked, heap_asked, heap_over_asked, LeasedTable, table_slot, PoolCore, Grant, instance, component, one_memory, one_table, stack, heap, heap_over, Phase, Idle, UncountObject, UncountComponent, UncountHeap, PutHeap, FreeHeap, InstanceLease, below, below_sum, below_most, cell_inside, Counts, counted_component, counted_instance, counted_object, counters_counted, frame_counted, instance_counted, number_counted, of_counts, of_units, only, phase_counted, grant_counted, memory_kind, table_kind, stack_kind, heap_kind, SlotKind, frame_instances}
 use Rattle.pool_alloc.specs.declared.frame.Object.TheVariants as object
 use Rattle.pool_run.specs.Ties.{granted_to, held_by_party, IsRunning}
 use Rattle.pool_run.specs.Turns.{stack_of, leases_of, tables_of}
@@ -26,6 +26,7 @@ few_for (memory_asked m) = omega arith
 few_for (table_asked ty) = omega arith
 few_for stack_asked = omega arith
 few_for (heap_asked ty) = omega arith
+few_for (heap_over_asked memory) = omega arith
 few_for _ = omega arith
 
 no_instances : (kind : SlotKind) → only (counted_object kind) counted_instance ≡ 0
@@ -47,8 +48,10 @@ module _ {P : Type 0} where
   -- what is uncounted has a slot
   memory_below : (n : ℕ) (phase : Phase P PlainHeap) → ((k : ℕ) → n ≤ k → phase_count (right_to (memory_slot k)) phase ≡ 0) → phase_counted (only (counted_object memory_kind)) phase ≤ below (λ k. phase_count (right_to (memory_slot k)) phase) n
   memory_below n (UncountObject (object.Memory lease)) none = one_below memory_slot memory_one (λ (l : Lease). l.index) (λ l. l.numbers) n lease none
-  memory_below n (UncountHeap lease memory) none = memory_with n memory (UncountHeap lease memory) (λ k. omega arith) none
-  memory_below n (PutHeap lease memory) none = memory_with n memory (PutHeap lease memory) (λ k. omega arith) none
+  memory_below n (UncountHeap lease (Some memory)) none = memory_with n memory (UncountHeap lease (Some memory)) (λ k. omega arith) none
+  memory_below n (UncountHeap lease None) none = omega arith
+  memory_below n (PutHeap lease (Some memory)) none = memory_with n memory (PutHeap lease (Some memory)) (λ k. omega arith) none
+  memory_below n (PutHeap lease None) none = omega arith
   memory_below n (FreeHeap name memory) none = memory_with n memory (FreeHeap name memory) (λ k. omega arith) none
   memory_below n (UncountObject (object.Table lease)) none = omega arith
   memory_below n (UncountObject (object.Stack lease)) none = omega arith
@@ -151,6 +154,10 @@ module _ {P : Type 0} where
   heap_once (UncountObject (object.Memory lease)) = omega arith
   heap_once (UncountObject (object.Table lease)) = omega arith
   heap_once (UncountObject (object.Stack lease)) = omega arith
+  heap_once (UncountHeap lease (Some memory)) = omega arith
+  heap_once (UncountHeap lease None) = omega arith
+  heap_once (PutHeap lease (Some memory)) = omega arith
+  heap_once (PutHeap lease None) = omega arith
   heap_once _ = omega arith
 
   one_instance : (g : Grant P PlainHeap) → grant_instances g ≤ 1
@@ -160,6 +167,7 @@ module _ {P : Type 0} where
   one_instance (one_table lease) = omega arith
   one_instance (stack lease) = omega arith
   one_instance (heap lease memory) = omega arith
+  one_instance (heap_over lease) = omega arith
 
   one_component : (g : Grant P PlainHeap) → grant_components g ≤ 1
   one_component (instance lease) = omega arith
@@ -168,6 +176,7 @@ module _ {P : Type 0} where
   one_component (one_table lease) = omega arith
   one_component (stack lease) = omega arith
   one_component (heap lease memory) = omega arith
+  one_component (heap_over lease) = omega arith
 
   one_heap : (g : Grant P PlainHeap) → grant_heaps g ≤ 1
   one_heap (instance lease) = omega arith
@@ -176,6 +185,7 @@ module _ {P : Type 0} where
   one_heap (one_table lease) = omega arith
   one_heap (stack lease) = omega arith
   one_heap (heap lease memory) = omega arith
+  one_heap (heap_over lease) = omega arith
 
   -- So all counters can count on.
   pub can_count : (maker : MakerTold) (c : PoolCore P PlainHeap) (parties : List (RunningParty P)) → IsRunning maker c parties → sum_by (λ p. 1 + length p.live) parties + 1 < 2 ^ 64 → CanCount c

@@ -1,7 +1,7 @@
 -- The slots of a kind that a grant and live grants have: where the pool has none left and the party is alone, all are with
 -- these; and there are no more of these than slots.
 use Rattle.std.proofs.Common.{◌≡◌, ℕ, ◌+◌, ◌*◌, ◌<◌, ◌≤◌, List, [], ◌∷◌, length, map, Option, Some, None, refl, sym, ap, ◌∙◌, arith, sum_by}
-use Rattle.pool_run.proofs.Imports.{length-map, sum_by-cons, RegionNumbers, SlotName, PlainHeap, right_to, slot_count, grant_count, grant_instances, grant_components, Grant, instance, component, one_memory, one_table, stack, heap, below}
+use Rattle.pool_run.proofs.Imports.{length-map, sum_by-cons, RegionNumbers, SlotName, PlainHeap, right_to, slot_count, grant_count, grant_instances, grant_components, Grant, instance, component, one_memory, one_table, stack, heap, heap_over, below}
 use Rattle.pool_run.specs.Private.{PrivateGrant, Grants}
 use Rattle.pool_run.specs.Rooms as rooms
 use Rattle.pool_run.specs.Rooms.{instances_in, components_in, component_count}
@@ -84,6 +84,7 @@ module _ {P : Type 0} where
   one_instance (one_table lease) = refl
   one_instance (stack lease) = refl
   one_instance (heap lease memory) = refl
+  one_instance (heap_over lease) = refl
 
   one_component : (g : Grant P PlainHeap) → components_in (Some (private_grant g)) ≡ grant_components g
   one_component (instance lease) = omega arith
@@ -92,6 +93,7 @@ module _ {P : Type 0} where
   one_component (one_table lease) = refl
   one_component (stack lease) = refl
   one_component (heap lease memory) = refl
+  one_component (heap_over lease) = refl
 
   pub instances_told : (live : List (Option (Grant P PlainHeap))) (told : Grants) → grants_of live ≡ told → rooms.instance_count told ≡ sum_by (granted_to grant_instances) live
   instances_told live told is = sum_told instances_in grant_instances refl one_instance live told is

@@ -4,7 +4,7 @@ use Rattle.pool_run.proofs.Imports.{length-set, Image, MemoryDecl, ModuleInfo, G
 use Rattle.pool_run.specs.Acts.{Act, requests, on_memory, on_table, drops, purges, releases, act_of, act_at, Wanted, an_instance, a_component, a_stack, a_heap, heap_type, MemoryOp}
 use Rattle.pool_run.specs.Bounds.{module_objects, objects_granted}
 use Rattle.pool_run.specs.Objects.{MovesNamed, object_at}
-use Rattle.pool_run.specs.Private.{PrivateGrant, PrivateMemory, instance_grant, component_grant, memory_grant, table_grant, stack_grant, heap_grant, Grants, grant_at, Terms, module_of, images_of, request_of, begun, begun_memory, begun_table, Instantiates, AsksForComponent, AsksForStack, AsksForHeap, MemoryMoves, MovesBytes, Drops, put_memory, put_table, put_stack, private_memories, private_stacks, PrivateState, table_at, with_table, Requests, Moves, StepsBy, with_grants, no_grants}
+use Rattle.pool_run.specs.Private.{PrivateGrant, PrivateMemory, instance_grant, component_grant, memory_grant, table_grant, stack_grant, heap_grant, heap_over_grant, Grants, grant_at, Terms, module_of, images_of, request_of, begun, begun_memory, begun_table, Instantiates, AsksForComponent, AsksForStack, AsksForHeap, MemoryMoves, MovesBytes, Drops, put_memory, put_table, put_stack, private_memories, private_stacks, PrivateState, table_at, with_table, Requests, Moves, StepsBy, with_grants, no_grants}
 use Rattle.pool_run.specs.PrivateStacks.{PrivateStack, StackMoves}
 use Rattle.pool_run.specs.PrivateTables.{PrivateTable, StoredTable, TableMoves}
 use Rattle.pool_run.specs.Rooms.{World, PooledStep}
@@ -22,6 +22,7 @@ objects_of (memory_grant m) = 1
 objects_of (table_grant x) = 1
 objects_of (stack_grant s) = 1
 objects_of (heap_grant slot m) = 2
+objects_of (heap_over_grant slot) = 1
 
 -- A grant, if it is one, has so many objects.
 abbrev pub HasObjects : ℕ → Option PrivateGrant → Type 0
@@ -51,6 +52,7 @@ put_memory_same k m (memory_grant old) = refl
 put_memory_same k m (table_grant x) = refl
 put_memory_same k m (stack_grant s) = refl
 put_memory_same k m (heap_grant slot old) = refl
+put_memory_same k m (heap_over_grant slot) = refl
 
 put_table_same : (k : ℕ) (x : PrivateTable) (g : PrivateGrant) → objects_of (put_table k x g) ≡ objects_of g
 put_table_same k x (instance_grant g) = ap (λ (n : ℕ). length g.memories + n) (length-set g.tables k x)
@@ -59,6 +61,7 @@ put_table_same k x (memory_grant m) = refl
 put_table_same k x (table_grant old) = refl
 put_table_same k x (stack_grant s) = refl
 put_table_same k x (heap_grant slot m) = refl
+put_table_same k x (heap_over_grant slot) = refl
 
 put_stack_same : (k : ℕ) (s : PrivateStack) (g : PrivateGrant) → objects_of (put_stack k s g) ≡ objects_of g
 put_stack_same k s (instance_grant g) = refl
@@ -67,6 +70,7 @@ put_stack_same k s (memory_grant m) = refl
 put_stack_same k s (table_grant x) = refl
 put_stack_same k s (stack_grant old) = refl
 put_stack_same k s (heap_grant slot m) = refl
+put_stack_same k s (heap_over_grant slot) = refl
 
 mapped_has : (put : PrivateGrant → PrivateGrant) → ((g : PrivateGrant) → objects_of (put g) ≡ objects_of g) → (n : ℕ) (o : Option PrivateGrant) → HasObjects n o → HasObjects n (option_map put o)
 mapped_has put same n None has = tt
@@ -113,6 +117,7 @@ module _ (t : Terms) (commands : List Command) where
   bytes_asked op rule (Some (memory_grant m)) of k grants new reply are moves = on_memories op rule of k grants new reply are moves
   bytes_asked op rule (Some (table_grant x)) of k grants new reply are moves = on_memories op rule of k grants new reply are moves
   bytes_asked op rule (Some (heap_grant slot m)) of k grants new reply are moves = on_memories op rule of k grants new reply are moves
+  bytes_asked op rule (Some (heap_over_grant slot)) of k grants new reply are moves = on_memories op rule of k grants new reply are moves
   bytes_asked op rule (Some (stack_grant s)) of k grants new reply are moves =
       named_keeps (AreAsked t.modules commands) (StackMoves op) (object_at private_stacks of k grants) (λ x live. slice_set live of (option_map (put_stack k x) (slice_index_or live of None))) grants new reply (λ x. asked_put (put_stack k x) (put_stack_same k x) grants of are) are moves
 

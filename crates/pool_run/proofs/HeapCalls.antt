@@ -1,6 +1,6 @@
 -- How a step leaves the maker of heaps of its party: only the making of a heap calls it, which its list lets or doesn't.
 use Rattle.std.proofs.Common.{◌≡◌, ℕ, ◌⊎◌, inl, inr, List, true, false, Option, Some, None, Result, Ok, Err, refl, sym, ap, ◌∙◌, subst, not, IfErr, MatchResult}
-use Rattle.pool_run.proofs.Imports.{same_Some, MakerTold, risen, GrowthRule, HeapsTold, fails_next, HeapMakeFault, ListedHeaps, PlainHeap, Plan, MakesOf, objects_in, row_of, make_heap_row, IsFrame, IsShapedAt, Stage, asks, seeks_heap, counts_heap, refusing, stage_by, stage_at, stage_of, StepGiven, heaps_wanted, After, stepped, Asked, heap_asked, Ending, Frame, Outcome, Phase, Idle, MakeHeap, TakenSlot, PoolCore, Settings}
+use Rattle.pool_run.proofs.Imports.{same_Some, MakerTold, risen, GrowthRule, HeapsTold, fails_next, HeapMakeFault, ListedHeaps, PlainHeap, Plan, MakesOf, objects_in, row_of, make_heap_row, IsFrame, IsShapedAt, Stage, asks, seeks_heap, counts_heap, refusing, stage_by, stage_at, stage_of, StepGiven, heaps_wanted, After, stepped, Asked, heap_asked, heap_over_asked, Ending, Frame, Outcome, Phase, Idle, MakeHeap, TakenSlot, PoolCore, Settings}
 use Rattle.pool_slots.specs.declared.errors.AllocError.TheVariants as refusal
 use Rattle.pool_slots.specs.declared.heap_maker.HeapMakeFault.TheVariants.{Memory, HeapFault}
 use Rattle.pool_alloc.specs.declared.frame.Ending.TheVariants as ending
@@ -10,8 +10,11 @@ use Rattle.pool_run.specs.Turns.{heaps_told, StepsUnder}
 -- a request for a heap that is to be granted
 heap_stage : (asked : Asked) (e : Ending) (n : ℕ) → e ≡ ending.Granted → heaps_wanted asked ≡ 1 → stage_by asked e n ≡ asks (seeks_heap n)
 heap_stage (heap_asked ty) ending.Granted n is one = refl
+heap_stage (heap_over_asked memory) ending.Granted n is one = refl
 heap_stage (heap_asked ty) ending.Returned n is one = absurd cc
 heap_stage (heap_asked ty) (ending.Refused e) n is one = absurd cc
+heap_stage (heap_over_asked memory) ending.Returned n is one = absurd cc
+heap_stage (heap_over_asked memory) (ending.Refused e) n is one = absurd cc
 heap_stage _ e n is one = absurd cc
 
 module _ {P : Type 0} where

@@ -204,7 +204,7 @@ module _ {P : Type 0} (w : World) (old new : PartyTold) (c : PoolCore P PlainHea
         | inl off ↦
             let R : Option AllocError → Type 0 = λ o. RefusesHeap o w.terms ty refusal.HeapsDisabled in
             subst (RefusedAt calls after) (sym off.1) (subst R (sym (barred_by false (heap_refused c.settings f.asked) off.0 refl)) refl, tt, same)
-        | inr on ↦ untested_by calls after (heap_refused c.settings f.asked) e same on.0 refl on.1
+        | inr on ↦ untested_by calls after (heap_refused c.settings f.asked) e same on.0 refl on.2
       ]
 
   -- and that it is passed.

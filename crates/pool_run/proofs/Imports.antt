@@ -48,7 +48,7 @@ pub use Rattle.pool_alloc.specs.Purges.{after_forgetting, has_turns, known_after
 pub use Rattle.pool_alloc.specs.Refusals.{component_refused, heap_refused, module_refused, type_refused}
 pub use Rattle.pool_alloc.specs.Releases.{after_decommit, release_row, reserve_row}
 pub use Rattle.pool_alloc.specs.Reserved.{Reserved, no_room}
-pub use Rattle.pool_alloc.specs.StepTable.{memory_kept, table_kept, FlushStep, component_counted, component_tested, counted, flush_row, flush_step, free, heap_granted, heaps_tested, kind_settled, make_heap_row, make_memory_row, make_table_row, merged, no_component_left, paged, put, put_first, row_of, run, settled_step, some_queued, stacks_tested, validated, was_made, was_made_table, was_reset, zero, zero as zero_by_hand}
+pub use Rattle.pool_alloc.specs.StepTable.{memory_kept, table_kept, FlushStep, component_counted, component_tested, counted, flush_row, flush_step, free, heap_granted, heaps_tested, memory_tested, kind_settled, make_heap_row, make_memory_row, make_table_row, merged, no_component_left, paged, put, put_first, row_of, run, settled_step, some_queued, stacks_tested, validated, was_made, was_made_table, was_reset, zero, zero as zero_by_hand}
 pub use Rattle.pool_alloc.specs.Searches.{IsSearched, IsSearchedAt}
 pub use Rattle.pool_alloc.specs.BetweenSteps.{AreBegun, AreImagesOf, AreLeasesOf, AreSupported, HasSlot, IsAllocating, IsCore, IsDraining, IsEnabled, IsFrame, IsHeapNext, IsLeaseOf, IsLocal, IsMemoryNext, IsNew, IsPartAt, IsPartFor, IsPoolPlan, IsPoolSlot, IsQueuedOf, IsShapedAt, IsSlotName, IsSupported, IsTableNext, MayBeRanged, MayHold, MayQueue, MustBeByHand}
 pub use Rattle.pool_alloc.specs.StackLeases.{LeasedStack, stack_slot, stack_taken}
@@ -62,7 +62,7 @@ pub use Rattle.pool_alloc.specs.Turns.{After, Left, Row, Turn, after, all_return
 pub use Rattle.pool_alloc.specs.WantedObjects.{MemoryWant, Want, new_heap, new_memory, new_stack, new_table, wants_from}
 pub use Rattle.pool_alloc.specs.PoolAndHolders.{HasSlots, IsPartitioned, IsUntouched}
 pub use Rattle.pool_alloc.specs.declared.frame.Asked.{Asked}
-pub use Rattle.pool_alloc.specs.declared.frame.Asked.TheVariants.{Heap as heap_asked, Memory as memory_asked, Module as module_asked, Nothing as nothing_asked, Stack as stack_asked, Table as table_asked}
+pub use Rattle.pool_alloc.specs.declared.frame.Asked.TheVariants.{Heap as heap_asked, HeapOver as heap_over_asked, Memory as memory_asked, Module as module_asked, Nothing as nothing_asked, Stack as stack_asked, Table as table_asked}
 pub use Rattle.pool_alloc.specs.declared.frame.Call.{Call}
 pub use Rattle.pool_alloc.specs.declared.frame.Ending.{Ending}
 pub use Rattle.pool_alloc.specs.declared.frame.Ending.TheVariants.{Granted as granted, Refused as refused, Returned as returned}
@@ -70,7 +70,7 @@ pub use Rattle.pool_alloc.specs.declared.frame.Frame.{Frame}
 pub use Rattle.pool_alloc.specs.declared.frame.FrameLists.{FrameLists}
 pub use Rattle.pool_alloc.specs.declared.frame.FreedSlot.{FreedSlot}
 pub use Rattle.pool_alloc.specs.declared.frame.Grant.{Grant}
-pub use Rattle.pool_alloc.specs.declared.frame.Grant.TheVariants.{Component as component, Heap as heap, Instance as instance, Memory as one_memory, Stack as stack, Table as one_table}
+pub use Rattle.pool_alloc.specs.declared.frame.Grant.TheVariants.{Component as component, Heap as heap, HeapOver as heap_over, Instance as instance, Memory as one_memory, Stack as stack, Table as one_table}
 pub use Rattle.pool_alloc.specs.declared.frame.ModuleCall.{ModuleCall}
 pub use Rattle.pool_alloc.specs.declared.frame.Outcome.{Outcome}
 pub use Rattle.pool_alloc.specs.declared.frame.Phase.{Phase}

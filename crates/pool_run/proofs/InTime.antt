@@ -69,6 +69,7 @@ module _ {P : Type 0} where
   returned_by c (grant.Table lease) = refl
   returned_by c (grant.Stack lease) = refl
   returned_by c (grant.Heap lease memory) = refl
+  returned_by c (grant.HeapOver lease) = refl
 
   returned_most : (c : PoolCore P PlainHeap) (n : ℕ) (o : Option (Grant P PlainHeap)) → HasObjects n (option_map private_grant o) → bound_returned c o ≤ return_bound (sizes_of c.settings c.plan) n
   returned_most c n None has = omega arith

@@ -3,7 +3,7 @@ use Rattle.std.proofs.Common.{◌≡◌, ℕ, suc, ◌+◌, ◌%◌, ◌≤◌, 
 use Rattle.pool_alloc.specs.UnhinderedRequests as pool
 use Rattle.pool_alloc.proofs.BegunFrames.{idle_weight}
 use Rattle.pool_alloc.proofs.SlotsOfAllocators.{right_of}
-use Rattle.pool_run.proofs.Imports.{All-head, All-tail, cases_Bool, eq-eqb, one_at_most, one_if, sum_by-append, sum_by-cons, sum_by-le-sum_by, sum_by_agree, at_rest, MakerTold, RegionNumbers, SlotKind, memory_kind, Allocator, has_number, Lease, memory_slot, LeasedTable, table_slot, leased_count, tables_count, both_count, Weight, grant_weight, grant_count, IsIdle, IsPartitioned, PoolCore, PlainHeap, Grant, instance, component, one_memory, one_table, stack, heap}
+use Rattle.pool_run.proofs.Imports.{All-head, All-tail, cases_Bool, eq-eqb, one_at_most, one_if, sum_by-append, sum_by-cons, sum_by-le-sum_by, sum_by_agree, at_rest, MakerTold, RegionNumbers, SlotKind, memory_kind, Allocator, has_number, Lease, memory_slot, LeasedTable, table_slot, leased_count, tables_count, both_count, Weight, grant_weight, grant_count, IsIdle, IsPartitioned, PoolCore, PlainHeap, Grant, instance, component, one_memory, one_table, stack, heap, heap_over}
 use Rattle.pool_run.specs.Ties.{granted_to, held_by_party, IsParty}
 use Rattle.pool_run.specs.Turns.{grants_of, private_memory, private_grant}
 use Rattle.pool_run.specs.Unhindered.{in_one_stripe, stripe_count, all_live}
@@ -97,6 +97,7 @@ module _ (a : Allocator) (stripes stripe : ℕ) (own : (k : ℕ) → has_number 
     one_grant (one_table lease) = omega arith
     one_grant (stack lease) = omega arith
     one_grant (heap lease memory) = omega (arith, one_memory_at_most memory.index memory.numbers, sum_by-cons (λ (m : PrivateMemory). one_if (m.slot % stripes == stripe)) (private_memory memory) [])
+    one_grant (heap_over lease) = omega arith
 
     pub memories_live : (parties : List (RunningParty P)) → a.kind ≡ memory_kind → pool.slots_live a (all_grants parties) ≤ all_live (stripe_count stripes stripe) parties
     memories_live parties kind =

@@ -1,6 +1,6 @@
 -- What a turn opens with: the party has as much of the pool, and where a call is to make its next step, that can be made.
 use Rattle.std.proofs.Common.{zero, suc, ◌≡◌, ◌≢◌, ℕ, ◌<◌, ◌≤◌, All, Bool, true, false, List, length, get_or, Option, Some, None, refl, sym, ap, ◌∙◌, subst, inl, inr, arith, ◌∷◌, [], IfSome, slice_get, slice_set, slice_index_or, sum_by, ◌*◌}
-use Rattle.pool_run.proofs.Imports.{TakenSlot, slice_get_within, get_or_from_slice_get, All-set, All-get_or, length-set, get_or-set_other, sum_by-set, MakerTold, IsIdle, IsGrant, begun_call, objects_in, IsTableLease, LeasedTable, table_taken, ListedStore, Lease, slot_taken, IsLeaseOf, Thing, taken_count, is_idle, grant_instances, grant_components, PoolCore, Settings, Call, Stage, asks, stage_of, admitted, Frame, Grant, instance, component, one_memory, one_table, stack, heap, ModuleAsked, Phase, Idle, IsSearched, IsStackLease, LeasedHeap, LeasedStack, stack_taken, PlainHeap, Weight, counted_object, grant_weight, memory_kind, table_kind}
+use Rattle.pool_run.proofs.Imports.{TakenSlot, slice_get_within, get_or_from_slice_get, All-set, All-get_or, length-set, get_or-set_other, sum_by-set, MakerTold, IsIdle, IsGrant, begun_call, objects_in, IsTableLease, LeasedTable, table_taken, ListedStore, Lease, slot_taken, IsLeaseOf, Thing, taken_count, is_idle, grant_instances, grant_components, PoolCore, Settings, Call, Stage, asks, stage_of, admitted, Frame, Grant, instance, component, one_memory, one_table, stack, heap, heap_over, ModuleAsked, Phase, Idle, IsSearched, IsStackLease, LeasedHeap, LeasedStack, stack_taken, PlainHeap, Weight, counted_object, grant_weight, memory_kind, table_kind}
 use Rattle.pool_alloc.specs.declared.frame.Call.TheVariants as call
 use Rattle.pool_run.specs.Acts.{MemoryOp, TableOp, Act, requests, on_memory, on_table, drops, purges, releases, act_of, Wanted, an_instance, a_component, a_stack, a_heap, heap_type}
 use Rattle.pool_run.specs.Limits.{admitted_at, admitted_to, live_components}
@@ -85,6 +85,7 @@ module _ {P : Type 0} (maker : MakerTold) (c : PoolCore P PlainHeap) (k : ℕ) w
   memory_stays (one_table lease) old changed there same keeps = absurd cc
   memory_stays (stack lease) old changed there same keeps = absurd cc
   memory_stays (heap lease memory) old changed there same keeps = heap_stays maker c k lease memory old changed there same keeps
+  memory_stays (heap_over lease) old changed there same keeps = absurd cc
 
   table_stays : (grant : Grant P PlainHeap) (old changed : LeasedTable) → slice_get (tables_named grant) k ≡ Some old → changed ≡ record old { table = changed.table } → (IsTableLease maker c.settings c.plan old → IsTableLease maker c.settings c.plan changed) → StaysGrant maker c grant (with_table_lease k changed grant)
   table_stays (instance lease) old changed there same keeps = record {
@@ -96,6 +97,7 @@ module _ {P : Type 0} (maker : MakerTold) (c : PoolCore P PlainHeap) (k : ℕ) w
   table_stays (one_table lease) old changed there same keeps = absurd cc
   table_stays (stack lease) old changed there same keeps = absurd cc
   table_stays (heap lease memory) old changed there same keeps = absurd cc
+  table_stays (heap_over lease) old changed there same keeps = absurd cc
 
 module _ {P : Type 0} (maker : MakerTold) (c : PoolCore P PlainHeap) where
   stack_stays : (k : ℕ) (grant : Grant P PlainHeap) (old changed : LeasedStack) → slice_get (stack_of grant) k ≡ Some old → stack_taken changed ≡ stack_taken old → (IsStackLease maker c.settings c.plan old → IsStackLease maker c.settings c.plan changed) → StaysGrant maker c grant (with_stack_lease k changed grant)
@@ -104,6 +106,7 @@ module _ {P : Type 0} (maker : MakerTold) (c : PoolCore P PlainHeap) where
   stack_stays k (one_memory lease) old changed there same keeps = absurd cc
   stack_stays k (one_table lease) old changed there same keeps = absurd cc
   stack_stays k (heap lease memory) old changed there same keeps = absurd cc
+  stack_stays k (heap_over lease) old changed there same keeps = absurd cc
   stack_stays (suc k) (stack lease) old changed there same keeps = absurd cc
   stack_stays zero (stack lease) old changed there same keeps =
       let its : old ≡ lease = cc in
@@ -209,6 +212,7 @@ module _ {P : Type 0} (maker : MakerTold) (c : PoolCore P PlainHeap) (p : Runnin
     bytes_opened (Some (one_table lease)) op of k live reply is = moves_opened op of k live reply is
     bytes_opened (Some (stack lease)) op of k live reply is = stack_opened op of k live reply is
     bytes_opened (Some (heap lease memory)) op of k live reply is = moves_opened op of k live reply is
+    bytes_opened (Some (heap_over lease)) op of k live reply is = moves_opened op of k live reply is
 
     -- and one on a table.
     pub tables_opened : (op : TableOp) (of k : ℕ) (live : List (Option (Grant P PlainHeap))) (store : ListedStore) (reply : Reply) → MovesObject table_leases (MovesTable op (rule_of p.limits) p.store store) of k p.live reply live → (object_at table_leases of k p.live ≡ None → store ≡ p.store) → IsReply live store

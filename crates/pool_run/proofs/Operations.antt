@@ -1,7 +1,7 @@
 -- What an operation makes of a memory of a live grant: the lease stays in its slot, and the party sees the operation on
 -- its own memory.
 use Rattle.std.proofs.Common.{◌≡◌, ℕ, Bool, true, false, List, Option, Some, None, refl, sym, ap, subst, inl, inr, ◌==◌, if◌then◌else◌, IfSome, map, replicate}
-use Rattle.pool_run.proofs.Imports.{map-set, MakerTold, GrowthRule, MemoryState, Lease, slot_taken, IsLeaseOf, Grant, instance, component, one_memory, one_table, stack, heap, Plan, PlainHeap, Settings}
+use Rattle.pool_run.proofs.Imports.{map-set, MakerTold, GrowthRule, MemoryState, Lease, slot_taken, IsLeaseOf, Grant, instance, component, one_memory, one_table, stack, heap, heap_over, Plan, PlainHeap, Settings}
 use Rattle.pool_run.specs.Acts.{MemoryOp, reads, writes, fills, grows, asks_size}
 use Rattle.pool_run.specs.Objects.{MovesNamed}
 use Rattle.pool_run.specs.Private.{heap_grant, PrivateMemory, instance_grant, Writes, MemoryMoves, private_memories, growth}
@@ -72,6 +72,7 @@ changed_memory k l (one_memory lease) = refl
 changed_memory k l (one_table lease) = refl
 changed_memory k l (stack lease) = refl
 changed_memory k l (heap lease memory) = ap (heap_grant lease.index) (either_seen (k == 0) l memory)
+changed_memory k l (heap_over lease) = refl
 
 pub memories_seen : (P : Type 0) → AreSeen (memory_leases {P = P}) private_memories private_grant private_memory
 memories_seen P = record { same = memories_named_of; changed = changed_memory }

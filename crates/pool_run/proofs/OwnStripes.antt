@@ -9,7 +9,7 @@ use Rattle.pool_alloc.proofs.StripesKept.{step_stripe}
 use Rattle.pool_alloc.proofs.StripesOfGrants.{keeps_on}
 use Rattle.pool_slots.specs.declared.errors.AllocError.TheVariants as alloc
 use Rattle.pool_slots.specs.SlotQueues.{same_kind}
-use Rattle.pool_run.proofs.Imports.{All-map, cases_Bool, cases_lt, get_or-le-sum_by, set_past, sum_by-cons, sum_by-set, same_Some, not_both, one_if, has_number, Allocator, MakerTold, PartyTold, Thing, of_units, frame_weight, frame_units, grant_count, count_granted, instance_count, both_count, memory_slot, After, Asked, memory_asked, table_asked, stack_asked, heap_asked, Frame, Grant, Outcome, Phase, PoolCore, PlainHeap, ModuleAsked, Plan, SlotKind, memory_kind, table_kind, stack_kind, heap_kind, stripe_allocator, is_idle, IsIdle, IsFrame, at_rest, begun_call, all_returned, returned_next, Lease, LeasedTable, keys, no_call, stage_of, instance, component, one_memory, one_table, stack, heap, objects_in}
+use Rattle.pool_run.proofs.Imports.{All-map, cases_Bool, cases_lt, get_or-le-sum_by, set_past, sum_by-cons, sum_by-set, same_Some, not_both, one_if, has_number, Allocator, MakerTold, PartyTold, Thing, of_units, frame_weight, frame_units, grant_count, count_granted, instance_count, both_count, memory_slot, After, Asked, memory_asked, table_asked, stack_asked, heap_asked, heap_over_asked, Frame, Grant, Outcome, Phase, PoolCore, PlainHeap, ModuleAsked, Plan, SlotKind, memory_kind, table_kind, stack_kind, heap_kind, stripe_allocator, is_idle, IsIdle, IsFrame, at_rest, begun_call, all_returned, returned_next, Lease, LeasedTable, keys, no_call, stage_of, instance, component, one_memory, one_table, stack, heap, heap_over, objects_in}
 use Rattle.pool_run.specs.Acts.{Act, requests, on_memory, on_table, drops, purges, releases, act_of, Wanted, an_instance, a_component, a_stack, a_heap}
 use Rattle.pool_run.specs.Exact.{LieInStripe}
 use Rattle.pool_run.specs.Rooms.{World}
@@ -61,6 +61,7 @@ module _ {P : Type 0} where
   all_back (table_asked ty) f back = refl
   all_back stack_asked f back = refl
   all_back (heap_asked ty) f back = refl
+  all_back (heap_over_asked memory) f back = refl
   all_back _ f back = back
 
   next_back : (ms : List Lease) (ts : List LeasedTable) (f : Frame P PlainHeap) → is_granting f.ending ≡ false → is_granting (returned_next ms ts f).frame.ending ≡ false
@@ -75,6 +76,7 @@ module _ {P : Type 0} where
   given_back (one_table lease) f = refl
   given_back (stack lease) f = refl
   given_back (heap lease memory) f = refl
+  given_back (heap_over lease) f = refl
 
   back_keeps : (plan : Plan) (f : Frame P PlainHeap) → is_granting f.ending ≡ false → KeepsToItsStripe plan f
   back_keeps plan f back on = not_both (is_granting f.ending) on back
@@ -216,6 +218,7 @@ module _ (a : Allocator) (stripes stripe : ℕ) (own : (k : ℕ) → has_number 
     granted_lies (one_table lease) none = tt
     granted_lies (stack lease) none = tt
     granted_lies (heap lease memory) none = one_lies memory (omega (arith, none))
+    granted_lies (heap_over lease) none = tt
 
     -- So it is of the reply to a call.
     answered_lies : (o : Option (Outcome P PlainHeap)) (c : PoolCore P PlainHeap) (q : RunningParty P) (reply : Reply) → count_granted (grant_count (right_outside a)) o ≡ 0 → (answered o c q).reply ≡ Some reply → LieInStripe stripes stripe reply

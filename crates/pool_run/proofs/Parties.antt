@@ -1,6 +1,6 @@
 -- A party whose turn it is: its call can make its next step, and so it can once another call began.
 use Rattle.std.proofs.Common.{◌≡◌, ℕ, zero, suc, ◌+◌, ◌<◌, ◌≤◌, true, false, List, [], ◌∷◌, length, Option, Some, None, refl, ap, subst, arith, All, sym, ◌∙◌, IfSome, sum_by, slice_set, slice_index_or}
-use Rattle.pool_run.proofs.Imports.{table_slot, All-set, All-get_or, sum_by-set, MakerTold, right_to, region_of, IsFrame, AreImagesOf, HasImages, IsIdle, IsGrant, MayBegin, begun_call, call_has, begun_frame, CanStep, is_idle, grant_count, PoolCore, Settings, memories_wanted, images_wanted, ModuleAsked, stack_slot, heap_slot, nothing_asked, module_asked, Lease, memory_slot, LeasedTable, IsSearched, returning, stage_of, returned_next, Call, Frame, Grant, instance, component, one_memory, one_table, stack, heap, both_regions, sum_by_agree, leased_regions, tables_regions, Plan, SlotName, PlainHeap, Weight, of_units, grant_weight, begun_weight}
+use Rattle.pool_run.proofs.Imports.{table_slot, All-set, All-get_or, sum_by-set, MakerTold, right_to, region_of, IsFrame, AreImagesOf, HasImages, IsIdle, IsGrant, MayBegin, begun_call, call_has, begun_frame, CanStep, is_idle, grant_count, PoolCore, Settings, memories_wanted, images_wanted, ModuleAsked, stack_slot, heap_slot, nothing_asked, module_asked, Lease, memory_slot, LeasedTable, IsSearched, returning, stage_of, returned_next, Call, Frame, Grant, instance, component, one_memory, one_table, stack, heap, heap_over, both_regions, sum_by_agree, leased_regions, tables_regions, Plan, SlotName, PlainHeap, Weight, of_units, grant_weight, begun_weight}
 use Rattle.pool_alloc.specs.declared.frame.Ending.TheVariants as ending
 use Rattle.pool_run.specs.Turns.{IsPlain, asks_grant}
 use Rattle.pool_alloc.specs.declared.frame.Call.TheVariants as call
@@ -17,6 +17,7 @@ module _ {P : Type 0} where
   grant_regions k (Some (one_table lease)) = both_regions k (table_slot lease.index) lease.numbers
   grant_regions k (Some (stack lease)) = both_regions k (stack_slot lease.stack.index) lease.numbers
   grant_regions k (Some (heap lease memory)) = omega (arith, both_regions k (heap_slot lease.index) lease.numbers, both_regions k (memory_slot memory.index) memory.numbers)
+  grant_regions k (Some (heap_over lease)) = both_regions k (heap_slot lease.index) lease.numbers
 
   -- The live grants have the region of each of their slots.
   pub live_regions : (k : SlotName) (live : List (Option (Grant P PlainHeap))) → sum_by (granted_to (grant_count (region_of k))) live ≡ sum_by (granted_to (grant_count (right_to k))) live
@@ -165,6 +166,7 @@ module _ {P : Type 0} where
   returned_stage (one_table lease) f = refl
   returned_stage (stack lease) f = refl
   returned_stage (heap lease memory) f = refl
+  returned_stage (heap_over lease) f = refl
 
   pub returned_asks : (grant : Grant P PlainHeap) (f : Frame P PlainHeap) → is_asking (stage_of (begun_call (call.GiveBack grant) f)) ≡ true → ⊥
   returned_asks grant f asking = let no : is_asking (stage_of (begun_call (call.GiveBack grant) f)) ≡ false = ap is_asking (returned_stage grant f) in absurd cc
@@ -188,3 +190,4 @@ module _ {P : Type 0} where
   returned_searched (one_table lease) c f = tt
   returned_searched (stack lease) c f = tt
   returned_searched (heap lease memory) c f = tt
+  returned_searched (heap_over lease) c f = tt

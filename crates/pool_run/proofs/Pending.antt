@@ -1,6 +1,6 @@
 -- A request that passed its test is never refused for want of memory.
 use Rattle.std.proofs.Common.{◌≡◌, ◌≢◌, ℕ, ◌^◌, Bool, true, false, length, Option, Some, None, Result, Ok, Err, refl, sym, ap, ◌∙◌, subst, inl, inr, arith, IsSome, nat_le, nat_lt, if◌then◌else◌, slice_get}
-use Rattle.pool_run.proofs.Imports.{kept_of, is_there, MakerTold, minimum_byte_size, allow_growth_to, MemoryType, Unsupported, InitialSize, AddressSpace, MemoryMinimum, TableSize, Slot, LimiterError, maximum_asked, limits_answer, MemoryState, Static, static_capacity, MemoryError, AllocError, PlainHeap, PartyTold, MakesHeap, component_refused, made_of, made_of_limits, made_for, heap_refusal, HeapsTold, HeapMakeFault, Progress, untested, uncounted, admitted, Stage, no_call, keys, asks, returning, refusing, purging, reserving, releasing, stage_of, Raises, Makes, Goes, seeks_stack, tests_heap, seeks_heap, seeks_single, counts_heap, tests_component, counts_component, IsBroken, memories_wanted, tables_wanted, LeasedTable, table_refused, table_in, made_table, made_unless, Frame, Grant, instance, component, one_memory, one_table, stack, heap, Outcome, PoolCore}
+use Rattle.pool_run.proofs.Imports.{kept_of, is_there, MakerTold, minimum_byte_size, allow_growth_to, MemoryType, Unsupported, InitialSize, AddressSpace, MemoryMinimum, TableSize, Slot, LimiterError, maximum_asked, limits_answer, MemoryState, Static, static_capacity, MemoryError, AllocError, PlainHeap, PartyTold, MakesHeap, component_refused, made_of, made_of_limits, made_for, heap_refusal, HeapsTold, HeapMakeFault, Progress, untested, uncounted, admitted, Stage, no_call, keys, asks, returning, refusing, purging, reserving, releasing, stage_of, Raises, Makes, Goes, seeks_stack, tests_heap, seeks_heap, seeks_single, counts_heap, tests_component, counts_component, IsBroken, memories_wanted, tables_wanted, LeasedTable, table_refused, table_in, made_table, made_unless, Frame, Grant, instance, component, one_memory, one_table, stack, heap, heap_over, Outcome, PoolCore}
 use Rattle.pool_memory.specs.declared.memory_error.MemoryError.TheVariants as unmade
 use Rattle.pool_slots.specs.declared.errors.AllocError.TheVariants as refusal
 use Rattle.pool_run.specs.Private.{table_room}
@@ -182,6 +182,7 @@ module _ {P : Type 0} (maker : MakerTold) (old new : PartyTold) (c : PoolCore P 
   past_goes (asks (seeks_heap n)) (refusing e) None goes past = raised_past (seeks_heap n) e past goes
   past_goes (asks (seeks_heap n)) no_call (Some (answer.Refused e)) goes past = raised_past (seeks_heap n) e past goes.0
   past_goes (asks counts_heap) no_call (Some (answer.Granted (heap lease memory))) goes past = tt
+  past_goes (asks counts_heap) no_call (Some (answer.Granted (heap_over lease))) goes past = tt
   past_goes (asks seeks_stack) (asks seeks_stack) None goes past = tt
   past_goes (asks seeks_stack) (asks _) None goes past = absurd goes
   past_goes (asks seeks_stack) (refusing e) None goes past = raised_past seeks_stack e past goes
@@ -211,6 +212,7 @@ module _ {P : Type 0} where
   granted_past (one_table lease) = λ is. absurd cc
   granted_past (stack lease) = λ is. absurd cc
   granted_past (heap lease memory) = λ is. absurd cc
+  granted_past (heap_over lease) = λ is. absurd cc
 
   answered_past : (o : Option (Outcome P PlainHeap)) (t : Stage) (c : PoolCore P PlainHeap) (p : RunningParty P) → t ≡ stage_of p.frame → StaysPast t o → PastReply (answered o c p).reply (stage_of (answered o c p).party.frame)
   answered_past None t c p is past = subst IsPast is past

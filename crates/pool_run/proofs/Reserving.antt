@@ -1,6 +1,6 @@
 -- The lists for the slots of what is asked for have room for them, until the reply takes them.
 use Rattle.std.proofs.Common.{◌≡◌, ℕ, ◌<◌, ◌≤◌, Bool, Option, Some, None, List, [], length, refl, sym, ap, ◌∙◌, subst, inl, inr, arith, true, replicate, slice_set, slice_index_or}
-use Rattle.pool_run.proofs.Imports.{cases_eq, length-map, length-replicate, length-set, get_or-map, get_or-replicate, get_or-set_same, get_or-set_other, not_both, MakerTold, PartyTold, objects_in, IsGrantOf, IfGranted, begun_call, frame_made, memories_wanted, tables_wanted, After, is_idle, PoolCore, Settings, Call, Frame, Grant, instance, component, one_memory, one_table, stack, heap, Outcome, stage_of, Asked, Plan, PlainHeap}
+use Rattle.pool_run.proofs.Imports.{cases_eq, length-map, length-replicate, length-set, get_or-map, get_or-replicate, get_or-set_same, get_or-set_other, not_both, MakerTold, PartyTold, objects_in, IsGrantOf, IfGranted, begun_call, frame_made, memories_wanted, tables_wanted, After, is_idle, PoolCore, Settings, Call, Frame, Grant, instance, component, one_memory, one_table, stack, heap, heap_over, Outcome, stage_of, Asked, Plan, PlainHeap}
 use Rattle.pool_alloc.specs.declared.frame.Call.TheVariants as call
 use Rattle.pool_alloc.specs.declared.frame.Outcome.TheVariants as answer
 use Rattle.pool_run.specs.RunsMade.{AreReserved, party_made_for, parties_made}
@@ -34,6 +34,7 @@ module _ {P : Type 0} where
   room_granted maker s plan asked b slots (Some (answer.Granted (one_table lease))) memories tables for is = (omega arith, omega arith)
   room_granted maker s plan asked b slots (Some (answer.Granted (stack lease))) memories tables for is = (omega arith, omega arith)
   room_granted maker s plan asked b slots (Some (answer.Granted (heap lease memory))) memories tables for is = (omega arith, omega arith)
+  room_granted maker s plan asked b slots (Some (answer.Granted (heap_over lease))) memories tables for is = (omega arith, omega arith)
   room_granted maker s plan asked b slots None memories tables for is = (tt, tt)
   room_granted maker s plan asked b slots (Some answer.Key) memories tables for is = (tt, tt)
   room_granted maker s plan asked b slots (Some answer.Returned) memories tables for is = (tt, tt)

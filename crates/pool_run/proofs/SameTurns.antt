@@ -1,6 +1,6 @@
 -- A turn of a party has one outcome, or one finds no memory for what it asks for, and the other goes on.
 use Rattle.std.proofs.Common.{◌≡◌, ◌≢◌, ℕ, ◌<◌, ◌≤◌, Bool, true, false, List, length, Option, Some, None, IsSome, is_some, ◌⊎◌, refl, sym, ap, ◌∙◌, subst, inl, inr, arith, ◌&&◌, not, slice_get, slice_set, slice_index_or}
-use Rattle.pool_run.proofs.Imports.{option_and_then, slice_get_within, get_or_from_slice_get, ListedHeaps, PlainHeap, objects_in, ModuleAsked, begun_call, LeasedTable, ListedStore, MakerTold, Unsupported, module_refused, heap_refused, validated, heaps_tested, row_of, stage_of, stage_at, IsShapedAt, StepGiven, IsHeapAsked, info_wanted, After, stepped, Phase, Idle, Validate, TestHeap, CountInstance, Pick, Release, Asked, heap_asked, Ending, Reserve, reserve_row, CanStep, is_idle, PoolCore, Frame, Grant, instance, component, one_memory, one_table, stack, heap}
+use Rattle.pool_run.proofs.Imports.{option_and_then, slice_get_within, get_or_from_slice_get, ListedHeaps, PlainHeap, objects_in, ModuleAsked, begun_call, LeasedTable, ListedStore, MakerTold, Unsupported, module_refused, heap_refused, validated, heaps_tested, row_of, stage_of, stage_at, IsShapedAt, StepGiven, IsHeapAsked, info_wanted, After, stepped, Phase, Idle, Validate, TestHeap, CountInstance, Pick, Release, Asked, heap_asked, heap_over_asked, Ending, Reserve, reserve_row, CanStep, is_idle, PoolCore, Frame, Grant, instance, component, one_memory, one_table, stack, heap, heap_over, memory_tested}
 use Rattle.pool_slots.specs.declared.errors.AllocError.TheVariants as alloc
 use Rattle.pool_alloc.specs.declared.frame.Ending.TheVariants as ending
 use Rattle.pool_alloc.specs.declared.frame.Call.TheVariants as call
@@ -40,8 +40,11 @@ unsupported_is rule = λ is. absurd cc
 -- a request for a heap is past its test then
 heap_past : (P : Type 0) (asked : Asked) (e : Ending) → e ≡ ending.Granted → IsHeapAsked asked → IsPast (stage_at {P = P} {H = PlainHeap} (Pick 0) asked e 0)
 heap_past P (heap_asked ty) ending.Granted is for = tt
+heap_past P (heap_over_asked memory) ending.Granted is for = tt
 heap_past P (heap_asked ty) ending.Returned is for = absurd cc
 heap_past P (heap_asked ty) (ending.Refused e) is for = absurd cc
+heap_past P (heap_over_asked memory) ending.Returned is for = absurd cc
+heap_past P (heap_over_asked memory) (ending.Refused e) is for = absurd cc
 heap_past P _ e is for = absurd for
 
 module _ {P : Type 0} where
@@ -69,10 +72,15 @@ module _ {P : Type 0} where
   tests_by None true false phase c bare q t u past one two = inr (inl (record { wants = ap (λ (x : Turned P). x.reply) one; later = subst (λ (x : Turned P). PastReply x.reply (stage_of x.party.frame)) (sym two) past }))
   tests_by None false true phase c bare q t u past one two = inr (inr (record { wants = ap (λ (x : Turned P). x.reply) two; later = subst (λ (x : Turned P). PastReply x.reply (stage_of x.party.frame)) (sym one) past }))
 
+  -- Of a heap's memory, which one that is there is not tested for.
+  memory_by : (asked : Asked) (v w : Bool) (c : PoolCore P PlainHeap) (bare : Frame P PlainHeap) (q : RunningParty P) (t u : Turned P) → IsPast (stage_at {P = P} {H = PlainHeap} (Pick 0) bare.asked bare.ending 0) → t ≡ after_step (stepped (memory_tested asked v c bare)) q → u ≡ after_step (stepped (memory_tested asked w c bare)) q → AreAlike t u
+  memory_by (heap_over_asked memory) v w c bare q t u past one two = inl (one ∙ sym two)
+  memory_by asked v w c bare q t u past one two = tests_by (heap_refused c.settings asked) v w (Pick 0) c bare q t u past one two
+
   -- Of a heap, which a collector is tested for first.
   heaps_by : (collector v w : Bool) (rules : Option Unsupported) (c : PoolCore P PlainHeap) (bare : Frame P PlainHeap) (q : RunningParty P) (t u : Turned P) → heap_refused c.settings bare.asked ≡ rules → IsPast (stage_at {P = P} {H = PlainHeap} (Pick 0) bare.asked bare.ending 0) → t ≡ after_step (stepped (heaps_tested collector v c bare)) q → u ≡ after_step (stepped (heaps_tested collector w c bare)) q → AreAlike t u
   heaps_by false v w rules c bare q t u is past one two = inl (one ∙ sym two)
-  heaps_by true v w rules c bare q t u is past one two = tests_by (heap_refused c.settings bare.asked) v w (Pick 0) c bare q t u past one two
+  heaps_by true v w rules c bare q t u is past one two = memory_by bare.asked v w c bare q t u past one two
 
   -- A release, with memory for its room or none.
   reserves_by : (v w : Bool) (c : PoolCore P PlainHeap) (bare : Frame P PlainHeap) (q : RunningParty P) (t u : Turned P) → t ≡ after_step (stepped (reserve_row v c bare)) q → u ≡ after_step (stepped (reserve_row w c bare)) q → AreAlike t u
@@ -178,6 +186,7 @@ module _ {P : Type 0} (w : World) (tells : w.maker.tells ≡ true) (planned : Is
   bytes_alike (Some (one_table lease)) op of k r q live other one two = moves_alike op of k r q live other one two
   bytes_alike (Some (one_memory lease)) op of k r q live other one two = moves_alike op of k r q live other one two
   bytes_alike (Some (heap lease memory)) op of k r q live other one two = moves_alike op of k r q live other one two
+  bytes_alike (Some (heap_over lease)) op of k r q live other one two = moves_alike op of k r q live other one two
   bytes_alike (Some (stack lease)) op of k r q live other one two =
       objects_alike stack_leases (StackLeaseMoves op) of k r q live other
       (λ grant l x y granted is first second. stack_op_same w.maker c.settings c.plan tells op l x y r q (stack_held w.maker c p of k grant l can.party.sound granted is) first second) one two

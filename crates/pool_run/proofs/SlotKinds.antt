@@ -1,6 +1,6 @@
 -- The slots of memories, of tables, of stacks and of heaps: each kind as one of those of which a grant has some.
 use Rattle.std.proofs.Common.{◌≢◌, ◌≡◌, ℕ, ◌+◌, ◌*◌, ◌<◌, ◌≤◌, List, [], ◌∷◌, length, map, Option, refl, ap, arith, sum_by}
-use Rattle.pool_run.proofs.Imports.{table_taken, sum_by-cons, SlotKind, SlotName, Lease, memory_slot, slot_taken, taken_count, right_to, slot_count, both_count, leased_count, tables_count, LeasedHeap, heap_slot_taken, LeasedStack, stack_slot, stack_taken, heap_slot, RegionNumbers, PlainHeap, LeasedTable, table_slot, slot_other, region_rights, grant_stacks, grant_heaps, grant_count, grant_memories, grant_tables, Grant, instance, component, one_memory, one_table, stack, heap}
+use Rattle.pool_run.proofs.Imports.{table_taken, sum_by-cons, SlotKind, SlotName, Lease, memory_slot, slot_taken, taken_count, right_to, slot_count, both_count, leased_count, tables_count, LeasedHeap, heap_slot_taken, LeasedStack, stack_slot, stack_taken, heap_slot, RegionNumbers, PlainHeap, LeasedTable, table_slot, slot_other, region_rights, grant_stacks, grant_heaps, grant_count, grant_memories, grant_tables, Grant, instance, component, one_memory, one_table, stack, heap, heap_over}
 use Rattle.pool_hall.specs.declared.unit_name.SlotKind.TheVariants as kind
 use Rattle.pool_run.specs.Private.{stacks_in_grant, Grants, memories_in_grant, tables_in_grant, memories_named_in, tables_named_in}
 use Rattle.pool_run.specs.Rooms.{stacks_in, stack_count, heaps_in, heaps_in_grant, heap_count, memories_in, tables_in, live_count, table_count}
@@ -74,6 +74,7 @@ module _ {P : Type 0} where
   memories_counted k (one_table lease) = no_table (memory_slot k) (λ is. absurd (omega (arith, is))) lease
   memories_counted k (stack lease) = no_stack (memory_slot k) (λ is. absurd (omega (arith, is))) lease
   memories_counted k (heap lease memory) = omega (arith, no_heap (memory_slot k) (λ is. absurd (omega (arith, is))) lease, sum_by-cons (λ (l : Lease). both_count (right_to (memory_slot k)) (memory_slot l.index) l.numbers) memory [])
+  memories_counted k (heap_over lease) = no_heap (memory_slot k) (λ is. absurd (omega (arith, is))) lease
 
   pub tables_counted : (k : ℕ) (g : Grant P PlainHeap) → grant_count (right_to (table_slot k)) g ≡ times_in table_slot table_one (λ (l : LeasedTable). l.index) (λ l. l.numbers) k (tables_of g)
   tables_counted k (instance lease) = omega (arith, no_memories (table_slot k) (λ is. absurd (omega (arith, is))) lease.memories.items)
@@ -82,6 +83,7 @@ module _ {P : Type 0} where
   tables_counted k (one_table lease) = omega (arith, sum_by-cons (λ (l : LeasedTable). both_count (right_to (table_slot k)) (table_slot l.index) l.numbers) lease [])
   tables_counted k (stack lease) = no_stack (table_slot k) (λ is. absurd (omega (arith, is))) lease
   tables_counted k (heap lease memory) = omega (arith, no_heap (table_slot k) (λ is. absurd (omega (arith, is))) lease, no_memory (table_slot k) (λ is. absurd (omega (arith, is))) memory)
+  tables_counted k (heap_over lease) = no_heap (table_slot k) (λ is. absurd (omega (arith, is))) lease
 
   pub stacks_counted : (k : ℕ) (g : Grant P PlainHeap) → grant_count (right_to (stack_slot k)) g ≡ times_in stack_slot stack_one (λ (l : LeasedStack). l.stack.index) (λ l. l.numbers) k (stack_of g)
   stacks_counted k (instance lease) = omega (arith, no_memories (stack_slot k) (λ is. absurd (omega (arith, is))) lease.memories.items, no_tables (stack_slot k) (λ is. absurd (omega (arith, is))) lease.tables.items)
@@ -90,6 +92,7 @@ module _ {P : Type 0} where
   stacks_counted k (one_table lease) = no_table (stack_slot k) (λ is. absurd (omega (arith, is))) lease
   stacks_counted k (stack lease) = omega (arith, sum_by-cons (λ (l : LeasedStack). both_count (right_to (stack_slot k)) (stack_slot l.stack.index) l.numbers) lease [])
   stacks_counted k (heap lease memory) = omega (arith, no_heap (stack_slot k) (λ is. absurd (omega (arith, is))) lease, no_memory (stack_slot k) (λ is. absurd (omega (arith, is))) memory)
+  stacks_counted k (heap_over lease) = no_heap (stack_slot k) (λ is. absurd (omega (arith, is))) lease
 
   pub heaps_counted : (k : ℕ) (g : Grant P PlainHeap) → grant_count (right_to (heap_slot k)) g ≡ times_in heap_slot heap_one (λ (l : LeasedHeap PlainHeap). l.index) (λ l. l.numbers) k (heap_of g)
   heaps_counted k (instance lease) = omega (arith, no_memories (heap_slot k) (λ is. absurd (omega (arith, is))) lease.memories.items, no_tables (heap_slot k) (λ is. absurd (omega (arith, is))) lease.tables.items)
@@ -98,6 +101,7 @@ module _ {P : Type 0} where
   heaps_counted k (one_table lease) = no_table (heap_slot k) (λ is. absurd (omega (arith, is))) lease
   heaps_counted k (stack lease) = no_stack (heap_slot k) (λ is. absurd (omega (arith, is))) lease
   heaps_counted k (heap lease memory) = omega (arith, no_memory (heap_slot k) (λ is. absurd (omega (arith, is))) memory, sum_by-cons (λ (l : LeasedHeap PlainHeap). both_count (right_to (heap_slot k)) (heap_slot l.index) l.numbers) lease [])
+  heaps_counted k (heap_over lease) = omega (arith, sum_by-cons (λ (l : LeasedHeap PlainHeap). both_count (right_to (heap_slot k)) (heap_slot l.index) l.numbers) lease [])
 
   -- so many are counted
   pub memories_sized : (g : Grant P PlainHeap) → grant_memories g ≡ length (leases_of g)
@@ -107,6 +111,7 @@ module _ {P : Type 0} where
   memories_sized (one_table lease) = refl
   memories_sized (stack lease) = refl
   memories_sized (heap lease memory) = refl
+  memories_sized (heap_over lease) = refl
 
   pub tables_sized : (g : Grant P PlainHeap) → grant_tables g ≡ length (tables_of g)
   tables_sized (instance lease) = omega arith
@@ -115,6 +120,7 @@ module _ {P : Type 0} where
   tables_sized (one_table lease) = refl
   tables_sized (stack lease) = refl
   tables_sized (heap lease memory) = refl
+  tables_sized (heap_over lease) = refl
 
   pub stacks_sized : (g : Grant P PlainHeap) → grant_stacks g ≡ length (stack_of g)
   stacks_sized (instance lease) = omega arith
@@ -123,6 +129,7 @@ module _ {P : Type 0} where
   stacks_sized (one_table lease) = refl
   stacks_sized (stack lease) = refl
   stacks_sized (heap lease memory) = refl
+  stacks_sized (heap_over lease) = refl
 
   pub heaps_sized : (g : Grant P PlainHeap) → grant_heaps g ≡ length (heap_of g)
   heaps_sized (instance lease) = omega arith
@@ -131,6 +138,7 @@ module _ {P : Type 0} where
   heaps_sized (one_table lease) = refl
   heaps_sized (stack lease) = refl
   heaps_sized (heap lease memory) = refl
+  heaps_sized (heap_over lease) = refl
 
   -- and the party sees each
   pub memories_seen_of : (g : Grant P PlainHeap) → memories_in_grant (private_grant g) ≡ map private_memory (leases_of g)
@@ -140,6 +148,7 @@ module _ {P : Type 0} where
   memories_seen_of (one_table lease) = refl
   memories_seen_of (stack lease) = refl
   memories_seen_of (heap lease memory) = refl
+  memories_seen_of (heap_over lease) = refl
 
   pub memories_named_of : (g : Grant P PlainHeap) → memories_named_in (private_grant g) ≡ map private_memory (leases_named g)
   memories_named_of (instance lease) = refl
@@ -148,6 +157,7 @@ module _ {P : Type 0} where
   memories_named_of (one_table lease) = refl
   memories_named_of (stack lease) = refl
   memories_named_of (heap lease memory) = refl
+  memories_named_of (heap_over lease) = refl
 
   pub tables_seen_of : (g : Grant P PlainHeap) → tables_in_grant (private_grant g) ≡ map private_table (tables_of g)
   tables_seen_of (instance lease) = refl
@@ -156,6 +166,7 @@ module _ {P : Type 0} where
   tables_seen_of (one_table lease) = refl
   tables_seen_of (stack lease) = refl
   tables_seen_of (heap lease memory) = refl
+  tables_seen_of (heap_over lease) = refl
 
   pub tables_named_of : (g : Grant P PlainHeap) → tables_named_in (private_grant g) ≡ map private_table (tables_named g)
   tables_named_of (instance lease) = refl
@@ -164,6 +175,7 @@ module _ {P : Type 0} where
   tables_named_of (one_table lease) = refl
   tables_named_of (stack lease) = refl
   tables_named_of (heap lease memory) = refl
+  tables_named_of (heap_over lease) = refl
 
   pub stacks_seen_of : (g : Grant P PlainHeap) → stacks_in_grant (private_grant g) ≡ map private_stack (stack_of g)
   stacks_seen_of (instance lease) = refl
@@ -172,6 +184,7 @@ module _ {P : Type 0} where
   stacks_seen_of (one_table lease) = refl
   stacks_seen_of (stack lease) = refl
   stacks_seen_of (heap lease memory) = refl
+  stacks_seen_of (heap_over lease) = refl
 
   pub heaps_seen_of : (g : Grant P PlainHeap) → heaps_in_grant (private_grant g) ≡ map (λ l. l.index) (heap_of g)
   heaps_seen_of (instance lease) = refl
@@ -180,6 +193,7 @@ module _ {P : Type 0} where
   heaps_seen_of (one_table lease) = refl
   heaps_seen_of (stack lease) = refl
   heaps_seen_of (heap lease memory) = refl
+  heaps_seen_of (heap_over lease) = refl
 
   -- Where so many memory slots are with this grant and the live ones, there are no more of them than they have.
   pub memories_taken : (s step total : ℕ) (g : Grant P PlainHeap) (live : List (Option (Grant P PlainHeap))) → 0 < step → ((j : ℕ) → j < total → 1 ≤ grant_count (right_to (memory_slot (s + j * step))) g + sum_by (granted_to (grant_count (right_to (memory_slot (s + j * step))))) live) → total ≤ length (leases_of g) + sum_by (granted_to grant_memories) live

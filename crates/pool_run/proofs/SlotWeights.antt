@@ -4,7 +4,7 @@ use Rattle.std.proofs.Common.{◌≡◌, ℕ, zero, suc, ◌+◌, ◌≤◌, Lis
 use Rattle.pool_run.proofs.Imports.{cases_lt, get_or_from_slice_get, slice_get_within, set_past, sum_by-cons, sum_by-set, MemoryWant, GrowthRule}
 use Rattle.pool_run.specs.Acts.{MemoryOp, reads, writes, fills, grows, asks_size, Act, requests, on_memory, on_table, drops, purges, releases, act_of, Wanted, an_instance, a_component, a_stack, a_heap, heap_type}
 use Rattle.pool_run.specs.Objects.{MovesNamed, object_at, with_object}
-use Rattle.pool_run.specs.Private.{PrivateMemory, PrivateGrant, instance_grant, component_grant, memory_grant, table_grant, stack_grant, heap_grant, Grants, Terms, grant_at, memories_in_grant, memories_named_in, put_memory, put_table, put_stack, private_memories, private_stacks, GrowthEnd, as_it_was, could_not, has_grown, growth, size_wanted, left_of, private_written, MemoryMoves, MovesBytes, Drops, PrivateState, PrivateStep, Moves, Requests, Request, request_of, Instantiates, begun, begun_instance, begun_memory, heap_memory, table_at, with_table}
+use Rattle.pool_run.specs.Private.{PrivateMemory, PrivateGrant, instance_grant, component_grant, memory_grant, table_grant, stack_grant, heap_grant, heap_over_grant, Grants, Terms, grant_at, memories_in_grant, memories_named_in, put_memory, put_table, put_stack, private_memories, private_stacks, GrowthEnd, as_it_was, could_not, has_grown, growth, size_wanted, left_of, private_written, MemoryMoves, MovesBytes, Drops, PrivateState, PrivateStep, Moves, Requests, Request, request_of, Instantiates, begun, begun_instance, begun_memory, heap_memory, table_at, with_table}
 use Rattle.pool_run.specs.PrivateStacks.{WritesBytes, PrivateStack, StackMoves}
 use Rattle.pool_run.specs.PrivateTables.{PrivateTable, StoredTable, TableMoves}
 use Rattle.pool_run.specs.declared.command.Command.{Command}
@@ -90,6 +90,7 @@ module _ (f : ℕ → ℕ) where
   put_weighs : (g : PrivateGrant) (k : ℕ) (old new : PrivateMemory) → slice_get (memories_named_in g) k ≡ Some old → new.slot ≡ old.slot → memories_weigh f (memories_in_grant (put_memory k new g)) ≡ memories_weigh f (memories_in_grant g)
   put_weighs (instance_grant g) k old new there same = put_list g.memories k old new there same
   put_weighs (heap_grant slot m) k old new there same = put_heap slot k m old new there same
+  put_weighs (heap_over_grant slot) k old new there same = absurd cc
   put_weighs component_grant k old new there same = absurd cc
   put_weighs (memory_grant m) k old new there same = absurd cc
   put_weighs (table_grant x) k old new there same = absurd cc
@@ -98,6 +99,7 @@ module _ (f : ℕ → ℕ) where
   stack_weighs : (g : PrivateGrant) (k : ℕ) (s : PrivateStack) → memories_weigh f (memories_in_grant (put_stack k s g)) ≡ memories_weigh f (memories_in_grant g)
   stack_weighs (instance_grant g) k s = refl
   stack_weighs (heap_grant slot m) k s = refl
+  stack_weighs (heap_over_grant slot) k s = refl
   stack_weighs component_grant k s = refl
   stack_weighs (memory_grant m) k s = refl
   stack_weighs (table_grant x) k s = refl
@@ -106,6 +108,7 @@ module _ (f : ℕ → ℕ) where
   table_weighs : (g : PrivateGrant) (k : ℕ) (t : PrivateTable) → memories_weigh f (memories_in_grant (put_table k t g)) ≡ memories_weigh f (memories_in_grant g)
   table_weighs (instance_grant g) k t = refl
   table_weighs (heap_grant slot m) k t = refl
+  table_weighs (heap_over_grant slot) k t = refl
   table_weighs component_grant k t = refl
   table_weighs (memory_grant m) k t = refl
   table_weighs (table_grant x) k t = refl
@@ -145,6 +148,7 @@ module _ (f : ℕ → ℕ) where
   bytes_weigh op rule (Some (memory_grant m)) of k grants new reply moves = memory_weighs op rule of k grants new reply (object_at private_memories of k grants) refl moves
   bytes_weigh op rule (Some (table_grant t)) of k grants new reply moves = memory_weighs op rule of k grants new reply (object_at private_memories of k grants) refl moves
   bytes_weigh op rule (Some (heap_grant slot m)) of k grants new reply moves = memory_weighs op rule of k grants new reply (object_at private_memories of k grants) refl moves
+  bytes_weigh op rule (Some (heap_over_grant slot)) of k grants new reply moves = memory_weighs op rule of k grants new reply (object_at private_memories of k grants) refl moves
   bytes_weigh op rule None of k grants new reply moves = memory_weighs op rule of k grants new reply (object_at private_memories of k grants) refl moves
 
   tables_weigh : (Move : StoredTable → StoredTable → Reply → Type 0) (of k : ℕ) (s new : PrivateState) (reply : Reply) (o : Option StoredTable) → MovesNamed Move o (with_table of k) s reply new → live_weigh f new.grants ≤ live_weigh f s.grants

@@ -1,6 +1,6 @@
 -- What a turn leaves is sound where what its calls leave is.
 use Rattle.std.proofs.Common.{◌≡◌, ℕ, zero, suc, List, Option, Some, None, sym, subst, All, IfSome, slice_get, slice_index_or}
-use Rattle.pool_run.proofs.Imports.{All-set, All-get_or, slice_get_within, get_or_from_slice_get, MakerTold, Asked, PartyTold, IsStackLease, LeasedStack, IsIdle, IsGrant, IsGrantOf, IfGranted, Lease, IsTableLease, LeasedTable, IsCore, IsFrame, IsShapedAt, IsLeaseOf, After, PoolCore, Settings, Frame, Phase, Grant, instance, component, one_memory, one_table, stack, heap, Outcome, InstanceLease, at_rest, held_of, frame_of, Plan, PlainHeap, IsSameSize}
+use Rattle.pool_run.proofs.Imports.{All-set, All-get_or, slice_get_within, get_or_from_slice_get, MakerTold, Asked, PartyTold, IsStackLease, LeasedStack, IsIdle, IsGrant, IsGrantOf, IfGranted, Lease, IsTableLease, LeasedTable, IsCore, IsFrame, IsShapedAt, IsLeaseOf, After, PoolCore, Settings, Frame, Phase, Grant, instance, component, one_memory, one_table, stack, heap, heap_over, Outcome, InstanceLease, at_rest, held_of, frame_of, Plan, PlainHeap, IsSameSize}
 use Rattle.pool_alloc.specs.declared.frame.Outcome.TheVariants as answer
 use Rattle.pool_run.specs.Turns.{Turned, leases_named, tables_named, stack_of, one_step, ended_at_once, answered, after_step}
 use Rattle.pool_run.specs.Ties.{IsSoundParty}
@@ -29,6 +29,7 @@ module _ {P : Type 0} where
   granted_any maker s plan asked (Some (answer.Granted (one_table lease))) is = is.table_is
   granted_any maker s plan asked (Some (answer.Granted (stack lease))) is = is.0
   granted_any maker s plan asked (Some (answer.Granted (heap lease memory))) is = (is.heap, is.memory_is)
+  granted_any maker s plan asked (Some (answer.Granted (heap_over lease))) is = is.heap
   granted_any maker s plan asked (Some answer.Returned) is = is
   granted_any maker s plan asked (Some (answer.Purged n)) is = is
   granted_any maker s plan asked (Some (answer.Released n)) is = is
@@ -72,6 +73,7 @@ module _ {P : Type 0} where
   lease_held maker c p of k (stack lease) l sound has there = absurd cc
   lease_held maker c p of zero (heap lease memory) l sound has there = let same : memory ≡ l = cc in subst (IsLeaseOf maker c.settings c.plan) same (live_grant maker c.settings c.plan p.live of (heap lease memory) sound.grants has).1
   lease_held maker c p of (suc k) (heap lease memory) l sound has there = absurd cc
+  lease_held maker c p of k (heap_over lease) l sound has there = absurd cc
 
   pub table_held : (maker : MakerTold) (c : PoolCore P PlainHeap) (p : RunningParty P) (of k : ℕ) (grant : Grant P PlainHeap) (l : LeasedTable) → IsSoundParty maker c p → slice_index_or p.live of None ≡ Some grant → slice_get (tables_named grant) k ≡ Some l → IsTableLease maker c.settings c.plan l
   table_held maker c p of k (instance lease) l sound has there =
@@ -83,6 +85,7 @@ module _ {P : Type 0} where
   table_held maker c p of k (one_table lease) l sound has there = absurd cc
   table_held maker c p of k (stack lease) l sound has there = absurd cc
   table_held maker c p of k (heap lease memory) l sound has there = absurd cc
+  table_held maker c p of k (heap_over lease) l sound has there = absurd cc
 
   pub stack_held : (maker : MakerTold) (c : PoolCore P PlainHeap) (p : RunningParty P) (of k : ℕ) (grant : Grant P PlainHeap) (l : LeasedStack) → IsSoundParty maker c p → slice_index_or p.live of None ≡ Some grant → slice_get (stack_of grant) k ≡ Some l → IsStackLease maker c.settings c.plan l
   stack_held maker c p of k (instance lease) l sound has there = absurd cc
@@ -90,5 +93,6 @@ module _ {P : Type 0} where
   stack_held maker c p of k (one_memory lease) l sound has there = absurd cc
   stack_held maker c p of k (one_table lease) l sound has there = absurd cc
   stack_held maker c p of k (heap lease memory) l sound has there = absurd cc
+  stack_held maker c p of k (heap_over lease) l sound has there = absurd cc
   stack_held maker c p of zero (stack lease) l sound has there = let same : lease ≡ l = cc in subst (IsStackLease maker c.settings c.plan) same (live_grant maker c.settings c.plan p.live of (stack lease) sound.grants has)
   stack_held maker c p of (suc k) (stack lease) l sound has there = absurd cc

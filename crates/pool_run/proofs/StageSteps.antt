@@ -1,6 +1,6 @@
 -- How a step takes a party's call from one stage to another: what follows of the stages alone.
 use Rattle.std.proofs.Common.{◌≡◌, ℕ, ◌+◌, ◌<◌, ◌≤◌, ◌⊎◌, inl, inr, Bool, true, false, Option, Some, None, refl, ap, arith, ◌&&◌, not, is_some, ◌*◌}
-use Rattle.pool_run.proofs.Imports.{MakerTold, PartyTold, IfGranted, phase_instances, instances_for, Progress, untested, uncounted, admitted, Stage, no_call, keys, asks, returning, refusing, purging, reserving, releasing, stage_by, stage_of_release, stage_at, Follows, Goes, seeks_stack, tests_heap, seeks_heap, seeks_single, counts_heap, tests_component, counts_component, stage_back, stage_of, is_idle, count_granted, grant_instances, grant_components, objects_wanted, objects_in, IsFrame, IsShapedAt, Plan, PlainHeap, Settings, PoolCore, Asked, stack_asked, memory_asked, table_asked, heap_asked, Ending, Frame, instance, component, one_memory, one_table, stack, heap, Outcome, Phase, Idle, Key, Validate, CountInstance, CountObject, Purge, Release, TestStack, TestHeap, CountHeap, ValidateComponent, CountComponent, UncountComponent, ReleaseStep, Reserve, only}
+use Rattle.pool_run.proofs.Imports.{MakerTold, PartyTold, IfGranted, phase_instances, instances_for, Progress, untested, uncounted, admitted, Stage, no_call, keys, asks, returning, refusing, purging, reserving, releasing, stage_by, stage_of_release, stage_at, Follows, Goes, seeks_stack, tests_heap, seeks_heap, seeks_single, counts_heap, tests_component, counts_component, stage_back, stage_of, is_idle, count_granted, grant_instances, grant_components, objects_wanted, objects_in, IsFrame, IsShapedAt, Plan, PlainHeap, Settings, PoolCore, Asked, stack_asked, memory_asked, table_asked, heap_asked, heap_over_asked, Ending, Frame, instance, component, one_memory, one_table, stack, heap, heap_over, Outcome, Phase, Idle, Key, Validate, CountInstance, CountObject, Purge, Release, TestStack, TestHeap, CountHeap, ValidateComponent, CountComponent, UncountComponent, ReleaseStep, Reserve, only}
 use Rattle.pool_alloc.specs.declared.frame.Ending.TheVariants as ending
 use Rattle.pool_alloc.specs.declared.frame.Outcome.TheVariants as answer
 use Rattle.pool_run.specs.Limits.{admitted_at}
@@ -46,6 +46,7 @@ admitted_by (memory_asked m) ending.Granted n = omega arith
 admitted_by (table_asked ty) ending.Granted n = omega arith
 admitted_by stack_asked ending.Granted n = omega arith
 admitted_by (heap_asked ty) ending.Granted n = omega arith
+admitted_by (heap_over_asked memory) ending.Granted n = omega arith
 admitted_by _ ending.Granted n = omega arith
 admitted_by asked ending.Returned n = omega arith
 admitted_by asked (ending.Refused e) n = omega arith
@@ -55,6 +56,7 @@ seeks_by stack_asked e n is = refl
 seeks_by (memory_asked m) ending.Granted n is = absurd cc
 seeks_by (table_asked ty) ending.Granted n is = absurd cc
 seeks_by (heap_asked ty) ending.Granted n is = absurd cc
+seeks_by (heap_over_asked memory) ending.Granted n is = absurd cc
 seeks_by _ ending.Granted n is = absurd cc
 seeks_by _ ending.Returned n is = absurd cc
 seeks_by _ (ending.Refused e) n is = absurd cc
@@ -193,6 +195,7 @@ module _ {P : Type 0} (maker : MakerTold) (old new : PartyTold) (c : PoolCore P 
   staged (asks (seeks_single n)) no_call (Some (answer.Refused e)) goes = record { answer = refl; settled = λ e. refl; asking = λ e. absurd cc; granted = tt; for_it = λ e. absurd cc; instance_granted = tt; drawn = refl; key = refl }
   staged (asks (seeks_heap n)) no_call (Some (answer.Refused e)) goes = record { answer = refl; settled = λ e. refl; asking = λ e. absurd cc; granted = tt; for_it = λ e. absurd cc; instance_granted = tt; drawn = refl; key = refl }
   staged (asks counts_heap) no_call (Some (answer.Granted (heap lease memory))) goes = record { answer = refl; settled = λ e. refl; asking = λ e. absurd cc; granted = refl; for_it = λ e. absurd cc; instance_granted = tt; drawn = refl; key = refl }
+  staged (asks counts_heap) no_call (Some (answer.Granted (heap_over lease))) goes = record { answer = refl; settled = λ e. refl; asking = λ e. absurd cc; granted = refl; for_it = λ e. absurd cc; instance_granted = tt; drawn = refl; key = refl }
   staged (tests_component info) counts_component None goes = record { answer = refl; settled = λ e. absurd cc; asking = λ e. refl; granted = tt; for_it = λ e. absurd cc; instance_granted = tt; drawn = refl; key = refl }
   staged (tests_component info) no_call (Some (answer.Refused e)) goes = record { answer = refl; settled = λ e. refl; asking = λ e. absurd cc; granted = tt; for_it = λ e. absurd cc; instance_granted = tt; drawn = refl; key = refl }
   staged counts_component no_call (Some (answer.Granted component)) goes = record { answer = refl; settled = λ e. refl; asking = λ e. absurd cc; granted = refl; for_it = λ e. absurd cc; instance_granted = tt; drawn = refl; key = refl }
@@ -224,6 +227,7 @@ module _ {P : Type 0} (maker : MakerTold) (old new : PartyTold) (c : PoolCore P 
   may_grant (asks (seeks_single n)) no_call (Some (answer.Refused e)) goes = inl refl
   may_grant (asks (seeks_heap n)) no_call (Some (answer.Refused e)) goes = inl refl
   may_grant (asks counts_heap) no_call (Some (answer.Granted (heap lease memory))) goes = inl refl
+  may_grant (asks counts_heap) no_call (Some (answer.Granted (heap_over lease))) goes = inl refl
   may_grant (tests_component info) counts_component None goes = inl refl
   may_grant (tests_component info) no_call (Some (answer.Refused e)) goes = inl refl
   may_grant counts_component no_call (Some (answer.Granted component)) goes = inr (refl, goes)
@@ -269,6 +273,7 @@ module _ {P : Type 0} (maker : MakerTold) (old new : PartyTold) (c : PoolCore P 
   admits others (asks (seeks_single n)) no_call (Some (answer.Refused e)) goes within counted = record { within = omega (arith, within) }
   admits others (asks (seeks_heap n)) no_call (Some (answer.Refused e)) goes within counted = record { within = omega (arith, within) }
   admits others (asks counts_heap) no_call (Some (answer.Granted (heap lease memory))) goes within counted = record { within = omega (arith, within) }
+  admits others (asks counts_heap) no_call (Some (answer.Granted (heap_over lease))) goes within counted = record { within = omega (arith, within) }
   admits others (tests_component info) counts_component None goes within counted = record { within = omega (arith, within) }
   admits others (tests_component info) no_call (Some (answer.Refused e)) goes within counted = record { within = omega (arith, within) }
   admits others counts_component no_call (Some (answer.Granted component)) goes within counted = record { within = omega (arith, within) }

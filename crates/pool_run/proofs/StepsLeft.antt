@@ -1,7 +1,7 @@
 -- A call that is under way has a step left.
 use Rattle.std.proofs.Common.{◌≡◌, ◌≢◌, ℕ, zero, suc, ◌+◌, ◌-◌, ◌*◌, ◌<◌, ◌≤◌, Bool, true, false, List, [], ◌∷◌, length, refl, sym, ap, ◌∙◌, subst, inl, inr, ◌⊎◌, arith, nat_lt, All, ◌==◌, ◌&&◌}
 use Rattle.std.proofs.lemmas.List.Elements.{All-nil}
-use Rattle.pool_run.proofs.Imports.{ltb-true, and_parts, mul-le-mul_right, memory_kind, steps_left, sizes_of, IsCore, IsFrame, is_idle, PoolCore, Frame, PlainHeap, MakerTold}
+use Rattle.pool_run.proofs.Imports.{ltb-true, and_parts, mul-le-mul_right, memory_kind, steps_left, sizes_of, IsCore, IsFrame, is_idle, PoolCore, Frame, PlainHeap, MakerTold, heap_over_asked, Asked}
 use Rattle.pool_slots.specs.SlotQueues.{Queued}
 use Rattle.pool_slots.specs.Plans.{home_of}
 use Rattle.pool_alloc.proofs.FlushSteps.{free_fewer}
@@ -10,7 +10,7 @@ use Rattle.pool_alloc.proofs.PurgeBounds.{picking_of, picks_of}
 use Rattle.pool_alloc.specs.BetweenSteps.{IsFirstPick, IsPicking, IsPurgeAt, IsReleaseAt, IsShapedAt}
 use Rattle.pool_alloc.specs.Purges.{has_turns, purged_stripe}
 use Rattle.pool_alloc.specs.Releases.{released_stripe}
-use Rattle.pool_alloc.specs.StepBounds.{PoolSizes, flush_left, memories_left, purge_left, release_left, steps_at}
+use Rattle.pool_alloc.specs.StepBounds.{PoolSizes, flush_left, heap_bound_for, memories_left, purge_left, release_left, steps_at}
 use Rattle.pool_alloc.specs.StepReads.{first_shard}
 use Rattle.pool_alloc.specs.declared.frame.FreedSlot.{FreedSlot}
 use Rattle.pool_alloc.specs.declared.frame.Phase.{Phase}
@@ -61,6 +61,10 @@ module _ {P : Type 0} (maker : MakerTold) (c : PoolCore P PlainHeap) (f : Frame 
   release_goes (releasing_step.PutRegion r k on held) at = omega arith
   release_goes (releasing_step.Free r x) at = omega arith
 
+  heap_some : (z : PoolSizes) (asked : Asked) → 1 ≤ heap_bound_for z asked
+  heap_some z (heap_over_asked memory) = omega arith
+  heap_some z _ = omega arith
+
   phase_goes : (p : Phase P PlainHeap) → is_idle p ≡ false → IsShapedAt maker c.settings c.plan p f → 1 ≤ steps_at (sizes_of c.settings c.plan) p f
   phase_goes Idle busy at = absurd cc
   phase_goes Flush busy at = omega (arith, flush_goes f.local.slots f.freed.items refl refl at.1)
@@ -69,7 +73,7 @@ module _ {P : Type 0} (maker : MakerTold) (c : PoolCore P PlainHeap) (f : Frame 
   phase_goes Key busy at = omega arith
   phase_goes Validate busy at = omega arith
   phase_goes TestStack busy at = omega arith
-  phase_goes TestHeap busy at = omega arith
+  phase_goes TestHeap busy at = heap_some (sizes_of c.settings c.plan) f.asked
   phase_goes CountInstance busy at = omega arith
   phase_goes (Pick tried) busy at = omega arith
   phase_goes TakeQueue busy at = omega arith

@@ -1,6 +1,6 @@
 -- What a party has once a step was made fits what it was told, with the reply if the step ends the command.
 use Rattle.std.proofs.Common.{◌≡◌, ℕ, ◌+◌, ◌<◌, ◌≤◌, ◌⊎◌, inl, inr, true, false, List, [], ◌∷◌, length, Option, Some, None, refl, sym, ap, ◌∙◌, subst, arith, IsSome, slice_set, sum_by}
-use Rattle.pool_run.proofs.Imports.{length-map, AllocError, heap_slot, ListedHeaps, risen, Limits, MemoryType, PartyTold, IsGrantOf, IsHeapOf, IfGranted, LeasedHeap, Lease, memory_slot, objects_wanted, LeasedTable, table_slot, InstanceLease, of_kind, SlotName, PlainHeap, right_to, frame_instances, component_refused, no_component_left, AreSupported, Progress, untested, uncounted, admitted, Stage, no_call, keys, asks, returning, refusing, purging, reserving, releasing, Follows, Goes, seeks_stack, tests_heap, seeks_heap, seeks_single, counts_heap, tests_component, counts_component, IsBroken, Raises, IsHeapUntested, IsHeapTested, SeeksHeap, HasHeap, grant_count, memories_wanted, images_wanted, memory_slots, PoolCore, Settings, ComponentInfo, Unsupported, Frame, IsStackLease, IsNewStack, LeasedStack, stack_slot, Asked, stack_asked, heap_asked, Grant, instance, component, one_memory, one_table, stack, heap, Outcome, counted_component, only, phase_counted}
+use Rattle.pool_run.proofs.Imports.{length-map, AllocError, heap_slot, ListedHeaps, risen, Limits, MemoryType, PartyTold, IsGrantOf, IsHeapOf, IfGranted, LeasedHeap, Lease, memory_slot, objects_wanted, LeasedTable, table_slot, InstanceLease, of_kind, SlotName, PlainHeap, right_to, frame_instances, component_refused, no_component_left, AreSupported, Progress, untested, uncounted, admitted, Stage, no_call, keys, asks, returning, refusing, purging, reserving, releasing, Follows, Goes, seeks_stack, tests_heap, seeks_heap, seeks_single, counts_heap, tests_component, counts_component, IsBroken, Raises, IsHeapUntested, IsHeapTested, SeeksHeap, HasHeap, grant_count, memories_wanted, images_wanted, memory_slots, PoolCore, Settings, ComponentInfo, Unsupported, Frame, IsStackLease, IsNewStack, LeasedStack, stack_slot, Asked, stack_asked, heap_asked, Grant, instance, component, one_memory, one_table, stack, heap, Outcome, counted_component, only, phase_counted, heap_over_asked, heap_over}
 use Rattle.pool_slots.specs.declared.errors.AllocError.TheVariants as refusal
 use Rattle.pool_run.proofs.SlotsMade.{made_slot}
 use Rattle.pool_alloc.specs.declared.frame.Outcome.TheVariants as answer
@@ -338,6 +338,8 @@ module _ {P : Type 0} (w : World) (old new : PartyTold) (c : PoolCore P PlainHea
   tied_same (asks counts_heap) no_call asked (Some (answer.Granted (stack lease))) calls none no_component for_stack same of apart goes tied = absurd goes.0
   tied_same (asks counts_heap) (refusing e) asked None calls none no_component for_stack same of apart goes tied = absurd goes
   tied_same (asks counts_heap) no_call asked (Some (answer.Granted (heap lease memory))) calls none no_component for_stack same of apart goes tied = heap_granted lease memory tied.0 tied.1 tied.2 of apart
+  tied_same (asks counts_heap) no_call asked (Some (answer.Granted (heap_over lease))) calls none no_component for_stack same of apart goes tied =
+      let other : heap_over_asked of.memory ≡ heap_asked (heap_type tied.1.limits) = sym of.asked_for ∙ tied.1.asked_for in absurd cc
   tied_same (tests_component info) counts_component asked None calls none no_component for_stack same of apart goes tied = (tied.0, record { info = info; act = tied.1; supported = same_rule info ∙ goes })
   tied_same (tests_component info) no_call asked (Some (answer.Refused e)) calls none no_component for_stack same of apart goes tied = refused w commands done live stores made state e (unmoved tied.0) (component_refuses info e tied.0 tied.1 goes)
   tied_same counts_component no_call asked (Some (answer.Granted component)) calls none no_component for_stack same of apart goes tied = component_granted tied.0 tied.1 goes

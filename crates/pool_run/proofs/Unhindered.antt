@@ -10,7 +10,7 @@ use Rattle.pool_alloc.specs.UnhinderedRequests.{is_for_room, HasAllItNeeds, IsFo
 use Rattle.pool_alloc.proofs.PlanPlaces.{allocator_held, stripe_holds}
 use Rattle.pool_alloc.proofs.SlotsOfAllocators.{few_live}
 use Rattle.pool_alloc.proofs.UnhinderedRequests.{Seeks, seeks_on, begun_seeks}
-use Rattle.pool_run.proofs.Imports.{slice_get_within, slice_get_past, get_or_from_slice_get, slice_get-get_or, get_or-set_same, length-set, set-get_or, same_Some, option_or, MakerTold, PartyTold, CanStep, AllocError, After, Call, Frame, Grant, Outcome, PoolCore, PlainHeap, ModuleAsked, ModuleInfo, ComponentInfo, Limits, SlotKind, memory_kind, table_kind, stack_kind, heap_kind, Allocator, allocator_of, stripe_allocator, memories_wanted, tables_wanted, heaps_wanted, grant_instances, grant_components, grant_tables, grant_stacks, grant_heaps, is_idle, IsIdle, IsCore, MayBegin, Settings, stage_of, begun_call, Want, new_memory, new_table, instance, component, one_memory, one_table, stack, heap}
+use Rattle.pool_run.proofs.Imports.{slice_get_within, slice_get_past, get_or_from_slice_get, slice_get-get_or, get_or-set_same, length-set, set-get_or, same_Some, option_or, MakerTold, PartyTold, CanStep, AllocError, After, Call, Frame, Grant, Outcome, PoolCore, PlainHeap, ModuleAsked, ModuleInfo, ComponentInfo, Limits, SlotKind, memory_kind, table_kind, stack_kind, heap_kind, Allocator, allocator_of, stripe_allocator, memories_wanted, tables_wanted, heaps_wanted, grant_instances, grant_components, grant_tables, grant_stacks, grant_heaps, is_idle, IsIdle, IsCore, MayBegin, Settings, stage_of, begun_call, Want, new_memory, new_table, instance, component, one_memory, one_table, stack, heap, heap_over}
 use Rattle.pool_run.specs.Acts.{Act, requests, act_of, Wanted, an_instance, a_component, a_stack, a_heap, heap_type}
 use Rattle.pool_run.specs.Agreeing.{IsRunnable}
 use Rattle.pool_run.specs.Folds.{RunParts, RunState, Folds, TurnsIf, IsUnderWay, IsRunTo, commands_of, replies_to, replies_after, told_state, with_turn}
@@ -139,6 +139,7 @@ module _ {P : Type 0} where
   granted_room (one_table lease) = refl
   granted_room (stack lease) = refl
   granted_room (heap lease memory) = refl
+  granted_room (heap_over lease) = refl
 
   set_there : (parties : List (RunningParty P)) (k : ℕ) (q : RunningParty P) → k < length parties → slice_get (slice_set parties k q) k ≡ Some q
   set_there parties k q inside = slice_get-get_or (slice_set parties k q) k q (omega (arith, inside, length-set parties k q)) ∙ ap (λ (x : RunningParty P). Some x) (get_or-set_same parties k q q inside)
@@ -252,6 +253,7 @@ module _ {P : Type 0} (w : World) (modules : List ModuleAsked) (inputs : List (L
       no_drawing (call.Component info) f is = refl
       no_drawing (call.Memory m) f is = refl
       no_drawing (call.Table ty) f is = refl
+      no_drawing (call.HeapOver memory) f is = refl
       no_drawing call.Stack f is = refl
       no_drawing (call.Heap ty) f is = refl
       no_drawing _ f is = absurd is

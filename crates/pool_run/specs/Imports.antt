@@ -32,7 +32,7 @@ pub use Rattle.pool_alloc.specs.declared.frame.Asked.TheVariants.{Heap as heap_a
 pub use Rattle.pool_alloc.specs.declared.frame.Call.{Call}
 pub use Rattle.pool_alloc.specs.declared.frame.Frame.{Frame}
 pub use Rattle.pool_alloc.specs.declared.frame.Grant.{Grant}
-pub use Rattle.pool_alloc.specs.declared.frame.Grant.TheVariants.{Component as component, Heap as heap, Instance as instance, Memory as one_memory, Stack as stack, Table as one_table}
+pub use Rattle.pool_alloc.specs.declared.frame.Grant.TheVariants.{Component as component, Heap as heap, HeapOver as heap_over, Instance as instance, Memory as one_memory, Stack as stack, Table as one_table}
 pub use Rattle.pool_alloc.specs.declared.frame.Outcome.{Outcome}
 pub use Rattle.pool_alloc.specs.declared.pool_core.PoolCore.{PoolCore}
 pub use Rattle.pool_alloc.specs.declared.pool_core.Settings.{Settings}

@@ -1,6 +1,6 @@
 -- The numbers of a run: the calls on all regions, wherever they are.
 use Rattle.std.specs.Prelude.{List, fold, Option, Some, None}
-use Rattle.pool_run.specs.Imports.{table_calls, PageCalls, added, slot_of, calls_of_instance, calls_kept, calls_in_frame, PoolCore, Grant, instance, component, one_memory, one_table, stack, heap, PlainHeap}
+use Rattle.pool_run.specs.Imports.{table_calls, PageCalls, added, slot_of, calls_of_instance, calls_kept, calls_in_frame, PoolCore, Grant, instance, component, one_memory, one_table, stack, heap, heap_over, PlainHeap}
 use Rattle.pool_run.specs.declared.running_party.RunningParty.{RunningParty}
 
 module _ {P : Type 0} where
@@ -13,6 +13,7 @@ module _ {P : Type 0} where
   with_grant calls (Some (one_table lease)) = added calls (table_calls lease)
   with_grant calls (Some (stack lease)) = added calls lease.stack.slot.region.calls
   with_grant calls (Some (heap lease memory)) = added calls (slot_of memory.memory).region.calls
+  with_grant calls (Some (heap_over lease)) = calls
 
   -- Page calls with those on all regions that a party has: in its frame and in its live grants.
   abbrev pub with_party : PageCalls → RunningParty P → PageCalls

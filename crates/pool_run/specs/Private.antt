@@ -28,7 +28,8 @@ pub record PrivateInstance : Type 0 where
   pub tables : List PrivateTable
 
 -- A live grant: an instance; a component, of which its party has nothing but that it is granted; a memory or a table by itself,
--- which no command asks for; a stack; or a heap, of which it has the slot that its reply named, and a memory.
+-- which no command asks for; a stack; a heap, of which it has the slot that its reply named, and a memory; or a heap over a
+-- memory that was there, which no command asks for.
 pub data PrivateGrant : Type 0 where
   instance_grant : PrivateInstance → PrivateGrant
   component_grant : PrivateGrant
@@ -36,6 +37,7 @@ pub data PrivateGrant : Type 0 where
   table_grant : PrivateTable → PrivateGrant
   stack_grant : PrivateStack → PrivateGrant
   heap_grant : ℕ → PrivateMemory → PrivateGrant
+  heap_over_grant : ℕ → PrivateGrant
 
 -- A party's grants by the numbers of its commands: none where the command is still to come, asked for none or was
 -- refused, or where its grant was given back.

@@ -3,7 +3,7 @@
 use Rattle.std.specs.Prelude.{◌≡◌, ◌≢◌, ℕ, ◌+◌, ◌<◌, ◌≤◌, List, [], ◌∷◌, length, sum_by, slice_index_or, All, ◌⊎◌, Bool, true, false, Option, Some, None, IfSome}
 use Rattle.pool_run.specs.Imports.{MakerTold, plan_for, memory_region, always, AllocError, ConcurrencyKind, MemoryStripe, Tables, GcHeaps, CoreInstances}
 use Rattle.pool_slots.specs.declared.errors.AllocError.TheVariants as alloc
-use Rattle.pool_run.specs.Private.{PrivateMemory, PrivateGrant, instance_grant, component_grant, heap_grant, PrivateState, PrivateStep, Grants, Terms, grant_at, memories_in_grant, tables_in_grant, stacks_in_grant, private_memories, Request, request_of, wants_of, stripe_slots, slots_asked, growth, StepsBy, with_grants, no_grants}
+use Rattle.pool_run.specs.Private.{PrivateMemory, PrivateGrant, instance_grant, component_grant, heap_grant, heap_over_grant, PrivateState, PrivateStep, Grants, Terms, grant_at, memories_in_grant, tables_in_grant, stacks_in_grant, private_memories, Request, request_of, wants_of, stripe_slots, slots_asked, growth, StepsBy, with_grants, no_grants}
 use Rattle.pool_run.specs.PrivateTables.{Host}
 use Rattle.pool_run.specs.Objects.{object_at}
 use Rattle.pool_run.specs.Acts.{MemoryOp, grows, Wanted, an_instance, a_component, a_stack, a_heap, Act, requests, on_memory, act_of}
@@ -52,6 +52,7 @@ components_in _ = 0
 -- The slots of a grant's heaps: it is one heap, or has none.
 abbrev pub heaps_in_grant : PrivateGrant → List ℕ
 heaps_in_grant (heap_grant slot m) = slot ∷ []
+heaps_in_grant (heap_over_grant slot) = slot ∷ []
 heaps_in_grant _ = []
 
 -- How many heaps a live grant has.

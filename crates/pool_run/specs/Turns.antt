@@ -1,6 +1,6 @@
 -- A turn of a party in a run: the next step of its call, or the first step of its next command.
 use Rattle.std.specs.Prelude.{◌≡◌, ℕ, ◌+◌, ◌*◌, ◌<◌, List, [], ◌∷◌, ◌++◌, length, map, replicate, ◌==◌, nat_le, nat_lt, slice_get, slice_index_or, slice_range, slice_set, ◌⊎◌, Bool, true, false, if◌then◌else◌, Option, Some, None, option_map}
-use Rattle.pool_run.specs.Imports.{concat, Told, overwritten, risen, GrowthRule, InPlace, FailsInPlace, IsCallPlanned, MemoryState, bytes_of, memory_written, HeapsTold, listed_heaps, ListedHeaps, ElementKind, Element, width, word, type_of, ListedStore, Lease, IsUsable, PartyTold, LeasedTable, LiesInRegion, no_room, LeasedStack, LeasedHeap, Slot, StackState, plain_written, PlainHeap, begun_call, After, StepsTo, is_idle, PoolCore, Frame, ModuleAsked, Call, Grant, instance, component, one_memory, one_table, stack, heap, Outcome, MemoryOutOfBounds}
+use Rattle.pool_run.specs.Imports.{concat, Told, overwritten, risen, GrowthRule, InPlace, FailsInPlace, IsCallPlanned, MemoryState, bytes_of, memory_written, HeapsTold, listed_heaps, ListedHeaps, ElementKind, Element, width, word, type_of, ListedStore, Lease, IsUsable, PartyTold, LeasedTable, LiesInRegion, no_room, LeasedStack, LeasedHeap, Slot, StackState, plain_written, PlainHeap, begun_call, After, StepsTo, is_idle, PoolCore, Frame, ModuleAsked, Call, Grant, instance, component, one_memory, one_table, stack, heap, heap_over, Outcome, MemoryOutOfBounds}
 use Rattle.pool_limits.specs.declared.errors.GrowError.TheVariants.{PageFault}
 use Rattle.pool_slots.specs.declared.errors.AllocError.TheVariants as alloc
 use Rattle.pool_alloc.specs.declared.frame.Call.TheVariants as call
@@ -9,7 +9,7 @@ use Rattle.pool_run.specs.PartyRules.{rule_of, host_of}
 use Rattle.pool_run.specs.PrivateStacks.{ReadsBytes, PrivateStack}
 use Rattle.pool_run.specs.PrivateTables.{Host, PrivateTable, StoredTable, TableMoves, elements_set}
 use Rattle.pool_run.specs.TableValues.{element_for}
-use Rattle.pool_run.specs.Private.{PrivateMemory, PrivateGrant, instance_grant, component_grant, memory_grant, table_grant, stack_grant, heap_grant, Grants, IsRead, GrowthEnd, as_it_was, could_not, has_grown, growth, size_wanted, memory_grown}
+use Rattle.pool_run.specs.Private.{PrivateMemory, PrivateGrant, instance_grant, component_grant, memory_grant, table_grant, stack_grant, heap_grant, heap_over_grant, Grants, IsRead, GrowthEnd, as_it_was, could_not, has_grown, growth, size_wanted, memory_grown}
 use Rattle.pool_run.specs.Objects.{Objects, MovesObject, object_at}
 use Rattle.pool_run.specs.Acts.{MemoryOp, reads, writes, fills, grows, asks_size, TableOp, sets, Act, requests, on_memory, on_table, drops, purges, releases, act_of, Wanted, an_instance, a_component, a_stack, a_heap, heap_type}
 use Rattle.pool_run.specs.declared.begin.Begun.{Begun}
@@ -160,6 +160,7 @@ module _ {P : Type 0} where
   private_grant (one_table lease) = table_grant (private_table lease)
   private_grant (stack lease) = stack_grant (private_stack lease)
   private_grant (heap lease memory) = heap_grant lease.index (private_memory memory)
+  private_grant (heap_over lease) = heap_over_grant lease.index
 
   -- All live grants of a party, as it sees them.
   abbrev pub grants_of : List (Option (Grant P PlainHeap)) → Grants
@@ -206,7 +207,7 @@ module _ {P : Type 0} where
   abbrev pub ended_at_once : Reply → PoolCore P PlainHeap → RunningParty P → Turned P
   ended_at_once reply c p = ended_with reply c (record p { frame = one_step p.frame })
 
-  -- the reply to a request that was granted; no command asks for a memory or a table by itself
+  -- the reply to a request that was granted; no command asks for a memory or a table by itself, or for a heap over a memory
   abbrev pub granted_reply : Grant P PlainHeap → Reply
   granted_reply (instance lease) = Instance (map (λ l. l.index) lease.memories.items) (map (λ l. l.index) lease.tables.items)
   granted_reply component = Component
@@ -214,6 +215,7 @@ module _ {P : Type 0} where
   granted_reply (one_table lease) = Done
   granted_reply (stack lease) = Stack lease.stack.index
   granted_reply (heap lease memory) = Heap lease.index memory.index
+  granted_reply (heap_over lease) = Done
 
   -- a call's answer, as the party takes it
   abbrev pub answered : Option (Outcome P PlainHeap) → PoolCore P PlainHeap → RunningParty P → Turned P
@@ -275,6 +277,7 @@ module _ {P : Type 0} where
   IsPlain (call.Memory m) = ⊥
   IsPlain (call.Table ty) = ⊥
   IsPlain (call.Heap ty) = ty.page_size_log2 < 64
+  IsPlain (call.HeapOver memory) = ⊥
   IsPlain _ = Unit {0}
 
   -- The call asks for a grant.
@@ -285,6 +288,7 @@ module _ {P : Type 0} where
   asks_grant (call.Table ty) = true
   asks_grant call.Stack = true
   asks_grant (call.Heap ty) = true
+  asks_grant (call.HeapOver memory) = true
   asks_grant _ = false
 
   -- a stack is the only one of its grant
@@ -295,6 +299,7 @@ module _ {P : Type 0} where
   -- The heap of a grant, if it is one.
   abbrev pub heap_of : Grant P PlainHeap → List (LeasedHeap PlainHeap)
   heap_of (heap lease memory) = lease ∷ []
+  heap_of (heap_over lease) = lease ∷ []
   heap_of _ = []
 
   -- A grant with its stack's lease replaced, if it is a stack.

@@ -71,9 +71,8 @@ fn act_on_grant<P: Pages>(
 {
     match grant {
         Grant::Instance(lease) => act_on_instance(alloc, lease, memory, op, limits),
-        Grant::Component | Grant::Memory(_) | Grant::Table(_) => Reply::Refused(
-            Refusal::NoSuchGrant,
-        ),
+        Grant::Component | Grant::Memory(_) | Grant::Table(_) | Grant::HeapOver(_) =>
+            Reply::Refused(Refusal::NoSuchGrant),
         Grant::Stack(lease) => act_on_stack(alloc, &mut lease.stack, memory, op),
         Grant::Heap(_, lease) => act_on_heap(alloc, lease, memory, op, limits),
     }

@@ -95,5 +95,6 @@ fn with_grant<P: Pages>(calls: PageCalls, place: &Option<Grant<P, PlainHeap>>) -
         Some(Grant::Table(lease)) => calls.plus(lease.page_calls()),
         Some(Grant::Stack(lease)) => calls.plus(lease.page_calls()),
         Some(Grant::Heap(_, memory)) => calls.plus(memory.page_calls()),
+        Some(Grant::HeapOver(_)) => calls,
     }
 }

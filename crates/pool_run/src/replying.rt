@@ -96,7 +96,7 @@ fn granted_reply<P: Pages>(slots: SlotLists, grant: &Grant<P, PlainHeap>) -> Rep
             tables: table_slots(slots.tables, lease),
         },
         Grant::Component => Reply::Component,
-        Grant::Memory(_) | Grant::Table(_) => Reply::Done,
+        Grant::Memory(_) | Grant::Table(_) | Grant::HeapOver(_) => Reply::Done,
         Grant::Stack(lease) => Reply::Stack(lease.index()),
         Grant::Heap(lease, memory) => Reply::Heap {
             heap: lease.index().0,

@@ -1,7 +1,7 @@
 -- A command on the bytes of a grant on demand, which is taken out of its place and put back; and what a request for a stack or
 -- for a component gives.
 use Rattle.std.proofs.Common.{◌≡◌, ℕ, zero, suc, ◌+◌, ◌-◌, ◌*◌, ◌/◌, ◌<◌, ◌≤◌, Bool, true, false, List, length, replicate, Option, Some, None, is_some, Result, Ok, Err, ◌⊎◌, inl, inr, refl, sym, ap, ◌∙◌, subst, arith, ◌==◌, if◌then◌else◌, IfSome, option_map, slice_get, slice_set, slice_index_or, slice_range}
-use Rattle.pool_run_on_demand.proofs.Imports.{option_and_then, div-eq_of_lt, nat_tests, map-set, set-get_or, set-set, same_lists, places, length-replicate, slice_get-map, rounded_up_above, told_if, mapped_some, Contents, rounded_up, MakerTold, Told, succeeded, GrowthRule, asked_same, IsSameMaker, IsPlain, StackState, AllocError, guarding, Allocates, IsGiven, no_slot, stack_refused, IsStackMade, AsksForStack, stack_region, OnDemandInstanceAllocator, OnDemandInstance, OnDemandMemory, OnDemandStack, MemoryOp, MovesOnly, Objects, MovesNamed, object_at, with_object, PrivateMemory, PrivateGrant, instance_grant, component_grant, memory_grant, table_grant, stack_grant, heap_grant, private_memories, private_stacks, put_memory, Grants, grant_at, Terms, BeginsStack, StackMoves, StackStateMoves, seen_stack, Reply, a_granted, Refused, NoSuchGrant, mapped_at, state_op_seen}
+use Rattle.pool_run_on_demand.proofs.Imports.{option_and_then, div-eq_of_lt, nat_tests, map-set, set-get_or, set-set, same_lists, places, length-replicate, slice_get-map, rounded_up_above, told_if, mapped_some, Contents, rounded_up, MakerTold, Told, succeeded, GrowthRule, asked_same, IsSameMaker, IsPlain, StackState, AllocError, guarding, Allocates, IsGiven, no_slot, stack_refused, IsStackMade, AsksForStack, stack_region, OnDemandInstanceAllocator, OnDemandInstance, OnDemandMemory, OnDemandStack, MemoryOp, MovesOnly, Objects, MovesNamed, object_at, with_object, PrivateMemory, PrivateGrant, instance_grant, component_grant, memory_grant, table_grant, stack_grant, heap_grant, heap_over_grant, private_memories, private_stacks, put_memory, Grants, grant_at, Terms, BeginsStack, StackMoves, StackStateMoves, seen_stack, Reply, a_granted, Refused, NoSuchGrant, mapped_at, state_op_seen}
 use Rattle.pool_run.specs.declared.reply.Reply.TheVariants.{Stack as in_slot}
 use Rattle.pool_slots.specs.declared.errors.AllocError.TheVariants as alloc
 use Rattle.pool_run_on_demand.specs.OnDemand.{BytesOnDemand, MovesOnDemand, IsUnmadeStack, IsStackUnmade, MakesComponent, MakesStack}
@@ -64,6 +64,7 @@ module _ (op : MemoryOp) (rule : GrowthRule) (k : ℕ) where
   bytes_of of gs (memory_grant m) moved reply has is = put_named private_memories (MovesOnDemand op rule) of gs (memory_grant m) moved reply has is
   bytes_of of gs (table_grant x) moved reply has is = put_named private_memories (MovesOnDemand op rule) of gs (table_grant x) moved reply has is
   bytes_of of gs (heap_grant slot m) moved reply has is = put_named private_memories (MovesOnDemand op rule) of gs (heap_grant slot m) moved reply has is
+  bytes_of of gs (heap_over_grant slot) moved reply has is = put_named private_memories (MovesOnDemand op rule) of gs (heap_over_grant slot) moved reply has is
   bytes_of of gs (stack_grant s) moved reply has is = put_named private_stacks (StackMoves op) of gs (stack_grant s) moved reply has is
 
   module _ {M L P : Type 0} (tells : Bool) (of : ℕ) where

@@ -93,7 +93,7 @@ pub use Rattle.pool_run.specs.HeapFaults.{asks_heap, is_heap_fault}
 pub use Rattle.pool_run.specs.Made.{call_made, calls_made}
 pub use Rattle.pool_run.specs.Objects.{MovesNamed, MovesObject, Objects, object_at, with_object}
 pub use Rattle.pool_run.specs.PartyRules.{host_for, host_of, rule_of}
-pub use Rattle.pool_run.specs.Private.{CountsRefused, Drops, Grants, Grows, GrowthEnd, IsRead, MemoryMoves, PrivateGrant, PrivateInstance, PrivateMemory, PrivateState, Request, StepsBy, Terms, Writes, as_it_was, begun, begun_instance, begun_memory, begun_table, component_grant, could_not, grant_at, growth, has_grown, has_images, heap_grant, heap_memory, images_of, instance_grant, left_of, memory_grant, memory_grown, module_of, no_grants, private_memories, private_stacks, private_tables, private_written, put_memory, put_stack, put_table, reported, request_of, size_wanted, stack_grant, table_at, table_grant, tables_named_in, wants_of, with_grants, with_table}
+pub use Rattle.pool_run.specs.Private.{CountsRefused, Drops, Grants, Grows, GrowthEnd, IsRead, MemoryMoves, PrivateGrant, PrivateInstance, PrivateMemory, PrivateState, Request, StepsBy, Terms, Writes, as_it_was, begun, begun_instance, begun_memory, begun_table, component_grant, could_not, grant_at, growth, has_grown, has_images, heap_grant, heap_memory, heap_over_grant, images_of, instance_grant, left_of, memory_grant, memory_grown, module_of, no_grants, private_memories, private_stacks, private_tables, private_written, put_memory, put_stack, put_table, reported, request_of, size_wanted, stack_grant, table_at, table_grant, tables_named_in, wants_of, with_grants, with_table}
 pub use Rattle.pool_run.specs.PrivateStacks.{BeginsStack, PrivateStack, ReadsBytes, StackMoves, StackWrites, WritesBytes, stack_written}
 pub use Rattle.pool_run.specs.PrivateTables.{Host, IsGot, PrivateTable, StoredTable, TableMoves, calls_after, calls_through, filled_by, goes_through, kind_filled, table_filled, table_growth, table_left, table_report}
 pub use Rattle.pool_run.specs.Rooms.{World, open_host, under}

@@ -9,13 +9,13 @@ use Rattle.pool_alloc.specs.PlainModules.{ModuleAsked}
 use Rattle.pool_alloc.specs.TableLeases.{LeasedTable}
 use Rattle.pool_alloc.specs.Turns.{all_returned, returned_next}
 use Rattle.pool_alloc.specs.declared.frame.Asked.{Asked}
-use Rattle.pool_alloc.specs.declared.frame.Asked.TheVariants.{Nothing as nothing_asked, Module as module_asked, Memory as memory_asked, Table as table_asked, Stack as stack_asked, Heap as heap_asked}
+use Rattle.pool_alloc.specs.declared.frame.Asked.TheVariants.{Nothing as nothing_asked, Module as module_asked, Memory as memory_asked, Table as table_asked, Stack as stack_asked, Heap as heap_asked, HeapOver as heap_over_asked}
 use Rattle.pool_alloc.specs.declared.frame.Call.{Call}
 use Rattle.pool_alloc.specs.declared.frame.Call.TheVariants as call
 use Rattle.pool_alloc.specs.declared.frame.Ending.TheVariants.{Returned as returned}
 use Rattle.pool_alloc.specs.declared.frame.Frame.{Frame}
 use Rattle.pool_alloc.specs.declared.frame.Grant.{Grant}
-use Rattle.pool_alloc.specs.declared.frame.Grant.TheVariants.{Instance, Component, Memory, Table, Stack, Heap}
+use Rattle.pool_alloc.specs.declared.frame.Grant.TheVariants.{Instance, Component, Memory, Table, Stack, Heap, HeapOver}
 use Rattle.pool_driver.specs.Calling.{CallKind, asks_for, asks_component, components_of, draws_key, gives_back, instances_of, kind_at, objects_of, purges as purges_kind, releases as releases_kind}
 use Rattle.pool_driver.proofs.Calling.{begun_kind}
 use Rattle.pool_run.specs.Acts.{Act, requests, on_memory, on_table, drops, purges, releases, act_of, Wanted, an_instance, a_component, a_stack, a_heap, heap_type}
@@ -73,6 +73,7 @@ module _ {P : Type 0} where
   all_home nothing_asked f = refl
   all_home (module_asked m) f = refl
   all_home (heap_asked ty) f = refl
+  all_home (heap_over_asked memory) f = refl
 
   returned_home : (ms : List Lease) (ts : List LeasedTable) (f : Frame P PlainHeap) → (returned_next ms ts f).frame.home ≡ f.home
   returned_home (l ∷ ls) ts f = refl
@@ -90,11 +91,13 @@ module _ {P : Type 0} where
   begun_home (call.Table ty) f = refl
   begun_home call.Stack f = refl
   begun_home (call.Heap ty) f = refl
+  begun_home (call.HeapOver memory) f = refl
   begun_home (call.GiveBack (Memory lease)) f = refl
   begun_home (call.GiveBack (Table lease)) f = refl
   begun_home (call.GiveBack (Stack lease)) f = refl
   begun_home (call.GiveBack Component) f = refl
   begun_home (call.GiveBack (Heap lease memory)) f = refl
+  begun_home (call.GiveBack (HeapOver lease)) f = refl
   begun_home (call.GiveBack (Instance lease)) f = returned_home lease.memories.items lease.tables.items (record f { asked = nothing_asked; objects = lease; ending = returned })
 
   is_by_kind : (f : Frame P PlainHeap) (k : Scarce) → call_asks f k ≡ by_kind (kind_at (stage_of f)) f.asked k

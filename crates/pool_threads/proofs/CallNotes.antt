@@ -13,7 +13,7 @@ use Rattle.pool_slots.specs.declared.listed_heaps.PlainHeap.{PlainHeap}
 use Rattle.pool_alloc.specs.CallStages.{stage_of}
 use Rattle.pool_alloc.specs.declared.frame.Asked.{Asked}
 use Rattle.pool_alloc.specs.declared.frame.Frame.{Frame}
-use Rattle.pool_alloc.specs.declared.frame.Grant.TheVariants.{Instance, Component, Memory, Table, Stack, Heap}
+use Rattle.pool_alloc.specs.declared.frame.Grant.TheVariants.{Instance, Component, Memory, Table, Stack, Heap, HeapOver}
 use Rattle.pool_alloc.specs.declared.frame.Outcome.{Outcome}
 use Rattle.pool_alloc.specs.declared.frame.Outcome.TheVariants as answer
 use Rattle.pool_alloc.specs.declared.pool_core.PoolCore.{PoolCore}
@@ -159,3 +159,4 @@ call_notes a base v first f (answer.Granted (Memory lease)) c p ended grows = pl
 call_notes a base v first f (answer.Granted (Table lease)) c p ended grows = plain a base v first f (answer.Granted (Table lease)) ended grows
 call_notes a base v first f (answer.Granted (Stack lease)) c p ended grows = plain a base v first f (answer.Granted (Stack lease)) ended grows
 call_notes a base v first f (answer.Granted (Heap lease memory)) c p ended grows = plain a base v first f (answer.Granted (Heap lease memory)) ended grows
+call_notes a base v first f (answer.Granted (HeapOver lease)) c p ended grows = plain a base v first f (answer.Granted (HeapOver lease)) ended grows

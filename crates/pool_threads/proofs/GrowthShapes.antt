@@ -9,7 +9,7 @@ use Rattle.pool_limits.specs.Growth.{GrowthRule}
 use Rattle.pool_run.specs.Acts.{Act, MemoryOp, TableOp, Wanted, a_component, a_heap, a_stack, act_of, an_instance, asks_size, drops, fills, grows, heap_type, on_memory, on_table, purges, reads, releases, requests, writes}
 use Rattle.pool_run.specs.GrowthEnds.{GrowthEnd, as_it_was, could_not, has_grown}
 use Rattle.pool_run.specs.Objects.{MovesNamed, MovesObject, Objects, object_at, with_object}
-use Rattle.pool_run.specs.Private.{AsksForComponent, AsksForHeap, AsksForStack, Drops, Grants, Instantiates, MemoryMoves, Moves, MovesBytes, PrivateGrant, PrivateMemory, PrivateState, Requests, StepsBy, Terms, Writes, begun, begun_memory, component_grant, grant_at, growth, heap_grant, heap_memory, instance_grant, left_of, memories_named_in, memory_grant, no_grants, private_memories, private_stacks, put_stack, put_table, request_of, size_wanted, stack_grant, table_at, table_grant, with_table}
+use Rattle.pool_run.specs.Private.{AsksForComponent, AsksForHeap, AsksForStack, Drops, Grants, Instantiates, MemoryMoves, Moves, MovesBytes, PrivateGrant, PrivateMemory, PrivateState, Requests, StepsBy, Terms, Writes, begun, begun_memory, component_grant, grant_at, growth, heap_grant, heap_memory, heap_over_grant, instance_grant, left_of, memories_named_in, memory_grant, no_grants, private_memories, private_stacks, put_stack, put_table, request_of, size_wanted, stack_grant, table_at, table_grant, with_table}
 use Rattle.pool_run.specs.PrivateStacks.{PrivateStack, StackMoves}
 use Rattle.pool_run.specs.PrivateTables.{PrivateTable, StoredTable, TableMoves}
 use Rattle.pool_run.specs.Rooms.{PooledStep, World}
@@ -56,6 +56,7 @@ changed_shape k m (memory_grant old) = refl
 changed_shape k m (table_grant t) = refl
 changed_shape k m (stack_grant s) = refl
 changed_shape k m (heap_grant slot old) = one_set shape k m old
+changed_shape k m (heap_over_grant slot) = refl
 
 are_shapes : AreSeen private_memories listed shapes_in shape
 are_shapes = record { same = λ g. refl; changed = changed_shape }
@@ -120,6 +121,7 @@ stack_shape k s (memory_grant m) = refl
 stack_shape k s (table_grant t) = refl
 stack_shape k s (stack_grant old) = refl
 stack_shape k s (heap_grant slot m) = refl
+stack_shape k s (heap_over_grant slot) = refl
 
 table_shape : (k : ℕ) (t : PrivateTable) (x : Option PrivateGrant) → option_map shapes_in (option_map (put_table k t) x) ≡ option_map shapes_in x
 table_shape k t None = refl
@@ -129,6 +131,7 @@ table_shape k t (Some (memory_grant m)) = refl
 table_shape k t (Some (table_grant old)) = refl
 table_shape k t (Some (stack_grant s)) = refl
 table_shape k t (Some (heap_grant slot m)) = refl
+table_shape k t (Some (heap_over_grant slot)) = refl
 
 -- An operation on bytes.
 memory_shapes : (op : MemoryOp) (rule : GrowthRule) (of k : ℕ) (grants new : Grants) (r : Reply) → MovesObject private_memories (MemoryMoves op rule) of k grants r new → shapes_of new ≡ named_after rule op of k r (shapes_of grants) (object_at listed of k (shapes_of grants))
@@ -154,6 +157,7 @@ bytes_shapes op rule (Some (memory_grant m)) of k grants new r has is = memory_s
 bytes_shapes op rule (Some (table_grant t)) of k grants new r has is = memory_shapes op rule of k grants new r is
 bytes_shapes op rule (Some (stack_grant s)) of k grants new r has is = stack_shapes op rule s of k grants new r has is
 bytes_shapes op rule (Some (heap_grant slot m)) of k grants new r has is = memory_shapes op rule of k grants new r is
+bytes_shapes op rule (Some (heap_over_grant slot)) of k grants new r has is = memory_shapes op rule of k grants new r is
 
 -- What a request makes of its place: nothing, or the memories that are granted.
 abbrev granted_shapes : Terms → Wanted → Reply → Option (List PrivateMemory)

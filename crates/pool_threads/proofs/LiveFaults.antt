@@ -17,7 +17,7 @@ use Rattle.pool_alloc.specs.Leases.{Lease}
 use Rattle.pool_alloc.specs.StackLeases.{LeasedStack}
 use Rattle.pool_alloc.specs.TableLeases.{LeasedTable}
 use Rattle.pool_alloc.specs.declared.frame.Grant.{Grant}
-use Rattle.pool_alloc.specs.declared.frame.Grant.TheVariants.{Instance, Component, Memory, Table, Stack, Heap}
+use Rattle.pool_alloc.specs.declared.frame.Grant.TheVariants.{Instance, Component, Memory, Table, Stack, Heap, HeapOver}
 use Rattle.pool_alloc.specs.declared.pool_core.PoolCore.{PoolCore}
 use Rattle.pool_alloc.specs.declared.pool_core.Settings.{Settings}
 use Rattle.pool_slots.specs.declared.plan.Plan.{Plan}
@@ -131,6 +131,7 @@ module _ {P : Type 0} where
   memory_set k (Table lease) old changed there keeps kept = kept
   memory_set k (Stack lease) old changed there keeps kept = kept
   memory_set k (Heap lease memory) old changed there keeps kept = heap_keeps_set k memory old changed there keeps kept
+  memory_set k (HeapOver lease) old changed there keeps kept = kept
 
   table_set : (k : ℕ) (grant : Grant P PlainHeap) (old changed : LeasedTable) → slice_get (tables_named grant) k ≡ Some old → (TableKeeps old → TableKeeps changed) → GrantKeeps grant → GrantKeeps (with_table_lease k changed grant)
   table_set k (Instance lease) old changed there keeps kept = (kept.0, each_set TableKeeps lease.tables.items k old changed there keeps kept.1)
@@ -139,6 +140,7 @@ module _ {P : Type 0} where
   table_set k (Table lease) old changed there keeps kept = kept
   table_set k (Stack lease) old changed there keeps kept = kept
   table_set k (Heap lease memory) old changed there keeps kept = kept
+  table_set k (HeapOver lease) old changed there keeps kept = kept
 
   stack_set : (k : ℕ) (grant : Grant P PlainHeap) (old changed : LeasedStack) → slice_get (stack_of grant) k ≡ Some old → (StackKeeps old → StackKeeps changed) → GrantKeeps grant → GrantKeeps (with_stack_lease k changed grant)
   stack_set k (Instance lease) old changed there keeps kept = kept
@@ -148,6 +150,7 @@ module _ {P : Type 0} where
   stack_set zero (Stack lease) old changed there keeps kept = keeps (let same : lease ≡ old = cc in subst StackKeeps same kept)
   stack_set (suc k) (Stack lease) old changed there keeps kept = absurd cc
   stack_set k (Heap lease memory) old changed there keeps kept = kept
+  stack_set k (HeapOver lease) old changed there keeps kept = kept
 
   -- Each live grant keeps what it has of faults.
   abbrev pub AllKeep : List (Option (Grant P PlainHeap)) → Type 0
@@ -185,6 +188,7 @@ module _ {P : Type 0} where
     bytes_keep (Some (Table lease)) op of k live reply is all = memory_moved op of k live reply is all
     bytes_keep (Some (Stack lease)) op of k live reply is all = stack_moved op of k live reply is all
     bytes_keep (Some (Heap lease memory)) op of k live reply is all = memory_moved op of k live reply is all
+    bytes_keep (Some (HeapOver lease)) op of k live reply is all = memory_moved op of k live reply is all
 
     -- and none on a table does.
     pub table_keep : (op : TableOp) (of k : ℕ) (live : List (Option (Grant P PlainHeap))) (store : ListedStore) (reply : Reply) → MovesObject table_leases (MovesTable op (rule_of p.limits) p.store store) of k p.live reply live → AllKeep p.live → AllKeep live

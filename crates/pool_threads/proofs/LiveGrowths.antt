@@ -12,7 +12,7 @@ use Rattle.pool_alloc.specs.Leases.{Lease}
 use Rattle.pool_alloc.specs.StackLeases.{LeasedStack}
 use Rattle.pool_alloc.specs.TableLeases.{LeasedTable}
 use Rattle.pool_alloc.specs.declared.frame.Grant.{Grant}
-use Rattle.pool_alloc.specs.declared.frame.Grant.TheVariants.{Instance, Component, Memory, Table, Stack, Heap}
+use Rattle.pool_alloc.specs.declared.frame.Grant.TheVariants.{Instance, Component, Memory, Table, Stack, Heap, HeapOver}
 use Rattle.pool_alloc.specs.declared.pool_core.PoolCore.{PoolCore}
 use Rattle.pool_table.specs.declared.gc_store.ListedStore.{ListedStore}
 use Rattle.pool_run.specs.Acts.{Act, MemoryOp, TableOp, on_memory}
@@ -74,6 +74,7 @@ module _ {P : Type 0} where
   lease_set k l (Table lease) = refl
   lease_set k l (Stack lease) = refl
   lease_set k l (Heap lease memory) = one_set k l memory
+  lease_set k l (HeapOver lease) = refl
 
   table_same : (k : ℕ) (t : LeasedTable) (g : Grant P PlainHeap) → leases_named (with_table_lease k t g) ≡ leases_named g
   table_same k t (Instance lease) = refl
@@ -82,6 +83,7 @@ module _ {P : Type 0} where
   table_same k t (Table lease) = refl
   table_same k t (Stack lease) = refl
   table_same k t (Heap lease memory) = refl
+  table_same k t (HeapOver lease) = refl
 
   stack_same : (k : ℕ) (s : LeasedStack) (g : Grant P PlainHeap) → leases_named (with_stack_lease k s g) ≡ leases_named g
   stack_same k s (Instance lease) = refl
@@ -90,6 +92,7 @@ module _ {P : Type 0} where
   stack_same k s (Table lease) = refl
   stack_same k s (Stack lease) = refl
   stack_same k s (Heap lease memory) = refl
+  stack_same k s (HeapOver lease) = refl
 
   -- memory k of a grant that may be there
   abbrev lease_in : ℕ → Option (Grant P PlainHeap) → Option Lease
@@ -131,6 +134,7 @@ module _ {P : Type 0} where
   reply_names k (Table lease) l there = absurd cc
   reply_names k (Stack lease) l there = absurd cc
   reply_names k (Heap lease memory) l there = slot_of_one k memory l there
+  reply_names k (HeapOver lease) l there = absurd cc
 
   names_at : (replies : List Reply) (of k : ℕ) (x : Option (Grant P PlainHeap)) (l : Lease) → IfSome x (λ g. slice_get replies of ≡ Some (granted_reply g)) → lease_in k x ≡ Some l → slot_named of k replies ≡ Some l.index
   names_at replies of k None l named there = absurd cc
@@ -257,6 +261,7 @@ module _ {P : Type 0} where
     bytes_counts (Some (Table lease)) op grant place live reply has is = memory_counts op grant place live reply is
     bytes_counts (Some (Stack lease)) op grant place live reply has is = stack_counts op lease grant place live reply has is
     bytes_counts (Some (Heap lease memory)) op grant place live reply has is = memory_counts op grant place live reply is
+    bytes_counts (Some (HeapOver lease)) op grant place live reply has is = memory_counts op grant place live reply is
 
     -- and one on a table.
     pub table_loses : (op : TableOp) (grant place : ℕ) (live : List (Option (Grant P PlainHeap))) (store : ListedStore) (reply : Reply) → MovesObject table_leases (MovesTable op (rule_of p.limits) p.store store) grant place p.live reply live → Loses p.live live

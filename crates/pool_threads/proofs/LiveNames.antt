@@ -10,7 +10,7 @@ use Rattle.pool_alloc.specs.Leases.{Lease}
 use Rattle.pool_alloc.specs.StackLeases.{LeasedStack}
 use Rattle.pool_alloc.specs.TableLeases.{LeasedTable}
 use Rattle.pool_alloc.specs.declared.frame.Grant.{Grant}
-use Rattle.pool_alloc.specs.declared.frame.Grant.TheVariants.{Instance, Component, Memory, Table, Stack, Heap}
+use Rattle.pool_alloc.specs.declared.frame.Grant.TheVariants.{Instance, Component, Memory, Table, Stack, Heap, HeapOver}
 use Rattle.pool_alloc.specs.declared.frame.Outcome.{Outcome}
 use Rattle.pool_alloc.specs.declared.frame.Outcome.TheVariants as answer
 use Rattle.pool_alloc.specs.declared.pool_core.PoolCore.{PoolCore}
@@ -82,6 +82,7 @@ module _ {P : Type 0} where
   lease_reply k (Table lease) old new there same = refl
   lease_reply k (Stack lease) old new there same = refl
   lease_reply k (Heap lease memory) old new there same = heap_reply k lease.index memory old new there same
+  lease_reply k (HeapOver lease) old new there same = refl
 
   table_reply : (k : ℕ) (grant : Grant P PlainHeap) (old new : LeasedTable) → slice_get (tables_named grant) k ≡ Some old → new.index ≡ old.index → granted_reply (with_table_lease k new grant) ≡ granted_reply grant
   table_reply k (Instance lease) old new there same = ap (λ (ns : List ℕ). reply.Instance (map (λ (l : Lease). l.index) lease.memories.items) ns) (same_marks (λ (l : LeasedTable). l.index) lease.tables.items k old new there same)
@@ -90,6 +91,7 @@ module _ {P : Type 0} where
   table_reply k (Table lease) old new there same = refl
   table_reply k (Stack lease) old new there same = refl
   table_reply k (Heap lease memory) old new there same = refl
+  table_reply k (HeapOver lease) old new there same = refl
 
   stack_reply : (k : ℕ) (grant : Grant P PlainHeap) (old new : LeasedStack) → slice_get (stack_of grant) k ≡ Some old → new.stack.index ≡ old.stack.index → granted_reply (with_stack_lease k new grant) ≡ granted_reply grant
   stack_reply k (Instance lease) old new there same = refl
@@ -99,6 +101,7 @@ module _ {P : Type 0} where
   stack_reply zero (Stack lease) old new there same = ap reply.Stack (same ∙ (let is : lease ≡ old = cc in ap (λ (x : LeasedStack). x.stack.index) (sym is)))
   stack_reply (suc k) (Stack lease) old new there same = absurd cc
   stack_reply k (Heap lease memory) old new there same = refl
+  stack_reply k (HeapOver lease) old new there same = refl
 
   -- the reply to command i is that of its live grant
   abbrev Names : List Reply → ℕ → Grant P PlainHeap → Type 0
@@ -168,6 +171,7 @@ module _ {P : Type 0} where
     bytes_named (Some (Table lease)) op of k live r is = memory_named op of k live r is
     bytes_named (Some (Stack lease)) op of k live r is = stack_named op of k live r is
     bytes_named (Some (Heap lease memory)) op of k live r is = memory_named op of k live r is
+    bytes_named (Some (HeapOver lease)) op of k live r is = memory_named op of k live r is
 
     -- and so does one on a table.
     pub table_named : (op : TableOp) (of k : ℕ) (live : List (Option (Grant P PlainHeap))) (store : ListedStore) (r : Reply) → MovesObject table_leases (MovesTable op (rule_of p.limits) p.store store) of k p.live r live → KeepsNames p.live live

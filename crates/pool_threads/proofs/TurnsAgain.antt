@@ -8,7 +8,7 @@ use Rattle.pool_slots.specs.declared.listed_heaps.PlainHeap.{PlainHeap}
 use Rattle.pool_alloc.specs.Places.{Counts, Weight, counted_component, counted_instance, counted_object, counters_counted, right_to, region_of}
 use Rattle.pool_alloc.specs.Stepping.{grant_count, grant_counted, grant_weight}
 use Rattle.pool_alloc.specs.declared.frame.Grant.{Grant}
-use Rattle.pool_alloc.specs.declared.frame.Grant.TheVariants.{Instance, Component, Memory, Table, Stack, Heap}
+use Rattle.pool_alloc.specs.declared.frame.Grant.TheVariants.{Instance, Component, Memory, Table, Stack, Heap, HeapOver}
 use Rattle.pool_alloc.specs.declared.pool_core.Counters.{Counters}
 use Rattle.pool_alloc.specs.declared.pool_core.PoolCore.{PoolCore}
 use Rattle.pool_driver.specs.Driving.{counted_by}
@@ -56,6 +56,7 @@ module _ {P : Type 0} where
   grant_counters (Table lease) = record none_counted { tables = 1 }
   grant_counters (Stack lease) = record none_counted { stacks = 1 }
   grant_counters (Heap lease memory) = record none_counted { gc_heaps = 1; memories = 1 }
+  grant_counters (HeapOver lease) = record none_counted { gc_heaps = 1 }
 
   abbrev live_counters : List (Option (Grant P PlainHeap)) → Counters
   live_counters [] = none_counted
@@ -69,6 +70,7 @@ module _ {P : Type 0} where
   grant_counts n (Table lease) = omega arith
   grant_counts n (Stack lease) = omega arith
   grant_counts n (Heap lease memory) = omega arith
+  grant_counts n (HeapOver lease) = omega arith
 
   live_counts : (n : Counts) (live : List (Option (Grant P PlainHeap))) → sum_by (granted_to (grant_counted n)) live ≡ counters_counted n (live_counters live)
   live_counts n [] = omega arith

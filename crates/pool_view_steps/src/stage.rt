@@ -110,6 +110,7 @@ pub fn kind_next<P: Pages>(frame: &Frame<P, PlainHeap>) -> SlotKind {
                 SlotKind::Heap
             }
         }
+        Asked::HeapOver(_) => SlotKind::Heap,
         Asked::Memory(_) => SlotKind::Memory,
         _ => SlotKind::Table,
     }
@@ -277,7 +278,7 @@ fn stage_of_drop<P: Pages>(grant: Option<&Grant<P, PlainHeap>>) -> (Stage, Part)
         Some(Grant::Memory(_)) => counts_down(CounterName::Memories),
         Some(Grant::Table(_)) => counts_down(CounterName::Tables),
         Some(Grant::Stack(_)) => counts_down(CounterName::Stacks),
-        Some(Grant::Heap(_, _)) => counts_down(CounterName::GcHeaps),
+        Some(Grant::Heap(_, _)) | Some(Grant::HeapOver(_)) => counts_down(CounterName::GcHeaps),
     }
 }
 
