@@ -38,20 +38,20 @@ module _ {R : Type 0} (told : R → LimiterTold) (leads : R → Exchange → R �
 
 -- What a call is given of these answers. Where it passed an answer that isn't yes, that was the one after all that were.
 next_yes : (m : ℕ) (last answer : Result Bool LimiterError) → answer ≡ next_answer m last → answer ≢ Ok true → (m ≡ 0) × (answer ≡ last)
-next_yes zero last answer is no = (refl, is)
-next_yes (suc n) last answer is no = absurd (no is)
+next_yes zero last answer is differs = (refl, is)
+next_yes (suc n) last answer is differs = absurd (differs is)
 
 next_last : (m : ℕ) (last : Result Bool LimiterError) → m ≡ 0 → Ok true ≡ next_answer m last → last ≡ Ok true
 next_last zero last none is = sym is
 next_last (suc n) last none is = absurd (omega (arith, none))
 
 stops_at : (qs : List GrowthQuestion) (k : ℕ) (q question : GrowthQuestion) (answer : Result Bool LimiterError) (first last : GivenAnswers) → slice_get qs k ≡ Some q → Exchanged leads_given (all_yes (take k qs) ++ may_grow question answer ∷ []) first last → answer ≢ Ok true → (first.yes ≡ k) × (first.last ≡ answer)
-stops_at [] k q question answer first last there done no = absurd cc
-stops_at (x ∷ qs) zero q question answer first last there done no = let n = next_yes first.yes first.last answer done.1.0.is no in (n.0, sym n.1)
-stops_at (x ∷ qs) (suc k) q question answer first last there done no =
-    let more = stops_at qs k q question answer done.0 last there done.1.1 no in
+stops_at [] k q question answer first last there done differs = absurd cc
+stops_at (x ∷ qs) zero q question answer first last there done differs = let n = next_yes first.yes first.last answer done.1.0.is differs in (n.0, sym n.1)
+stops_at (x ∷ qs) (suc k) q question answer first last there done differs =
+    let more = stops_at qs k q question answer done.0 last there done.1.1 differs in
     let same : first.last ≡ answer = sym done.1.0.same ∙ more.1 in
-    (stops_on first.yes done.0.yes k (λ none. no (sym same ∙ next_last first.yes first.last none done.1.0.is)) done.1.0.fewer more.0, same)
+    (stops_on first.yes done.0.yes k (λ none. differs (sym same ∙ next_last first.yes first.last none done.1.0.is)) done.1.0.fewer more.0, same)
   where
     stops_on : (m left k : ℕ) → ((m ≡ 0) → ⊥) → left ≡ m - 1 → left ≡ k → m ≡ suc k
     stops_on zero left k some' less is = absurd (some' refl)
@@ -65,17 +65,17 @@ all_given (q ∷ qs) first last done below = all_on first.yes done.0.yes (λ non
     all_on zero left none more less inside = none refl
     all_on (suc n) left none more less inside = more (omega (arith, less, inside))
 
-no_yes : Ok {A = Bool} {E = LimiterError} true ≡ Ok false → ⊥
+no_yes : ◌≡◌ {A = Result Bool LimiterError} (Ok true) (Ok false) → ⊥
 no_yes is = absurd cc
 
-no_yes' : (e : LimiterError) → Ok {A = Bool} {E = LimiterError} true ≡ Err e → ⊥
+no_yes' : (e : LimiterError) → ◌≡◌ {A = Result Bool LimiterError} (Ok true) (Err e) → ⊥
 no_yes' e is = absurd cc
 
 module _ {R X P H : Type 0} (told : R → LimiterTold) (leads : R → Exchange → R → Type 0) (what : Asked) (of : X → Grant P H) (many : ℕ) (answer : Result Bool LimiterError) (before after : Option R) (first last : GivenAnswers) (is_yes : first.yes ≡ many) (is_last : first.last ≡ answer) where
   -- the answers as a call was given them that was stopped by one
   stopped_there : (given : Result Bool LimiterError) (passed : List Exchange) → StoppedBy what given passed → Exchanged leads_given passed first last → given ≢ Ok true → (number : ℕ) × ((many ≡ number) × (answer ≡ given))
-  stopped_there given passed stop done no =
-      let at = stops_at (questions what) stop.number stop.question stop.question given first last stop.is (subst (λ (es : List Exchange). Exchanged leads_given es first last) stop.all done) no in
+  stopped_there given passed stop done differs =
+      let at = stops_at (questions what) stop.number stop.question stop.question given first last stop.is (subst (λ (es : List Exchange). Exchanged leads_given es first last) stop.all done) differs in
       (stop.number, (sym is_yes ∙ at.0, sym is_last ∙ at.1))
 
   asked_first : (result : Result X AllocError) (Silent ForHeap : Type 0) {old new : PartyTold} → ((x : X) (passed : List Exchange) → AnsweredAfter what (Granted (of x)) passed → passed ≡ all_yes (questions what)) → HasAskedAll told leads (questions what) many answer before after → HasAsked leads_given Silent ForHeap (AnsweredAfter what (outcome_of of result)) first last old new (outcome_of of result) → AskedFirst told leads what result before after
@@ -114,7 +114,7 @@ module _ {R X P H : Type 0} (told : R → LimiterTold) (leads : R → Exchange �
   }
 
   -- So a limiter was asked first that is lent with a request,
-  asked_wants : HasAskedAll told leads (questions what) many answer before after → AskedFirst told leads {X = X} what (Err refusal.Memory) before after
+  asked_wants : HasAskedAll told leads (questions what) many answer before after → AskedFirst {X = X} told leads what (Err refusal.Memory) before after
   asked_wants (inl asked) = record { passed = all_yes (questions what); passes = asked.1.1; answered = inl refl }
   asked_wants (inr asked) = record {
     passed = all_yes (take many (questions what)) ++ may_grow asked.0 answer ∷ [];
@@ -142,8 +142,8 @@ module _ {R D : Type 0} (told : R → LimiterTold) (leads : R → Exchange → R
 
   -- or another one ends it.
   pub asks_off : (answer : Result Bool LimiterError) → answer ≢ Ok true → Passes told leads (may_grow (q (get_or ds n d)) answer ∷ []) mid after → HasAskedAll told leads (map q ds) n answer before after
-  asks_off answer no one =
-      inr (q (get_or ds n d), (slice_get-get_or (map q ds) n (q d) (omega (arith, below, length-map ds q)) ∙ ap Some (get_or-map q ds n d), (no, passes_on told leads (all_yes (take n (map q ds))) (may_grow (q (get_or ds n d)) answer ∷ []) before mid after asked one)))
+  asks_off answer differs one =
+      inr (q (get_or ds n d), (slice_get-get_or (map q ds) n (q d) (omega (arith, below, length-map ds q)) ∙ ap Some (get_or-map q ds n d), (differs, passes_on told leads (all_yes (take n (map q ds))) (may_grow (q (get_or ds n d)) answer ∷ []) before mid after asked one)))
 
 -- All were yes.
 pub asks_all : {R D : Type 0} (told : R → LimiterTold) (leads : R → Exchange → R → Type 0) (q : D → GrowthQuestion) (ds : List D) (n : ℕ) (before after : Option R) → length ds ≤ n → n ≤ length ds → Passes told leads (all_yes (take n (map q ds))) before after → HasAskedAll told leads (map q ds) (length ds) (Ok true) before after
