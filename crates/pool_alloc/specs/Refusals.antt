@@ -43,6 +43,22 @@ abbrev pub long_table : Settings → ℕ → List TableType → Option Unsupport
 long_table s i [] = None
 long_table s i (ty ∷ tys) = option_or (if nat_lt s.table_elements ty.limits.min then Some (TableExceedsSlot i ty.limits.min s.table_elements) else None) (long_table s (i + 1) tys)
 
+-- The first rule that the memories of a module break by themselves: where images begin, limits, how many there are, and what fits a slot.
+abbrev pub memories_refused : Settings → List MemoryDecl → Option Unsupported
+memories_refused s memories =
+    option_or (first_refused (λ (d : MemoryDecl). offset_refused s.page d.image) memories)
+    (option_or (first_refused (λ (d : MemoryDecl). refused_limits d.ty.limits) memories)
+    (option_or (number_refused s (length memories))
+    (first_refused (λ (d : MemoryDecl). memory_refused s d.ty) memories)))
+
+-- The first rule that the tables of a module break by themselves, in a pool with so many slots for tables: limits, how many there are, and
+-- how many elements a table may have.
+abbrev pub table_types_refused : Settings → ℕ → List TableType → Option Unsupported
+table_types_refused s total tables =
+    option_or (first_refused (λ (ty : TableType). refused_limits ty.limits) tables)
+    (option_or (tables_refused s total (length tables))
+    (long_table s 0 tables))
+
 -- how many bytes the state of an instance of the module takes, as far as 64 bits tell it: what the runtime keeps of it, and
 -- all its parts
 abbrev pub instance_size : ModuleInfo → ℕ

@@ -3,7 +3,7 @@ ghost use Rattle.std.specs.Prelude.{◌≡◌};
 ghost use Rattle.pool_alloc.specs.Closing.{all_free};
 ghost use Rattle.pool_alloc.specs.PoolTotals.{warm_slots, resident_sum, calls_of_parts};
 
-mod numbers;
+pub(crate) mod numbers;
 mod place;
 
 use pool_index::SlotKind;

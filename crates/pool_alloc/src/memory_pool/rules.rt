@@ -2,7 +2,7 @@
 ghost use Rattle.std.specs.Prelude.{◌≡◌, ◌<◌, ◌%◌, ◌==◌, if◌then◌else◌, Some, None};
 ghost use Rattle.pool_types.specs.MemoryTypes.{refused_limits};
 ghost use Rattle.pool_alloc.specs.CanStep.{CanValidate};
-ghost use Rattle.pool_alloc.specs.Refusals.{type_refused, first_refused, offset_refused, number_refused, memory_refused};
+ghost use Rattle.pool_alloc.specs.Refusals.{type_refused, first_refused, offset_refused, number_refused, memories_refused, memory_refused};
 
 use crate::pool_core::Settings;
 use pool_types::{ImageDecl, MemoryDecl, MemoryType, PageSize, Unsupported};
@@ -16,6 +16,23 @@ pub fn type_refused(settings: &Settings, ty: &MemoryType) -> Option<Unsupported>
         Err(rule) => Some(rule),
         Ok(()) => memory_refused(settings, ty),
     }
+}
+
+/// The first rule that the memories of a module break by themselves.
+pub fn memories_refused(settings: &Settings, decls: &[MemoryDecl]) -> Option<Unsupported>
+    requires { CanValidate decls.now }
+    ensures { result ≡ memories_refused settings.now decls.now }
+{
+    if let Some(rule) = offsets_refused(settings.page, decls) {
+        return Some(rule);
+    }
+    if let Some(rule) = limits_refused(decls) {
+        return Some(rule);
+    }
+    if let Some(rule) = number_refused(settings, decls.len()) {
+        return Some(rule);
+    }
+    slots_refused(settings, decls)
 }
 
 /// The refusal of the first memory of which the image begins inside a page.

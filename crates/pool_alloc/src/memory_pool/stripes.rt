@@ -1,9 +1,9 @@
-//! In how many stripes the memory slots of a pool lie.
+//! How the memory slots of a pool lie in one slab, and in how many stripes.
 ghost use Rattle.std.specs.Prelude.{◌≡◌, ◌<◌, ◌≤◌, true};
 ghost use Rattle.pool_types.specs.SettingsRules.{keys_used, slab_fits, slab_stripes};
-ghost use Rattle.pool_slots.specs.Slabs.{settings_slab};
+ghost use Rattle.pool_slots.specs.Slabs.{IsLayout, SlotsLieApart, layout_of, settings_slab};
 
-use pool_slots::{SlabConstraints, calculate};
+use pool_slots::{SlabConstraints, SlabLayout, calculate};
 use pool_types::{
     Enabled, HostAlignedByteCount, Offered, PageSize, PoolingAllocationConfig, Tunables,
 };
@@ -22,9 +22,25 @@ pub(crate) fn num_stripes(
     ensures few { result < 256 }
 {
     let _bytes = page.get();
+    slab_layout(config, tunables, page, offered).num_stripes as u32
+}
+
+/// The layout in one slab that these settings ask for, which keep the rule on the slab. `calculate` reckons it.
+pub fn slab_layout(
+    config: &PoolingAllocationConfig,
+    tunables: &Tunables,
+    page: PageSize,
+    offered: &Offered,
+) -> SlabLayout
+    requires { slab_fits config.now tunables.now page offered.now ≡ true }
+    ensures value { result ≡ layout_of (settings_slab config.now tunables.now page offered.now) }
+    ensures sound { IsLayout result }
+    ensures apart { SlotsLieApart (settings_slab config.now tunables.now page offered.now) result }
+{
+    let _bytes = page.get();
     let constraints = slab_constraints(config, tunables, page, offered);
     match calculate(&constraints) {
-        Ok(layout) => layout.num_stripes as u32,
+        Ok(layout) => layout,
         Err(_) => unreachable!(),
     }
 }

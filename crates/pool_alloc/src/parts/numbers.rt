@@ -10,8 +10,8 @@ use pool_index::{Shard, SlotKind};
 use pool_pages::{PageCalls, Pages};
 use pool_slots::{GcHeap, PoolPart};
 
-// How many of a part's slots are warm, if they are of this kind.
-pub(crate) fn warm_in<P: Pages, H: GcHeap>(kind: SlotKind, part: &PoolPart<P, H>) -> u32
+/// How many of a part's slots are warm, if they are of this kind.
+pub fn warm_in<P: Pages, H: GcHeap>(kind: SlotKind, part: &PoolPart<P, H>) -> u32
     ensures { result ≡ warm_in kind part.now }
 {
     match part {
@@ -30,8 +30,8 @@ fn warm_slots(kind: SlotKind, shard: &Shard) -> u32
     }
 }
 
-// How many bytes they keep resident.
-pub(crate) fn resident_in<P: Pages, H: GcHeap>(kind: SlotKind, part: &PoolPart<P, H>) -> usize
+/// How many bytes a part's warm slots keep resident, if they are of this kind.
+pub fn resident_in<P: Pages, H: GcHeap>(kind: SlotKind, part: &PoolPart<P, H>) -> usize
     ensures { result ≡ resident_in kind part.now }
 {
     match part {

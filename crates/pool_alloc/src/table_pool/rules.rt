@@ -2,10 +2,24 @@
 ghost use Rattle.std.specs.Prelude.{◌≡◌, ◌<◌, ◌^◌, length, Some};
 ghost use Rattle.std.specs.Option.{option_or};
 ghost use Rattle.pool_types.specs.MemoryTypes.{refused_limits};
-ghost use Rattle.pool_alloc.specs.Refusals.{first_refused, tables_refused, long_table};
+ghost use Rattle.pool_alloc.specs.Refusals.{first_refused, tables_refused, table_types_refused, long_table};
 
 use crate::pool_core::Settings;
 use pool_types::{TableType, Unsupported};
+
+/// The first rule that the tables of a module break by themselves, in a pool with `total` slots for tables.
+pub fn table_types_refused(
+    settings: &Settings,
+    total: u32,
+    tables: &[TableType],
+) -> Option<Unsupported>
+    ensures { result ≡ table_types_refused settings.now total tables.now }
+{
+    if let Some(rule) = table_limits_refused(tables) {
+        return Some(rule);
+    }
+    tables_broken(settings, total, tables)
+}
 
 /// The refusal of the first table of which the minimum exceeds the maximum.
 #[tactic(auto, using(crate::proofs::Refusals::refused_here, crate::proofs::Refusals::refused_later, crate::proofs::Refusals::refused_nowhere))]
