@@ -1,4 +1,5 @@
 pub mod Answers
+pub mod CountedStacks
 pub mod Grants
 mod Imports
 pub mod InTurn

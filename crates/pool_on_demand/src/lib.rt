@@ -34,6 +34,9 @@ mod table;
 // Rules by which a module is refused
 mod validate;
 
+// Stacks by themselves, counted
+pub mod generic_stack_pool;
+
 pub use allocator::OnDemandSeat;
 pub use lease::{OnDemandHeap, OnDemandInstance, OnDemandMemory, OnDemandStack, OnDemandTable};
 pub use on_demand::OnDemandInstanceAllocator;

@@ -41,7 +41,7 @@ impl<M: PageMaker, C: RuntimeMemoryCreator<M>> OnDemandInstanceAllocator<M, C> {
 }
 
 // How long the region of a stack is, where addresses reach the end of it.
-fn stack_room(page: PageSize, stack_size: usize) -> Option<HostAlignedByteCount>
+pub(crate) fn stack_room(page: PageSize, stack_size: usize) -> Option<HostAlignedByteCount>
     ensures { SomeIff result ((stack_room page stack_size).bytes < 2 ^ 64) (stack_room page stack_size) }
 {
     let guard = one_page(page);
@@ -58,7 +58,7 @@ fn one_page(page: PageSize) -> HostAlignedByteCount
 }
 
 // The stack in a region of this length that is made for it.
-fn make_guarded<P: Pages, M: PageMaker<Region = P>>(
+pub(crate) fn make_guarded<P: Pages, M: PageMaker<Region = P>>(
     alloc: Global,
     maker: &mut M,
     len: HostAlignedByteCount,
