@@ -28,6 +28,7 @@ pub mod Holding
 pub mod LastFrames
 pub mod Limits
 pub mod Lists
+pub mod Looks
 pub mod MadeObjects
 pub mod Makers
 pub mod MomentSteps

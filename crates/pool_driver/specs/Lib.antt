@@ -11,6 +11,7 @@ pub mod Faults
 pub mod Growing
 pub mod Laws
 pub mod Limits
+pub mod Looking
 pub mod Origins
 pub mod PageFaults
 pub mod PartsTold

@@ -28,10 +28,14 @@ mod open_pool;
 mod calls;
 mod steps;
 
+// Looks at parts
+mod looking;
+
 // Laws
 mod laws;
 
 pub use laws::{moments_are_cores, steps_may_put, what_fits_stands};
+pub use looking::WarmSlots;
 pub use open_pool::OpenPool;
 pub use part::{HallPart, Origin};
 pub use shared_pool::{PoolHall, PoolSeat, SharedPool};

@@ -1,0 +1,149 @@
+-- A look at a part leaves a seat what it had, and the call that it drives.
+use Rattle.std.proofs.Common.{◌≡◌, ℕ, ◌+◌, ◌-◌, ◌%◌, ◌^◌, ◌<◌, ◌≤◌, Bool, true, false, zero, suc, List, [], ◌∷◌, length, drop, refl, sym, ap, subst, ◌∙◌, arith, Option, Some, slice_index, if◌then◌else◌, unwrap_or}
+use Rattle.std.specs.Prelude.{slice_index_or}
+use Rattle.pool_pages.specs.MakerTold.{MakerTold}
+use Rattle.pool_hall.specs.Meaning.{Meaning, StandsAt}
+use Rattle.pool_hall.specs.Seat.{made_with, limits_of, view}
+use Rattle.pool_hall.specs.Held.{IsHeld}
+use Rattle.pool_hall.specs.Step.{Taken, MayPut, moved, put_view}
+use Rattle.pool_hall.specs.Sum.{often, one_if, total}
+use Rattle.pool_hall.specs.Tally.{additions, low_additions, subtractions, counted, number, rise}
+use Rattle.pool_hall.specs.Unit.{times, pick_of, Beside}
+use Rattle.pool_hall.specs.declared.unit_name.SlotKind.{SlotKind}
+use Rattle.pool_hall.specs.declared.unit_name.UnitName.{UnitName}
+use Rattle.pool_hall.specs.declared.view.CountRise.{CountRise}
+use Rattle.pool_hall.specs.declared.view.View.{View}
+use Rattle.pool_hall.proofs.Hands.{times_moved}
+use Rattle.pool_slots.specs.Plans.{Role, role_at, shard_role, slots_at}
+use Rattle.pool_slots.specs.SlotQueues.{same_kind}
+use Rattle.pool_slots.specs.declared.part.PoolPart.{PoolPart}
+use Rattle.pool_slots.specs.declared.part.PoolPart.TheVariants as part
+use Rattle.pool_slots.specs.declared.plan.Allocator.{Allocator}
+use Rattle.pool_alloc.specs.BetweenSteps.{IsPartFor}
+use Rattle.pool_alloc.specs.PoolTotals.{warm_in}
+use Rattle.pool_alloc.specs.declared.pool_core.Settings.{Settings}
+use Rattle.pool_alloc.proofs.PlanPlaces.{shard_inside}
+use Rattle.pool_alloc.specs.Places.{Counter}
+use Rattle.pool_alloc.specs.declared.frame.Frame.{Frame}
+use Rattle.pool_alloc.specs.declared.frame.Outcome.{Outcome}
+use Rattle.pool_driver.specs.Driving.{Given, IsDriven, counter_number, counter_of}
+use Rattle.pool_driver.specs.Looking.{AreNumbersAt, HasLooked, IsFlat, slots_among}
+use Rattle.pool_driver.specs.Placed.{About, about_made, pool_meaning}
+use Rattle.pool_driver.specs.Pools.{IsPool}
+use Rattle.pool_driver.specs.declared.looking.WarmSlots.{WarmSlots}
+use Rattle.pool_driver.proofs.Holding.{put_holds}
+use Rattle.pool_driver.proofs.Multisets.{same_totals}
+
+-- no count rises where it stays
+pub rise_none : (n : ℕ) → n < 2 ^ 64 → rise n n ≡ 0
+rise_none n small = omega (arith, small)
+
+-- A part that was taken may be put back as it is,
+module _ {T : Type 0} (m : Meaning T) (made : List T) (limits : List ℕ) (p : ℕ) (x : T) (v : View T) (told : Taken m made limits p x v) where
+  same_units : (u : UnitName) → times u (moved m x x v.units) ≡ times u v.units
+  same_units u = omega (arith, times_moved m x x v.units u (omega arith))
+
+  pub may_put_same : MayPut m made limits p x x v.units
+  may_put_same = record {
+    stands = told.stands;
+    paid = λ u. omega arith;
+    beside = λ u region some'. omega (arith, same_units u, same_units (pick_of u), told.beside u region (omega (arith, some', same_units u)));
+    topped = λ is. is;
+    steady = refl;
+    rises = λ steady i. omega arith;
+  }
+
+  -- and then the seat has looked at it.
+  pub looked_here : (w : View T) → w ≡ put_view m p x x v → HasLooked v w
+  looked_here w is = record {
+    portions = ap (λ (z : View T). z.portions) is;
+    limits = ap (λ (z : View T). z.limits) is;
+    units = λ t. ap (λ (z : View T). total t z.units) is ∙ same_totals (moved m x x v.units) v.units same_units t;
+    added = ap (λ (z : View T). z.added) is;
+    low = ap (λ (z : View T). z.low) is;
+    subtracted = ap (λ (z : View T). z.subtracted) is;
+    rises = λ each none. omega (arith, ap (λ (z : View T). total each z.rises) is, none (record { place = p; before = m.counts x; after = m.counts x }) (λ i. rise_none (slice_index (m.counts x) i) (told.stands.small i)));
+    noted = (put_holds m p x x v w is).noted;
+  }
+
+-- A seat that holds a place for a call that changes nothing looks at the part there.
+pub looked_held : {T : Type 0} (m : Meaning T) (made : List T) (limits : List ℕ) (p : ℕ) (does : T → T → Type 0) (v w : View T) → ((x y : T) → does x y → y ≡ x) → IsHeld m made limits p does v w → HasLooked v w
+looked_held {T} m made limits p does v w same held =
+    looked_here m made limits p held.before v held.told w (held.view ∙ ap (λ (y : T). put_view m p held.before y v) (same held.before held.after held.did))
+
+-- Nothing is a look, and two looks are one.
+pub not_looked : {T : Type 0} (v : View T) → HasLooked v v
+not_looked v = record {
+  portions = refl;
+  limits = refl;
+  units = λ t. refl;
+  added = refl;
+  low = refl;
+  subtracted = refl;
+  rises = λ each none. refl;
+  noted = λ q. omega arith;
+}
+
+pub looked_on : {T : Type 0} (u v w : View T) → HasLooked u v → HasLooked v w → HasLooked u w
+looked_on u v w a b = record {
+  portions = b.portions ∙ a.portions;
+  limits = b.limits ∙ a.limits;
+  units = λ t. b.units t ∙ a.units t;
+  added = b.added ∙ a.added;
+  low = b.low ∙ a.low;
+  subtracted = b.subtracted ∙ a.subtracted;
+  rises = λ each none. b.rises each none ∙ a.rises each none;
+  noted = λ q. omega (arith, a.noted q, b.noted q);
+}
+
+-- A seat that looks drives on what it drove.
+pub driven_looked : {T P H : Type 0} (places : ℕ) (g : Given) (v w : View T) (f : Frame P H) (o : Option (Outcome P H)) → HasLooked v w → IsDriven places g v f o → IsDriven places g w f o
+driven_looked places g v w f o looked driven = record {
+  frame = driven.frame;
+  keeps = driven.keeps;
+  answer = driven.answer;
+  carries = record { units = λ t. looked.units t ∙ driven.carries.units t; beside = driven.carries.beside };
+  counted = λ k. omega (
+    arith,
+    driven.counted k,
+    ap (often (counter_number (counter_of k))) looked.added,
+    ap (often (counter_number (counter_of k))) looked.subtracted,
+  );
+  stands = driven.stands;
+}
+
+bounded : (b : Bool) (n most : ℕ) → n ≤ most → (if b then n else 0) ≤ most
+bounded true n most within = within
+bounded false n most within = omega arith
+
+-- A shard has no more warm slots than slots.
+warm_few : {P H : Type 0} (maker : MakerTold) (s : Settings) (a : Allocator) (j : ℕ) (kind : SlotKind) (x : PoolPart P H) → IsPartFor maker s (shard_role a j) x → warm_in kind x ≤ slots_at a j
+warm_few maker s a j kind (part.Shard shard) is = bounded (same_kind kind shard.kind) (length shard.warm) (slots_at a j) (omega (arith, is.sound.total, is.sound.cold_at_most, is.capacity))
+warm_few maker s a j kind (part.Memory cell) is = absurd is
+warm_few maker s a j kind (part.Table cell) is = absurd is
+warm_few maker s a j kind (part.Stack cell) is = absurd is
+warm_few maker s a j kind (part.Queue queue) is = absurd is
+warm_few maker s a j kind (part.Heaps heaps) is = absurd is
+
+-- So what is read at the place of a shard is no more than its slots.
+pub few_at : {T P H : Type 0} (about : T → About) (inner : T → PoolPart P H) (made : List T) (limits : List ℕ) (a : About) → about_made about made ≡ Some a → (p : ℕ) (allocator : Allocator) (j : ℕ) (kind : SlotKind) (seen : WarmSlots) → role_at a.plan p ≡ shard_role allocator j → AreNumbersAt (pool_meaning about inner) inner made limits p kind seen → seen.slots ≤ slots_at allocator j
+few_at about inner made limits a of p allocator j kind seen role there =
+    let same : about there.part ≡ a = ap (λ (o : Option About). unwrap_or o a) (sym there.stands.fits.of ∙ of) in
+    let stands : IsPartFor a.maker a.settings (role_at a.plan p) (inner there.part) = subst (λ (b : About). IsPartFor b.maker b.settings (role_at b.plan p) (inner there.part)) same there.stands.fits.part in
+    let here : IsPartFor a.maker a.settings (shard_role allocator j) (inner there.part) = subst (λ (r : Role). IsPartFor a.maker a.settings r (inner there.part)) role stands in
+    omega (arith, there.slots, warm_few a.maker a.settings allocator j kind (inner there.part) here)
+
+-- The place of a shard is one of the pool's.
+pub shard_there : (a : About) (places : ℕ) (p : ℕ) (allocator : Allocator) (j : ℕ) → IsPool a places → role_at a.plan p ≡ shard_role allocator j → (p < places) × (p < 2 ^ 32)
+shard_there a places p allocator j pool role =
+    let inside : p < places = shard_inside a.plan places p pool.plan (record { allocator = allocator; index = j; role = role }) in
+    (inside, omega (arith, inside, pool.plan.small))
+
+-- The slots of some allocators are those of the first, and those of the others.
+pub among_from : (all : List Allocator) (i j : ℕ) (a : Allocator) → j ≡ i + 1 → ((d : Allocator) → a ≡ slice_index_or all i d) → i < length all → slots_among (drop i all) ≡ a.capacity + slots_among (drop j all)
+among_from [] i j a next is inside = absurd (omega (arith, inside))
+among_from (b ∷ all) zero zero a next is inside = absurd (omega (arith, next))
+among_from (b ∷ all) zero (suc zero) a next is inside = omega (arith, ap (λ (x : Allocator). x.capacity) (is b))
+among_from (b ∷ all) zero (suc (suc j)) a next is inside = absurd (omega (arith, next))
+among_from (b ∷ all) (suc i) zero a next is inside = absurd (omega (arith, next))
+among_from (b ∷ all) (suc i) (suc j) a next is inside = among_from all i j a (omega (arith, next)) is (omega (arith, inside))
