@@ -1,6 +1,7 @@
 -- Looks at parts: a seat takes a part, reads numbers of it, and puts it back as it was. What the seat's view tells of that, and what is read.
-use Rattle.std.specs.Prelude.{◌≡◌, ℕ, ◌+◌, ◌<◌, ◌≤◌, List, slice_index}
-use Rattle.pool_hall.specs.Meaning.{Meaning, StandsAt}
+use Rattle.std.specs.Prelude.{◌≡◌, ℕ, ◌+◌, ◌-◌, ◌^◌, ◌<◌, ◌≤◌, List, [], ◌∷◌, ◌++◌, length, min, slice_index}
+use Rattle.pool_hall.specs.Meaning.{Meaning}
+use Rattle.pool_hall.specs.Step.{Taken}
 use Rattle.pool_hall.specs.Sum.{often, total}
 use Rattle.pool_hall.specs.Tally.{rise}
 use Rattle.pool_hall.specs.declared.unit_name.SlotKind.{SlotKind}
@@ -31,12 +32,42 @@ pub record HasLooked {T : Type 0} (v w : View T) : Type 0 where
   pub rises : (each : CountRise → ℕ) → ((e : CountRise) → IsFlat e → each e ≡ 0) → total each w.rises ≡ total each v.rises
   pub noted : (q : ℕ) → often q v.topped ≤ often q w.topped
 
--- These are the numbers of a part that may stand at a place: of its warm slots of a kind, and of the bytes that they keep resident.
-pub record AreNumbersAt {T P H : Type 0} (m : Meaning T) (inner : T → PoolPart P H) (made : List T) (limits : List ℕ) (place : ℕ) (kind : SlotKind) (seen : WarmSlots) : Type 0 where
-  pub part : T
-  pub stands : StandsAt m made limits place part
-  pub slots : seen.slots ≡ warm_in kind (inner part)
-  pub bytes : seen.bytes_resident ≡ resident_in kind (inner part)
+-- Numbers together, up to the end of their types.
+pub record IsSumOf (all : List WarmSlots) (sum : WarmSlots) : Type 0 where
+  pub slots : sum.slots ≡ min (total (λ (x : WarmSlots). x.slots) all) (2 ^ 32 - 1)
+  pub bytes : sum.bytes_resident ≡ min (total (λ (x : WarmSlots). x.bytes_resident) all) (2 ^ 64 - 1)
+
+-- Of a hall that was made with these parts and limits, in which a seat that had the first view has only looked at parts since
+module _ {T P H : Type 0} (m : Meaning T) (inner : T → PoolPart P H) (made : List T) (limits : List ℕ) (base : View T) (kind : SlotKind) where
+  -- These are the numbers of a part that the seat took at a place: of its warm slots of a kind, and of the bytes that they keep resident.
+  pub record AreNumbersAt (place : ℕ) (seen : WarmSlots) : Type 0 where
+    pub moment : View T
+    pub looked : HasLooked base moment
+    pub part : T
+    pub told : Taken m made limits place part moment
+    pub slots : seen.slots ≡ warm_in kind (inner part)
+    pub bytes : seen.bytes_resident ≡ resident_in kind (inner part)
+
+  -- These are those of the parts at places in a row, from one on.
+  abbrev pub AreSeenFrom : ℕ → List WarmSlots → Type 0
+  AreSeenFrom place [] = Unit {0}
+  AreSeenFrom place (seen ∷ more) = AreNumbersAt place seen × AreSeenFrom (place + 1) more
+
+  -- These are those of all shards of an allocator,
+  pub record AreOfShards (a : Allocator) (all : List WarmSlots) : Type 0 where
+    pub many : length all ≡ a.shards
+    pub each : AreSeenFrom a.first_place all
+
+  -- and of several, one allocator after the other.
+  abbrev pub AreOfAll : List Allocator → List WarmSlots → Type 0
+  AreOfAll [] all = all ≡ []
+  AreOfAll (a ∷ others) all = (mine : List WarmSlots) × ((rest : List WarmSlots) × ((all ≡ mine ++ rest) × (AreOfShards a mine × AreOfAll others rest)))
+
+  -- The numbers are those of all shards of these allocators together.
+  pub record IsCounted (as' : List Allocator) (found : WarmSlots) : Type 0 where
+    pub seen : List WarmSlots
+    pub all : AreOfAll as' seen
+    pub sum : IsSumOf seen found
 
 -- The places of an allocator's shards are theirs.
 abbrev pub HasItsShards : Plan → Allocator → Type 0

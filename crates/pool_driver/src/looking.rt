@@ -1,5 +1,5 @@
 //! Looks at a pool that many callers share: how many of its slots are warm.
-ghost use Rattle.std.specs.Prelude.{◌≡◌, ◌+◌, ◌<◌, ◌≤◌, length, slice_index_or, Option};
+ghost use Rattle.std.specs.Prelude.{◌≡◌, ◌+◌, ◌-◌, ◌^◌, ◌<◌, ◌≤◌, length, min, slice_index_or, List, Option};
 ghost use Rattle.std.specs.List.{AllByRecursion};
 ghost use Rattle.pool_hall.specs.Seat.{made_with, limits_of, view, IsSeatOf, IsFree};
 ghost use Rattle.pool_slots.specs.Plans.{allocators_of, shard_role, role_at, slots_at};
@@ -7,10 +7,11 @@ ghost use Rattle.pool_slots.specs.declared.plan.Allocator.{Allocator};
 ghost use Rattle.pool_alloc.specs.declared.frame.Frame.{Frame};
 ghost use Rattle.pool_alloc.specs.declared.frame.Outcome.{Outcome};
 ghost use Rattle.pool_driver.specs.Driving.{Given, IsDriven};
-ghost use Rattle.pool_driver.specs.Looking.{AreNumbersAt, HasItsShards, HasLooked, slots_among, slots_of_kind};
+ghost use Rattle.pool_driver.specs.Looking.{AreNumbersAt, AreOfShards, HasItsShards, HasLooked, IsCounted, IsSumOf, slots_among, slots_of_kind};
 ghost use Rattle.pool_driver.specs.Origins.{about_of, inner_of};
 ghost use Rattle.pool_driver.specs.Placed.{About, pool_meaning};
 ghost use Rattle.pool_driver.specs.Pools.{IsSharedOf};
+ghost use Rattle.pool_driver.specs.declared.looking.WarmSlots.{WarmSlots};
 
 use crate::part::HallPart;
 use crate::shared_pool::{PoolHall, SharedPool};
@@ -30,7 +31,8 @@ pub struct WarmSlots {
 impl WarmSlots {
     // Both numbers stand still at the end of their type.
     fn plus(self, other: WarmSlots) -> WarmSlots
-        ensures { result.slots ≤ self.slots + other.slots }
+        ensures slots { result.slots ≡ min (self.slots + other.slots) (2 ^ 32 - 1) }
+        ensures bytes { result.bytes_resident ≡ min (self.bytes_resident + other.bytes_resident) (2 ^ 64 - 1) }
     {
         WarmSlots {
             slots: self.slots.saturating_add(other.slots),
@@ -82,6 +84,7 @@ impl<P: Pages, H: GcHeap, M: PageMaker> SharedPool<PoolHall<P, H, M>> {
         ensures free { IsFree seat.new }
         ensures looked { HasLooked (view seat.old) (view seat.new) }
         ensures driven { (g : Given) (f : Frame P H) (o : Option (Outcome P H)) → IsDriven (length (made_with self.now.hall)) g (view seat.old) f o → IsDriven (length (made_with self.now.hall)) g (view seat.new) f o }
+        ensures counted { IsCounted (pool_meaning (about_of M.told) inner_of) inner_of (made_with self.now.hall) (limits_of self.now.hall) (view seat.old) kind (allocators_of about.plan kind) result }
         ensures few { result.slots ≤ slots_of_kind about.plan kind }
     {
         self.look_at_all(rt, seat, kind, allocators_of(&self.plan, kind))
@@ -102,7 +105,7 @@ impl<P: Pages, H: GcHeap, M: PageMaker> SharedPool<PoolHall<P, H, M>> {
         ensures own { IsSeatOf self.now.hall seat.new }
         ensures free { IsFree seat.new }
         ensures looked { HasLooked (view seat.old) (view seat.new) }
-        ensures part { AreNumbersAt (pool_meaning (about_of M.told) inner_of) inner_of (made_with self.now.hall) (limits_of self.now.hall) place kind result }
+        ensures part { AreNumbersAt (pool_meaning (about_of M.told) inner_of) inner_of (made_with self.now.hall) (limits_of self.now.hall) (view seat.old) kind place result }
     {
         self.hall.hold(rt, seat, place, &mut ReadWarm { kind })
     }
@@ -123,6 +126,7 @@ impl<P: Pages, H: GcHeap, M: PageMaker> SharedPool<PoolHall<P, H, M>> {
         ensures own { IsSeatOf self.now.hall seat.new }
         ensures free { IsFree seat.new }
         ensures looked { HasLooked (view seat.old) (view seat.new) }
+        ensures counted { IsCounted (pool_meaning (about_of M.told) inner_of) inner_of (made_with self.now.hall) (limits_of self.now.hall) (view seat.old) kind allocators.now result }
         ensures few { result.slots ≤ slots_among allocators.now }
     {
         let mut sum = WarmSlots {
@@ -153,6 +157,7 @@ impl<P: Pages, H: GcHeap, M: PageMaker> SharedPool<PoolHall<P, H, M>> {
         ensures own { IsSeatOf self.now.hall seat.new }
         ensures free { IsFree seat.new }
         ensures looked { HasLooked (view seat.old) (view seat.new) }
+        ensures counted { (seen : List WarmSlots) × (AreOfShards (pool_meaning (about_of M.told) inner_of) inner_of (made_with self.now.hall) (limits_of self.now.hall) (view seat.old) kind allocator seen × IsSumOf seen result) }
         ensures few { result.slots ≤ allocator.capacity }
     {
         let mut sum = WarmSlots {
@@ -183,6 +188,7 @@ impl<P: Pages, H: GcHeap, M: PageMaker> SharedPool<PoolHall<P, H, M>> {
         ensures own { IsSeatOf self.now.hall seat.new }
         ensures free { IsFree seat.new }
         ensures looked { HasLooked (view seat.old) (view seat.new) }
+        ensures part { AreNumbersAt (pool_meaning (about_of M.told) inner_of) inner_of (made_with self.now.hall) (limits_of self.now.hall) (view seat.old) kind (allocator.first_place + shard) result }
         ensures few { result.slots ≤ slots_at allocator shard }
     {
         self.look_at(rt, seat, kind, allocator.first_place + shard)

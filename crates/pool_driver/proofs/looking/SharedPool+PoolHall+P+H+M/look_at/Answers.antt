@@ -5,7 +5,7 @@ use Rattle.pool_hall.specs.Step.{MayPut, put_view}
 use Rattle.pool_driver.specs.Origins.{about_of, inner_of}
 use Rattle.pool_driver.specs.Placed.{pool_meaning}
 use Rattle.pool_driver.specs.declared.part.HallPart.{HallPart}
-use Rattle.pool_driver.proofs.Looks.{looked_here, may_put_same}
+use Rattle.pool_driver.proofs.Looks.{looked_here, may_put_same, not_looked}
 use Rattle.pool_driver.proofs.looking.SharedPool+PoolHall+P+H+M.look_at.Goals as goal
 
 pub hold-requires-clause-may : goal.hold-requires-clause-may
@@ -24,4 +24,4 @@ returns-clause-looked g c =
 pub returns-clause-part : goal.returns-clause-part
 returns-clause-part g c =
     let held = c.hold.ensures.held in
-    record { part = held.before; stands = held.told.stands; slots = held.did.1; bytes = held.did.2 }
+    record { moment = view c.args.seat.now; looked = not_looked (view c.args.seat.now); part = held.before; told = held.told; slots = held.did.1; bytes = held.did.2 }

@@ -1,5 +1,5 @@
 use Rattle.std.proofs.Common.{◌≡◌, ◌+◌, arith, length, rules}
-use Rattle.pool_hall.specs.Seat.{made_with, limits_of}
+use Rattle.pool_hall.specs.Seat.{made_with, limits_of, view}
 use Rattle.pool_slots.specs.Plans.{role_at, shard_role}
 use Rattle.pool_driver.specs.Origins.{about_of, inner_of}
 use Rattle.pool_driver.specs.Pools.{IsSharedOf}
@@ -23,4 +23,4 @@ pub returns-clause-few : goal.returns-clause-few
 returns-clause-few g c =
     let pool : IsSharedOf g.M.PageMaker.told g.about c.args.self.now = search rules in
     let role : role_at g.about.plan (c.args.allocator.first_place + c.args.shard) ≡ shard_role c.args.allocator c.args.shard = search rules in
-    few_at (about_of g.M.PageMaker.told) inner_of (made_with c.args.self.now.hall) (limits_of c.args.self.now.hall) g.about pool.hall.made (c.args.allocator.first_place + c.args.shard) c.args.allocator c.args.shard c.args.kind c.look_at.result role c.look_at.ensures.part
+    few_at (about_of g.M.PageMaker.told) inner_of (made_with c.args.self.now.hall) (limits_of c.args.self.now.hall) g.about pool.hall.made (c.args.allocator.first_place + c.args.shard) c.args.allocator c.args.shard c.args.kind c.look_at.result role (view c.args.seat.now) c.look_at.ensures.part
