@@ -1,8 +1,10 @@
 pub mod Answers
 pub mod Giving
+pub mod GivingMany
 pub mod GrantUnits
 pub mod Granted
 pub mod Images
+pub mod Looks
 pub mod Reading
 pub mod Seats
 pub mod Sent

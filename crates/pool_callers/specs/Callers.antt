@@ -10,6 +10,7 @@ use Rattle.pool_hall.specs.declared.unit_name.UnitName.{UnitName}
 use Rattle.pool_hall.specs.declared.hall.Hall.{Hall}
 use Rattle.pool_hall.specs.declared.hall.HallSeat.{HallSeat}
 use Rattle.pool_hall.specs.declared.view.View.{View}
+use Rattle.pool_slots.specs.Slabs.{IsLayout}
 use Rattle.pool_slots.specs.declared.errors.AllocError.{AllocError}
 use Rattle.pool_slots.specs.declared.plan.Plan.{Plan}
 use Rattle.pool_alloc.specs.Calls.{IsGrant, IsGrantOf, IsIdle, begun_call, lists_made}
@@ -218,9 +219,12 @@ module _ {P H M : Type 0} (told : M → MakerTold) where
   abbrev pub about_pool : Allocator P H M → About
   about_pool p = about_shared p.pool
 
-  -- What always holds of an allocator: its parts lie in the hall of its pool, and it has what closing needs.
+  -- What always holds of an allocator: its parts lie in the hall of its pool, its slab has a layout in as many stripes as its memories lie in,
+  -- and it has what closing needs.
   pub record IsAllocator (p : Allocator P H M) : Type 0 where
     pub pool : IsSharedOf told (about_pool p) p.pool
+    pub layout : IsLayout p.layout
+    pub stripes : p.layout.num_stripes ≡ p.pool.settings.num_stripes
     pub lists : p.lists ≡ lists_made p.pool.settings
     pub empty : p.room.items ≡ []
     pub room : length (made_with p.pool.hall) ≤ vec_capacity p.room

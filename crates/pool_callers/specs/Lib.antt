@@ -1,3 +1,5 @@
 pub mod Callers
+pub mod GivingMany
 pub mod GrantUnits
 pub mod NoHeapsTold
+pub mod Rules

@@ -4,6 +4,7 @@ ghost use Rattle.pool_types.specs.SettingsRules.{first_broken_rule, keys_used};
 ghost use Rattle.pool_hall.specs.Seat.{made_with, view};
 ghost use Rattle.pool_hall.specs.Step.{left_with, newcomer, joined};
 ghost use Rattle.pool_hall.specs.Tally.{all_portions};
+ghost use Rattle.pool_slots.specs.Slabs.{layout_of, settings_slab};
 ghost use Rattle.pool_alloc.specs.Closing.{AreAtHome, ArePartsOf};
 ghost use Rattle.pool_alloc.specs.Made.{lists_making, fails_slots, GivesUpRegion, IsRefusedFor, CountsFault, NeedsFault, NeedsListed};
 ghost use Rattle.pool_driver.specs.Ending.{HasNoted};
@@ -13,10 +14,10 @@ ghost use Rattle.pool_driver.specs.Pools.{IsMadeOpen, ClosesWith};
 ghost use Rattle.pool_callers.specs.Callers.{HasNothing, IsAllocator, IsCaller, about_pool, opened};
 
 use crate::seat::CallerSeat;
-use pool_alloc::{Frame, FrameLists, Parts};
+use pool_alloc::{Frame, FrameLists, Parts, slab_layout};
 use pool_driver::{OpenPool, PoolHall, PoolSeat, SharedPool};
 use pool_pages::{PageMaker, Pages};
-use pool_slots::{GcHeap, PoolNewError, PoolPart};
+use pool_slots::{GcHeap, PoolNewError, PoolPart, SlabLayout};
 use pool_types::{Enabled, Offered, PageSize, PoolingAllocationConfig, Tunables};
 use std::alloc::{AllocError, Global};
 
@@ -28,6 +29,8 @@ pub struct PoolingInstanceAllocator<A: Drop, P: Pages, H: GcHeap> {
     pub(crate) config: PoolingAllocationConfig,
     // Whether there are protection keys, so that a caller may ask for a stripe.
     pub(crate) has_keys: bool,
+    // Where the slots of memories lie in one slab.
+    pub(crate) layout: SlabLayout,
     // What closing needs: the lists of a frame, and room for all parts.
     pub(crate) lists: FrameLists<P>,
     pub(crate) room: Vec<PoolPart<P, H>>,
@@ -58,6 +61,7 @@ impl<P: Pages, H: GcHeap, M: PageMaker<Region = P>> PoolingInstanceAllocator<
         ensures config { IfOk result (λ r. r.0.config ≡ config.now) }
         ensures page { IfOk result (λ r. r.0.pool.settings.page ≡ page) }
         ensures keys { IfOk result (λ r. r.0.has_keys ≡ nat_lt 0 (keys_used config.now offered.now)) }
+        ensures layout { IfOk result (λ r. r.0.layout ≡ layout_of (settings_slab config.now tunables.now page offered.now)) }
         ensures rules { OnOk result (first_broken_rule config.now tunables.now page shards offered.now ≡ None) }
         ensures refused { IfErr result (IsRefusedFor (first_broken_rule config.now tunables.now page shards offered.now)) }
         ensures maker { M.told maker.new ≡ record (M.told maker.old) { behind = (M.told maker.new).behind; faults = (M.told maker.new).faults } }
@@ -85,6 +89,7 @@ impl<P: Pages, H: GcHeap, M: PageMaker<Region = P>> PoolingInstanceAllocator<
             pool,
             config: *config,
             has_keys: uses_keys(config, offered),
+            layout: slab_layout(config, tunables, page, offered),
             lists,
             room,
         };
@@ -171,6 +176,7 @@ impl<P: Pages, H: GcHeap, M: PageMaker> PoolingInstanceAllocator<PoolHall<P, H, 
             pool,
             config: _,
             has_keys: _,
+            layout: _,
             lists,
             room,
         } = self;

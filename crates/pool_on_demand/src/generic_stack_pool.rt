@@ -106,7 +106,8 @@ impl<P: Pages> StackPool<P> {
         0
     }
 
-    /// Takes a stack back, and drops it with its region. How many of its bytes are resident doesn't matter.
+    /// Takes a stack back, and drops it with its region. How many of its bytes are resident doesn't matter. Any stack counts one down, also
+    /// one that this pool didn't make.
     pub fn deallocate(&mut self, _stack: Stack<P>, _bytes: usize)
         requires live { 0 < self.old.live }
         ensures live { self.new ≡ record self.old { live = self.old.live - 1 } }
@@ -114,7 +115,7 @@ impl<P: Pages> StackPool<P> {
         self.live -= 1;
     }
 
-    /// Takes all these stacks back, each with its resident bytes, and leaves the list empty with its room.
+    /// Takes all these stacks back, each with its resident bytes, and leaves the list empty.
     pub fn deallocate_many(&mut self, items: &mut Vec<(Stack<P>, usize)>)
         requires live { length items.old.items ≤ self.old.live }
         ensures live { self.new ≡ record self.old { live = self.old.live - length items.old.items } }
