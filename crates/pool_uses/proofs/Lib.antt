@@ -1,2 +1,3 @@
+mod HeldTogether
 mod ModuleMemories
 mod Sent

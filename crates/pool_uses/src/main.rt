@@ -22,6 +22,7 @@ mod instances;
 mod one_caller;
 mod singles;
 mod threads;
+mod together;
 mod turnover;
 mod two_stacks;
 
@@ -33,6 +34,8 @@ mod measure;
 mod counted_pages;
 
 // Whole pools
+#[cfg(test)]
+mod number_tests;
 #[cfg(test)]
 mod one_caller_tests;
 #[cfg(test)]
