@@ -6,7 +6,7 @@ use Rattle.pool_alloc.specs.Imports.{ModuleInfo, CompiledModuleId, Image, Memory
 pub record ModuleAsked : Type 0 where
   pub info : ModuleInfo
   pub images : Option (List (Option Image))
-  pub id : CompiledModuleId
+  pub id : Option CompiledModuleId
 
 -- the type of the memory, the image that it begins with, and the memory of a module to which its slot may be affine
 pub record MemoryAsked : Type 0 where

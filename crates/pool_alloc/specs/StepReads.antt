@@ -1,5 +1,5 @@
 -- What the steps of a call read: what is asked for, and the parts of the pool.
-use Rattle.std.specs.Prelude.{◌≡◌, ℕ, ◌==◌, ◌<◌, List, [], ◌∷◌, length, filter, min, slice_index_or, slice_set, Bool, not, Option, Some, None, Result, if◌then◌else◌, nat_lt}
+use Rattle.std.specs.Prelude.{◌≡◌, ℕ, ◌==◌, ◌<◌, List, [], ◌∷◌, length, filter, min, slice_index_or, slice_set, Bool, not, Option, Some, None, option_map, Result, if◌then◌else◌, nat_lt}
 use Rattle.pool_alloc.specs.Imports.{TableType, MemoryDecl, MemoryType, ModuleInfo, Image, Slot, ShardState, fresh_shard, after_free, MemoryInModule, SlotKind, memory_kind, table_kind, stack_kind, heap_kind, LimiterError, Cell, unmapped, unknown, previously_used, CellState, HeapEntry, HeapMakeFault, part_at, cell_of_part, cell_place, home_of, queues_for, nth_shard_tried, nth_queue_tried, Allocator, SlotName, Plan, PoolPart, Queue, Queued, empty_queue}
 use Rattle.pool_slots.specs.declared.part.PoolPart.TheVariants as part
 use Rattle.pool_alloc.specs.declared.pool_core.PoolCore.{PoolCore}
@@ -160,9 +160,9 @@ abbrev pub after_frees : Plan → List FreedSlot → ShardState → ShardState
 after_frees plan [] shard = shard
 after_frees plan (x ∷ rest) shard = after_frees plan rest (after_free (home_of plan x.name).local x.bytes shard)
 
--- The memory with this number of the module that is asked for, or the one to which a memory by itself may be affine.
+-- The memory with this number of the module that is asked for, if that has a name, or the one to which a memory by itself may be affine.
 abbrev pub wanted_of : Asked → ℕ → Option MemoryInModule
-wanted_of (module_asked m) index = Some (record { 0 = m.id; 1 = record { 0 = index } })
+wanted_of (module_asked m) index = option_map (λ id. record { 0 = id; 1 = record { 0 = index } }) m.id
 wanted_of (memory_asked m) index = m.affine
 wanted_of _ index = None
 

@@ -26,8 +26,8 @@ use std::sync::Arc;
 pub struct ModuleCall {
     pub info: Arc<ModuleInfo>,
     pub images: Option<Arc<ModuleMemoryImages>>,
-    /// The name of the compiled module, for the affinity of its slots.
-    pub id: CompiledModuleId,
+    /// The name of the compiled module, for the affinity of its slots. Slots for a module without one are wanted for nothing in particular.
+    pub id: Option<CompiledModuleId>,
 }
 
 impl Model for ModuleCall {

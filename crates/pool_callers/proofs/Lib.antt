@@ -10,4 +10,5 @@ pub mod Seats
 pub mod Sent
 pub mod Settling
 pub mod SingleCalls
+pub mod Stripes
 pub mod Writing

@@ -3,3 +3,4 @@ pub mod GivingMany
 pub mod GrantUnits
 pub mod NoHeapsTold
 pub mod Rules
+pub mod WarmTold

@@ -24,6 +24,7 @@ ghost use Rattle.pool_callers.specs.Callers.{Gives, IsAllocator, IsBounded, IsCa
 ghost use Rattle.pool_callers.specs.GivingMany.{AreGivenBack, GivesAll};
 ghost use Rattle.pool_callers.specs.NoHeapsTold.{nobody_told};
 ghost use Rattle.pool_callers.specs.Rules.{unless_broken};
+ghost use Rattle.pool_callers.specs.WarmTold.{AreResident, AreWarm};
 
 use crate::allocator::PoolingInstanceAllocator;
 use crate::metrics::PoolingAllocatorMetrics;
@@ -244,6 +245,7 @@ impl<'a, P: Pages, H: GcHeap, M: PageMaker> MemoryPool<'a, P, H, M> {
         ensures looked { HasLooked (view seat.old.seat) (view seat.new.seat) }
         ensures kept { IsKept (view seat.old.seat) (view seat.new.seat) }
         ensures most { result ≤ slots_of_kind self.now.allocator.now.pool.plan kind.Memory }
+        ensures warm { AreWarm M.told self.now.allocator.now (view seat.old.seat) kind.Memory result }
     {
         PoolingAllocatorMetrics::new(self.allocator).unused_warm_memories(rt, seat)
     }
@@ -260,6 +262,7 @@ impl<'a, P: Pages, H: GcHeap, M: PageMaker> MemoryPool<'a, P, H, M> {
         ensures frame { seat.new.frame ≡ seat.old.frame }
         ensures looked { HasLooked (view seat.old.seat) (view seat.new.seat) }
         ensures kept { IsKept (view seat.old.seat) (view seat.new.seat) }
+        ensures warm { AreResident M.told self.now.allocator.now (view seat.old.seat) kind.Memory result }
     {
         PoolingAllocatorMetrics::new(self.allocator).unused_memory_bytes_resident(rt, seat)
     }

@@ -1,5 +1,5 @@
 //! The numbers of an allocator.
-ghost use Rattle.std.specs.Prelude.{◌≡◌, ◌%◌, ◌^◌, ◌<◌, ◌≤◌, is_some};
+ghost use Rattle.std.specs.Prelude.{◌≡◌, ◌%◌, ◌^◌, ◌<◌, ◌≤◌, is_some, IfSome};
 ghost use Rattle.pool_hall.specs.Seat.{view};
 ghost use Rattle.pool_hall.specs.Tally.{all_portions};
 ghost use Rattle.pool_hall.specs.declared.unit_name.SlotKind.TheVariants as kind;
@@ -7,6 +7,7 @@ ghost use Rattle.pool_alloc.specs.Places.{counted_component, counted_instance, c
 ghost use Rattle.pool_driver.specs.Counts.{count_in, counter_total};
 ghost use Rattle.pool_driver.specs.Looking.{HasLooked, slots_of_kind};
 ghost use Rattle.pool_callers.specs.Callers.{IsAllocator, IsCaller, IsKept, left_counted};
+ghost use Rattle.pool_callers.specs.WarmTold.{AreResident, AreWarm, IsWarmSum};
 
 use crate::allocator::PoolingInstanceAllocator;
 use crate::seat::CallerSeat;
@@ -19,7 +20,7 @@ use std::sync::Wait;
 /// The numbers of an allocator. Each is read in the seat of the caller who asks. How many of a kind there are is read from a counter that all
 /// callers count on, and is what that was at some moment of the call. Where one seat has all portions, nobody else counts, and the number is
 /// what that seat has counted. How many slots are warm, and how many bytes these keep resident, is a sum over shards, each of which is read at
-/// another moment. With one caller it is exact, which no clause says. A sum stands still at the end of its type.
+/// another moment: with one caller at the same one, which no clause says. A sum stands still at the end of its type.
 #[derive(Drop)]
 pub struct PoolingAllocatorMetrics<'a, P: Pages, H: GcHeap, M: PageMaker> {
     allocator: &'a PoolingInstanceAllocator<PoolHall<P, H, M>, P, H>,
@@ -117,6 +118,7 @@ impl<'a, P: Pages, H: GcHeap, M: PageMaker> PoolingAllocatorMetrics<'a, P, H, M>
         ensures looked { HasLooked (view seat.old.seat) (view seat.new.seat) }
         ensures kept { IsKept (view seat.old.seat) (view seat.new.seat) }
         ensures most { result ≤ slots_of_kind self.now.allocator.now.pool.plan kind.Memory }
+        ensures warm { AreWarm M.told self.now.allocator.now (view seat.old.seat) kind.Memory result }
     {
         self.warm(rt, seat, SlotKind::Memory).slots
     }
@@ -133,6 +135,7 @@ impl<'a, P: Pages, H: GcHeap, M: PageMaker> PoolingAllocatorMetrics<'a, P, H, M>
         ensures frame { seat.new.frame ≡ seat.old.frame }
         ensures looked { HasLooked (view seat.old.seat) (view seat.new.seat) }
         ensures kept { IsKept (view seat.old.seat) (view seat.new.seat) }
+        ensures warm { AreResident M.told self.now.allocator.now (view seat.old.seat) kind.Memory result }
     {
         self.warm(rt, seat, SlotKind::Memory).bytes_resident
     }
@@ -150,6 +153,7 @@ impl<'a, P: Pages, H: GcHeap, M: PageMaker> PoolingAllocatorMetrics<'a, P, H, M>
         ensures looked { HasLooked (view seat.old.seat) (view seat.new.seat) }
         ensures kept { IsKept (view seat.old.seat) (view seat.new.seat) }
         ensures most { result ≤ slots_of_kind self.now.allocator.now.pool.plan kind.Table }
+        ensures warm { AreWarm M.told self.now.allocator.now (view seat.old.seat) kind.Table result }
     {
         self.warm(rt, seat, SlotKind::Table).slots
     }
@@ -166,6 +170,7 @@ impl<'a, P: Pages, H: GcHeap, M: PageMaker> PoolingAllocatorMetrics<'a, P, H, M>
         ensures frame { seat.new.frame ≡ seat.old.frame }
         ensures looked { HasLooked (view seat.old.seat) (view seat.new.seat) }
         ensures kept { IsKept (view seat.old.seat) (view seat.new.seat) }
+        ensures warm { AreResident M.told self.now.allocator.now (view seat.old.seat) kind.Table result }
     {
         self.warm(rt, seat, SlotKind::Table).bytes_resident
     }
@@ -183,6 +188,7 @@ impl<'a, P: Pages, H: GcHeap, M: PageMaker> PoolingAllocatorMetrics<'a, P, H, M>
         ensures looked { HasLooked (view seat.old.seat) (view seat.new.seat) }
         ensures kept { IsKept (view seat.old.seat) (view seat.new.seat) }
         ensures most { result ≤ slots_of_kind self.now.allocator.now.pool.plan kind.Stack }
+        ensures warm { AreWarm M.told self.now.allocator.now (view seat.old.seat) kind.Stack result }
     {
         self.warm(rt, seat, SlotKind::Stack).slots
     }
@@ -200,6 +206,7 @@ impl<'a, P: Pages, H: GcHeap, M: PageMaker> PoolingAllocatorMetrics<'a, P, H, M>
         ensures looked { HasLooked (view seat.old.seat) (view seat.new.seat) }
         ensures kept { IsKept (view seat.old.seat) (view seat.new.seat) }
         ensures some { is_some result ≡ self.now.allocator.now.pool.settings.stack_zeroing }
+        ensures warm { IfSome result (AreResident M.told self.now.allocator.now (view seat.old.seat) kind.Stack) }
     {
         if !self.allocator.pool.settings.stack_zeroing {
             return None;
@@ -221,6 +228,7 @@ impl<'a, P: Pages, H: GcHeap, M: PageMaker> PoolingAllocatorMetrics<'a, P, H, M>
         ensures looked { HasLooked (view seat.old.seat) (view seat.new.seat) }
         ensures kept { IsKept (view seat.old.seat) (view seat.new.seat) }
         ensures most { result.slots ≤ slots_of_kind self.now.allocator.now.pool.plan kind }
+        ensures warm { IsWarmSum M.told self.now.allocator.now (view seat.old.seat) kind result }
     {
         self.allocator.pool.warm_slots(rt, &mut seat.seat, kind)
     }

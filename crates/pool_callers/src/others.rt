@@ -256,4 +256,16 @@ impl<P: Pages, H: GcHeap, M: PageMaker> PoolingInstanceAllocator<PoolHall<P, H, 
         );
         Some(seat.frame.stripe)
     }
+
+    /// Puts the seat into this stripe, in which the memories of its next calls lie. A stripe is asked for by `next_available_pkey`, and may be
+    /// used by any seat.
+    pub fn set_stripe(&self, seat: &mut CallerSeat<PoolSeat<P, H, M>, P, H>, stripe: u32)
+        requires pool { IsAllocator M.told self.now }
+        requires seat { IsCaller M.told self.now seat.old }
+        requires stripe { stripe < self.now.pool.settings.num_stripes }
+        ensures seat { IsCaller M.told self.now seat.new }
+        ensures same { seat.new ≡ record seat.old { frame = record seat.old.frame { stripe = stripe } } }
+    {
+        seat.frame.stripe = stripe;
+    }
 }

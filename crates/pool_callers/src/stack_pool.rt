@@ -1,5 +1,5 @@
 //! The pool of stacks: what an allocator does for the stacks of fibers alone.
-ghost use Rattle.std.specs.Prelude.{◌≡◌, ◌<◌, ◌≤◌, ◌%◌, ◌^◌, ◌==◌, [], is_some, map, true, All, IfOk, IfErr};
+ghost use Rattle.std.specs.Prelude.{◌≡◌, IfSome, ◌<◌, ◌≤◌, ◌%◌, ◌^◌, ◌==◌, [], is_some, map, true, All, IfOk, IfErr};
 ghost use Rattle.pool_hall.specs.Seat.{view};
 ghost use Rattle.pool_hall.specs.Tally.{all_portions};
 ghost use Rattle.pool_hall.specs.declared.unit_name.SlotKind.TheVariants as kind;
@@ -13,6 +13,7 @@ ghost use Rattle.pool_driver.specs.Refusing.{StackRefused};
 ghost use Rattle.pool_driver.specs.Spending.{ColdWithin};
 ghost use Rattle.pool_callers.specs.Callers.{Gives, IsAllocator, IsCaller, IsGivenBack, IsGranted, IsKept, IsRefused, about_pool, left_counted};
 ghost use Rattle.pool_callers.specs.GivingMany.{AreGivenBack, GivesAll};
+ghost use Rattle.pool_callers.specs.WarmTold.{AreResident, AreWarm};
 
 use crate::allocator::PoolingInstanceAllocator;
 use crate::metrics::PoolingAllocatorMetrics;
@@ -147,6 +148,7 @@ impl<'a, P: Pages, H: GcHeap, M: PageMaker> StackPool<'a, P, H, M> {
         ensures looked { HasLooked (view seat.old.seat) (view seat.new.seat) }
         ensures kept { IsKept (view seat.old.seat) (view seat.new.seat) }
         ensures most { result ≤ slots_of_kind self.now.allocator.now.pool.plan kind.Stack }
+        ensures warm { AreWarm M.told self.now.allocator.now (view seat.old.seat) kind.Stack result }
     {
         PoolingAllocatorMetrics::new(self.allocator).unused_warm_stacks(rt, seat)
     }
@@ -164,6 +166,7 @@ impl<'a, P: Pages, H: GcHeap, M: PageMaker> StackPool<'a, P, H, M> {
         ensures looked { HasLooked (view seat.old.seat) (view seat.new.seat) }
         ensures kept { IsKept (view seat.old.seat) (view seat.new.seat) }
         ensures some { is_some result ≡ self.now.allocator.now.pool.settings.stack_zeroing }
+        ensures warm { IfSome result (AreResident M.told self.now.allocator.now (view seat.old.seat) kind.Stack) }
     {
         PoolingAllocatorMetrics::new(self.allocator).unused_stack_bytes_resident(rt, seat)
     }

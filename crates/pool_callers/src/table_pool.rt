@@ -22,6 +22,7 @@ ghost use Rattle.pool_callers.specs.Callers.{Gives, IsAllocator, IsCaller, IsGiv
 ghost use Rattle.pool_callers.specs.GivingMany.{AreGivenBack, GivesAll};
 ghost use Rattle.pool_callers.specs.NoHeapsTold.{nobody_told};
 ghost use Rattle.pool_callers.specs.Rules.{unless_broken};
+ghost use Rattle.pool_callers.specs.WarmTold.{AreResident, AreWarm};
 
 use crate::allocator::PoolingInstanceAllocator;
 use crate::metrics::PoolingAllocatorMetrics;
@@ -202,6 +203,7 @@ impl<'a, P: Pages, H: GcHeap, M: PageMaker> TablePool<'a, P, H, M> {
         ensures looked { HasLooked (view seat.old.seat) (view seat.new.seat) }
         ensures kept { IsKept (view seat.old.seat) (view seat.new.seat) }
         ensures most { result ≤ slots_of_kind self.now.allocator.now.pool.plan kind.Table }
+        ensures warm { AreWarm M.told self.now.allocator.now (view seat.old.seat) kind.Table result }
     {
         PoolingAllocatorMetrics::new(self.allocator).unused_warm_tables(rt, seat)
     }
@@ -218,6 +220,7 @@ impl<'a, P: Pages, H: GcHeap, M: PageMaker> TablePool<'a, P, H, M> {
         ensures frame { seat.new.frame ≡ seat.old.frame }
         ensures looked { HasLooked (view seat.old.seat) (view seat.new.seat) }
         ensures kept { IsKept (view seat.old.seat) (view seat.new.seat) }
+        ensures warm { AreResident M.told self.now.allocator.now (view seat.old.seat) kind.Table result }
     {
         PoolingAllocatorMetrics::new(self.allocator).unused_table_bytes_resident(rt, seat)
     }

@@ -24,7 +24,7 @@ pub const DEFAULT_MEMORY_LIMIT: usize = 10_000;
 /// A type that has nothing to say but whether things may grow implements `GrowthLimiter`, which gives it
 /// defaults for the rest. They are no bodies of this trait, because a body is proved for all limiters at
 /// once: none that answers `Ok` fits those by whose rule a reported failure is an error.
-pub trait ResourceLimiter: Send {
+pub trait ResourceLimiter {
     ghost told: { Self → LimiterTold };
 
     // Which state a question with this answer, or the report of a failure with this answer, may lead to. Code that is
@@ -88,7 +88,7 @@ pub trait ResourceLimiter: Send {
 
 /// A limiter that says only whether memories and tables may grow. As a `ResourceLimiter` it has the defaults
 /// for the rest: it takes no notice of failures, and its host may make 10,000 of each thing.
-pub trait GrowthLimiter: Send {
+pub trait GrowthLimiter {
     ghost counts: { Self → LimiterCounts };
 
     // As `ResourceLimiter::leads`. Failures aren't reported to it.

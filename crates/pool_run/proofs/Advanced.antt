@@ -5,9 +5,9 @@ use Rattle.pool_slots.specs.declared.errors.AllocError.TheVariants as alloc
 use Rattle.pool_alloc.specs.declared.frame.Call.TheVariants as call
 use Rattle.pool_alloc.specs.declared.frame.Outcome.TheVariants as answer
 use Rattle.pool_run.specs.Rooms.{World}
-use Rattle.pool_run.specs.Progress.{begun_by, begins_by, bound_asked, bound_returned, bound_purged, bound_begun, bound_keyed, bound_by}
+use Rattle.pool_run.specs.Progress.{begun_by, begins_by, bound_asked, bound_returned, bound_begun, bound_keyed, bound_by}
 use Rattle.pool_run.specs.Ties.{CanTurn}
-use Rattle.pool_run.specs.Turns.{Turned, one_step, answered, Steps, Turns, Opening, replies, makes_step, drop_opening, OpensRequest, OpensPurge, OpensAct, OpensNext, OpensAt, Leaves, OpensWanted}
+use Rattle.pool_run.specs.Turns.{Turned, one_step, answered, Steps, Turns, Opening, replies, makes_step, drop_opening, OpensRequest, OpensAct, OpensNext, OpensAt, Leaves, OpensWanted}
 use Rattle.pool_run.specs.Worlds.{IsCallFor, AreCallsFor}
 use Rattle.pool_run.specs.declared.command.Command.{Command}
 use Rattle.pool_run.specs.declared.command.Command.TheVariants as command
@@ -149,11 +149,10 @@ module _ {P : Type 0} (maker : MakerTold) (c : PoolCore P PlainHeap) (p : Runnin
       ]
 
   -- a purge
-  purges_on : (kept : Option ModuleAsked) (o : Opening P) (t : Turned P) → OpensPurge kept p o → Leaves o c p t → HasAdvanced 1 (bound_purged c kept) c p t
-  purges_on None o t opens leaves = absurd opens
-  purges_on (Some kept) o t opens leaves =
+  purges_on : (number : ℕ) (o : Opening P) (t : Turned P) → o ≡ makes_step (begun_call (call.Purge (record { 0 = number })) p.frame) p.live → Leaves o c p t → HasAdvanced 1 (bound_of c (call.Purge (record { 0 = number }))) c p t
+  purges_on number o t opens leaves =
       let L : Opening P → Type 0 = λ x. Leaves x c p t in
-      begins_step (bound_of c (call.Purge kept.id)) (begun_call (call.Purge kept.id) p.frame) p.live t (plain_opened maker c p can idle (call.Purge kept.id) tt (λ is. absurd cc)) refl (begun_bounded c (call.Purge kept.id) p.frame (at_rest maker c.settings c.plan p.frame can.party.sound.frame idle) can.core.plan.stripes) (subst L opens leaves)
+      begins_step (bound_of c (call.Purge (record { 0 = number }))) (begun_call (call.Purge (record { 0 = number })) p.frame) p.live t (plain_opened maker c p can idle (call.Purge (record { 0 = number })) tt (λ is. absurd cc)) refl (begun_bounded c (call.Purge (record { 0 = number })) p.frame (at_rest maker c.settings c.plan p.frame can.party.sound.frame idle) can.core.plan.stripes) (subst L opens leaves)
 
   -- a request for whatever it is
   wanted_on : (w : World) (modules : List ModuleAsked) (wanted : Wanted) (o : Opening P) (t : Turned P) → AreCallsFor w.terms c.settings modules → OpensWanted modules wanted p o → Leaves o c p t → p.done < length p.live → HasAdvanced 1 (bound_begun modules (requests wanted) c p) c p t
@@ -179,7 +178,7 @@ module _ {P : Type 0} (maker : MakerTold) (c : PoolCore P PlainHeap) (p : Runnin
   act_on w modules (drops of) o t calls opens leaves room =
       let L : Opening P → Type 0 = λ x. Leaves x c p t in
       drops_on of (slice_index_or p.live of None) t refl (subst L opens leaves)
-  act_on w modules (purges number) o t calls opens leaves room = purges_on (slice_get modules number) o t opens leaves
+  act_on w modules (purges number) o t calls opens leaves room = purges_on number o t opens leaves
   act_on w modules releases o t calls opens leaves room =
       let L : Opening P → Type 0 = λ x. Leaves x c p t in
       begins_step (bound_of c call.Release) (begun_call call.Release p.frame) p.live t (plain_opened maker c p can idle call.Release tt (λ is. absurd cc)) refl (begun_bounded c call.Release p.frame (at_rest maker c.settings c.plan p.frame can.party.sound.frame idle) can.core.plan.stripes) (subst L opens leaves)

@@ -7,7 +7,7 @@ use Rattle.pool_run.specs.PartyRules.{rule_of}
 use Rattle.pool_run.specs.Private.{private_stacks, PrivateMemory, PrivateState, PrivateGrant, instance_grant, Grants, grant_at, request_of, MovesBytes, Moves, Drops, private_memories, private_tables, with_table}
 use Rattle.pool_run.specs.PrivateTables.{Host, PrivateTable, StoredTable, TableMoves}
 use Rattle.pool_run.specs.Rooms.{World, TellsOfPool, TellsMove}
-use Rattle.pool_run.specs.Turns.{Turned, stored_as, one_step, with_reply, private_memory, private_table, LeaseMoves, MovesTable, private_grant, grants_of, host_of_party, Turns, memory_leases, table_leases, Opening, rests, replies, makes_step, drop_opening, OpensRequest, OpensPurge, OpensAct, OpensNext, OpensAt, Leaves, private_stack, StackLeaseMoves, MovesLeasedBytes, stack_leases, OpensWanted}
+use Rattle.pool_run.specs.Turns.{Turned, stored_as, one_step, with_reply, private_memory, private_table, LeaseMoves, MovesTable, private_grant, grants_of, host_of_party, Turns, memory_leases, table_leases, Opening, rests, replies, makes_step, drop_opening, OpensRequest, OpensAct, OpensNext, OpensAt, Leaves, private_stack, StackLeaseMoves, MovesLeasedBytes, stack_leases, OpensWanted}
 use Rattle.pool_run.specs.Ties.{seen_by_party, TiedAs, IsPrivate, CanTurn, IsAlone, IsSoundParty}
 use Rattle.pool_run.proofs.Parties.{returned_stage}
 use Rattle.pool_run.specs.Worlds.{IsWorldOf, IsCallFor, AreCallsFor}
@@ -206,11 +206,6 @@ module _ {P : Type 0} (w : World) (start : Grants) (commands : List Command) (be
         ends_seen (on_table of k op) live store reply next
         (stored_moves op w.terms.host p.heaps.made p.store.made store.made of k private.told.grants (grants_of live) reply (object_at private_tables of k private.told.grants) (subst On told_now seen) none) tt
 
-    -- a purge
-    purges_seen : (number : ℕ) (kept : Option ModuleAsked) (o : Opening P) → OpensPurge kept p o → act_at commands p.done ≡ Some (purges number) → SeesOpening w start commands before p o
-    purges_seen number None o opens next = absurd opens
-    purges_seen number (Some kept) o opens next = subst (SeesOpening w start commands before p) (sym opens) (steps_seen (begun_call (call.Purge kept.id) p.frame) p.live (whole, record { number = number; act = next }))
-
     -- a request for whatever it is
     wanted_seen : (modules : List ModuleAsked) (wanted : Wanted) (o : Opening P) → AreCallsFor w.terms c.settings modules → OpensWanted modules wanted p o → act_at commands p.done ≡ Some (requests wanted) → SeesOpening w start commands before p o
     wanted_seen modules (an_instance number) o calls opens next = requests_seen number (slice_get modules number) o (calls number) opens next
@@ -223,7 +218,7 @@ module _ {P : Type 0} (w : World) (start : Grants) (commands : List Command) (be
     act_seen modules (on_memory of k op) o calls opens next = subst (SeesOpening w start commands before p) (sym opens.3) (moves_seen op of k opens.1 opens.0 opens.2 next)
     act_seen modules (on_table of k op) o calls opens next = subst (SeesOpening w start commands before p) (sym opens.5) (tables_seen op of k opens.1 opens.2 opens.0 opens.3 opens.4 next)
     act_seen modules (drops of) o calls opens next = subst (SeesOpening w start commands before p) (sym opens) (drops_seen of (slice_index_or p.live of None) refl next)
-    act_seen modules (purges number) o calls opens next = purges_seen number (slice_get modules number) o opens next
+    act_seen modules (purges number) o calls opens next = subst (SeesOpening w start commands before p) (sym opens) (steps_seen (begun_call (call.Purge (record { 0 = number })) p.frame) p.live (whole, record { number = number; act = next }))
     act_seen modules releases o calls opens next = subst (SeesOpening w start commands before p) (sym opens) (steps_seen (begun_call call.Release p.frame) p.live (whole, next))
 
     -- The next command begins.

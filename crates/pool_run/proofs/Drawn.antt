@@ -7,7 +7,7 @@ use Rattle.pool_run.specs.Private.{Grants}
 use Rattle.pool_run.specs.Rooms.{World}
 use Rattle.pool_run.specs.RunsMade.{is_drawing}
 use Rattle.pool_run.specs.Ties.{TiedAs, IsPrivate, CanTurn, seen_by_party}
-use Rattle.pool_run.specs.Turns.{Turned, with_reply, answered, Opening, rests, replies, makes_step, drop_opening, OpensRequest, OpensPurge, OpensAct, OpensNext, OpensAt, Leaves, Turns, OpensWanted}
+use Rattle.pool_run.specs.Turns.{Turned, with_reply, answered, Opening, rests, replies, makes_step, drop_opening, OpensRequest, OpensAct, OpensNext, OpensAt, Leaves, Turns, OpensWanted}
 use Rattle.pool_run.specs.Worlds.{AreCallsFor}
 use Rattle.pool_run.specs.declared.command.Command.{Command}
 use Rattle.pool_run.specs.declared.reply.Reply.{Reply}
@@ -111,10 +111,6 @@ module _ {P : Type 0} (maker : MakerTold) (c : PoolCore P PlainHeap) (p : Runnin
         | inr is ↦ subst (IsKeyed p) (sym is) (sym (ap not keyed))
       ]
 
-  purges_keyed : (kept : Option ModuleAsked) (o : Opening P) → p.keyed ≡ true → OpensPurge kept p o → IsKeyed p o
-  purges_keyed None o keyed opens = absurd opens
-  purges_keyed (Some kept) o keyed opens = subst (IsKeyed p) (sym opens) (sym (ap not keyed))
-
   wanted_keyed : (modules : List ModuleAsked) (wanted : Wanted) (o : Opening P) → p.keyed ≡ true → OpensWanted modules wanted p o → IsKeyed p o
   wanted_keyed modules (an_instance number) o keyed opens = requests_keyed (slice_get modules number) o keyed opens
   wanted_keyed modules (a_component info) o keyed opens = subst (IsKeyed p) (sym opens) (sym (ap not keyed))
@@ -126,7 +122,7 @@ module _ {P : Type 0} (maker : MakerTold) (c : PoolCore P PlainHeap) (p : Runnin
   act_keyed modules (on_memory of k op) o keyed opens = subst (IsKeyed p) (sym opens.3) keyed
   act_keyed modules (on_table of k op) o keyed opens = subst (IsKeyed p) (sym opens.5) keyed
   act_keyed modules (drops of) o keyed opens = subst (IsKeyed p) (sym opens) (drops_keyed of (slice_index_or p.live of None) keyed)
-  act_keyed modules (purges number) o keyed opens = purges_keyed (slice_get modules number) o keyed opens
+  act_keyed modules (purges number) o keyed opens = subst (IsKeyed p) (sym opens) (sym (ap not keyed))
   act_keyed modules releases o keyed opens = subst (IsKeyed p) (sym opens) (sym (ap not keyed))
 
   -- What the next command opens with.

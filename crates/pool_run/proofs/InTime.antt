@@ -11,7 +11,7 @@ use Rattle.pool_run.specs.Acts.{Act, requests, on_memory, on_table, drops, purge
 use Rattle.pool_run.specs.Bounds.{module_objects, objects_requested, objects_granted, request_bound, act_bound, bound_if, command_bound, commands_bound, own_turns, IsInTime}
 use Rattle.pool_run.specs.Folds.{RunState, commands_of, replies_to, TurnsIf, TurnsOf, Folds, seen_by, IsRunTo, IsUnderWay, with_turn}
 use Rattle.pool_run.specs.Private.{Grants, grant_at, PrivateState}
-use Rattle.pool_run.specs.Progress.{begins_by, bound_asked, bound_returned, bound_purged, bound_begun, bound_keyed, bound_by}
+use Rattle.pool_run.specs.Progress.{begins_by, bound_asked, bound_returned, bound_begun, bound_keyed, bound_by}
 use Rattle.pool_run.specs.Rooms.{World}
 use Rattle.pool_run.specs.Ties.{CanTurn, IsPrivate, TiedAs, seen_by_party}
 use Rattle.pool_run.specs.Turns.{Turned, Turns, grants_of, private_grant, private_memory, private_table, with_reply}
@@ -81,10 +81,6 @@ module _ {P : Type 0} where
       let same : objects_wanted (module_asked m) ≡ module_objects (slice_index_or w.terms.modules number no_module) = omega (arith, ap module_objects for.asked.info) in
       omega (arith, ap (instance_bound (sizes_of c.settings c.plan)) same)
 
-  purged_most : (c : PoolCore P PlainHeap) (kept : Option ModuleAsked) → bound_purged c kept ≤ act_bound (sizes_of c.settings c.plan) [] [] (purges 0)
-  purged_most c None = omega arith
-  purged_most c (Some m) = omega arith
-
   -- Its bound is that of the command.
   act_most : (w : World) (modules : List ModuleAsked) (commands : List Command) (c : PoolCore P PlainHeap) (p : RunningParty P) (told : Grants) (act : Act) → AreCallsFor w.terms c.settings modules → grants_of p.live ≡ told → AreAsked w.terms.modules commands told → bound_begun modules act c p ≤ act_bound (sizes_of c.settings c.plan) w.terms.modules commands act
   act_most w modules commands c p told (requests (an_instance number)) calls is asked = asked_most w c number (slice_get modules number) (calls number)
@@ -96,7 +92,7 @@ module _ {P : Type 0} where
   act_most w modules commands c p told (drops of) calls is asked =
       let n : ℕ = objects_granted w.terms.modules (act_at commands of) in
       returned_most c n (slice_index_or p.live of None) (subst (HasObjects n) (told_at p.live told of (slice_index_or p.live of None) is refl) (asked of))
-  act_most w modules commands c p told (purges number) calls is asked = omega (arith, purged_most c (slice_get modules number))
+  act_most w modules commands c p told (purges number) calls is asked = omega arith
   act_most w modules commands c p told releases calls is asked = omega arith
 
   keyed_most : (w : World) (modules : List ModuleAsked) (commands : List Command) (c : PoolCore P PlainHeap) (p : RunningParty P) (told : Grants) (keyed : Bool) (next : Option Command) → AreCallsFor w.terms c.settings modules → grants_of p.live ≡ told → AreAsked w.terms.modules commands told → is_some next ≡ true → bound_keyed keyed modules next c p ≤ bound_if (sizes_of c.settings c.plan) w.terms.modules commands (option_map act_of next)

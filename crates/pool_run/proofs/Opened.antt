@@ -9,7 +9,7 @@ use Rattle.pool_run.specs.PartyRules.{rule_of}
 use Rattle.pool_run.specs.Private.{Terms}
 use Rattle.pool_alloc.proofs.StripesKept.{begun_stripe}
 use Rattle.pool_run.proofs.StageSteps.{is_none, none_idle}
-use Rattle.pool_run.specs.Turns.{LeaseMoves, MovesTable, leases_named, tables_named, memory_leases, table_leases, with_lease, with_table_lease, Opening, rests, replies, makes_step, drop_opening, IsPlain, asks_grant, OpensRequest, OpensPurge, OpensAct, OpensNext, OpensAt, MovesLeasedBytes, StackLeaseMoves, stack_leases, stack_of, with_stack_lease, OpensWanted}
+use Rattle.pool_run.specs.Turns.{LeaseMoves, MovesTable, leases_named, tables_named, memory_leases, table_leases, with_lease, with_table_lease, Opening, rests, replies, makes_step, drop_opening, IsPlain, asks_grant, OpensRequest, OpensAct, OpensNext, OpensAt, MovesLeasedBytes, StackLeaseMoves, stack_leases, stack_of, with_stack_lease, OpensWanted}
 use Rattle.pool_run.specs.Ties.{is_for_objects, granted_to, CanTurn, IsSoundParty, IsAlone}
 use Rattle.pool_run.specs.Worlds.{IsFit, AreFit, IsCallFor, AreCallsFor}
 use Rattle.pool_run.specs.declared.command.Command.{Command}
@@ -269,10 +269,6 @@ module _ {P : Type 0} (maker : MakerTold) (c : PoolCore P PlainHeap) (p : Runnin
           stripe = begins.stripe;
         }
 
-    purges_opened : (kept : Option ModuleAsked) (o : Opening P) → OpensPurge kept p o → IsOpened o
-    purges_opened None o opens = absurd opens
-    purges_opened (Some kept) o opens = subst IsOpened (sym opens) (plain_opened (call.Purge kept.id) tt (λ is. absurd cc))
-
     pub requests_opened : (kept : Option ModuleAsked) (o : Opening P) → IfSome kept (IsFit c.settings) → p.done < length p.live → OpensRequest kept p o → IsOpened o
     requests_opened None o fit room opens = absurd opens
     requests_opened (Some kept) o fit room opens =
@@ -292,7 +288,7 @@ module _ {P : Type 0} (maker : MakerTold) (c : PoolCore P PlainHeap) (p : Runnin
     act_opened modules (on_memory of k op) o fit room opens = subst IsOpened (sym opens.3) (bytes_opened (slice_index_or p.live of None) op of k opens.1 opens.0 opens.2)
     act_opened modules (on_table of k op) o fit room opens = subst IsOpened (sym opens.5) (tables_opened op of k opens.1 opens.2 opens.0 opens.3 opens.4)
     act_opened modules (drops of) o fit room opens = subst IsOpened (sym opens) (drops_opened of (slice_index_or p.live of None) refl)
-    act_opened modules (purges number) o fit room opens = purges_opened (slice_get modules number) o opens
+    act_opened modules (purges number) o fit room opens = subst IsOpened (sym opens) (plain_opened (call.Purge (record { 0 = number })) tt (λ is. absurd cc))
     act_opened modules releases o fit room opens = subst IsOpened (sym opens) (plain_opened call.Release tt (λ is. absurd cc))
 
     -- What the next command opens with.

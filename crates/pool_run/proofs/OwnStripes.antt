@@ -15,7 +15,7 @@ use Rattle.pool_run.specs.Exact.{LieInStripe}
 use Rattle.pool_run.specs.Rooms.{World}
 use Rattle.pool_run.specs.RunsMade.{is_drawing}
 use Rattle.pool_run.specs.Ties.{CanTurn, granted_to}
-use Rattle.pool_run.specs.Turns.{Turned, Opening, rests, replies, makes_step, answered, drop_opening, granted_reply, OpensRequest, OpensPurge, OpensAct, OpensNext, OpensAt, OpensWanted, Leaves, Turns, Steps}
+use Rattle.pool_run.specs.Turns.{Turned, Opening, rests, replies, makes_step, answered, drop_opening, granted_reply, OpensRequest, OpensAct, OpensNext, OpensAt, OpensWanted, Leaves, Turns, Steps}
 use Rattle.pool_run.specs.Worlds.{AreCallsFor}
 use Rattle.pool_run.specs.declared.command.Command.{Command}
 use Rattle.pool_run.specs.declared.reply.Reply.{Reply}
@@ -104,10 +104,6 @@ module _ {P : Type 0} where
           | inr is ↦ subst (OpensWithin c.plan) (sym is) (λ on. omega (arith, none (right_outside (stripe_allocator c.plan p.frame.stripe))))
         ]
 
-    purge_within : (kept : Option ModuleAsked) (o : Opening P) → OpensPurge kept p o → OpensWithin c.plan o
-    purge_within None o opens = absurd opens
-    purge_within (Some kept) o opens = subst (OpensWithin c.plan) (sym opens) (λ on. omega (arith, none (right_outside (stripe_allocator c.plan p.frame.stripe))))
-
     wanted_within : (modules : List ModuleAsked) (wanted : Wanted) (o : Opening P) → OpensWanted modules wanted p o → OpensWithin c.plan o
     wanted_within modules (an_instance number) o opens = request_within (slice_get modules number) o opens
     wanted_within modules (a_component info) o opens = subst (OpensWithin c.plan) (sym opens) (λ on. omega (arith, none (right_outside (stripe_allocator c.plan p.frame.stripe))))
@@ -119,7 +115,7 @@ module _ {P : Type 0} where
     act_within modules (on_memory of k op) o opens = subst (OpensWithin c.plan) (sym opens.3) tt
     act_within modules (on_table of k op) o opens = subst (OpensWithin c.plan) (sym opens.5) tt
     act_within modules (drops of) o opens = subst (OpensWithin c.plan) (sym opens) (drops_within of (slice_index_or p.live of None))
-    act_within modules (purges number) o opens = purge_within (slice_get modules number) o opens
+    act_within modules (purges number) o opens = subst (OpensWithin c.plan) (sym opens) (λ on. omega (arith, none (right_outside (stripe_allocator c.plan p.frame.stripe))))
     act_within modules releases o opens = subst (OpensWithin c.plan) (sym opens) (λ on. omega (arith, none (right_outside (stripe_allocator c.plan p.frame.stripe))))
 
     next_within : (modules : List ModuleAsked) (next : Option Command) (keyed : Bool) (o : Opening P) → OpensNext modules next keyed p o → OpensWithin c.plan o

@@ -11,7 +11,7 @@ use Rattle.pool_run.specs.Objects.{Objects, object_at, MovesObject}
 use Rattle.pool_run.specs.PartyRules.{rule_of}
 use Rattle.pool_run.specs.Rooms.{World}
 use Rattle.pool_run.specs.Ties.{CanTurn}
-use Rattle.pool_run.specs.Turns.{Turned, Turns, StepsUnder, Opening, rests, replies, makes_step, ended_at_once, after_step, LeaseMoves, memory_leases, MovesTable, table_leases, OpensRequest, OpensPurge, OpensAct, OpensNext, OpensAt, Leaves, StackLeaseMoves, MovesLeasedBytes, stack_leases, OpensWanted}
+use Rattle.pool_run.specs.Turns.{Turned, Turns, StepsUnder, Opening, rests, replies, makes_step, ended_at_once, after_step, LeaseMoves, memory_leases, MovesTable, table_leases, OpensRequest, OpensAct, OpensNext, OpensAt, Leaves, StackLeaseMoves, MovesLeasedBytes, stack_leases, OpensWanted}
 use Rattle.pool_run.specs.declared.command.Command.{Command}
 use Rattle.pool_run.specs.declared.reply.Reply.{Reply}
 use Rattle.pool_run.specs.declared.reply.Refusal.TheVariants.{Alloc}
@@ -262,10 +262,6 @@ module _ {P : Type 0} (w : World) (tells : w.maker.tells ≡ true) (planned : Is
             ]
       ]
 
-  purges_alike : (kept : Option ModuleAsked) (a b : Opening P) (t u : Turned P) → IsOpened w.maker c p a → OpensPurge kept p a → OpensPurge kept p b → Leaves a c p t → Leaves b c p u → AreAlike t u
-  purges_alike None a b t u is one two first second = absurd one
-  purges_alike (Some kept) a b t u is one two first second = same_opening a b t u is (one ∙ sym two) first second
-
   wanted_alike : (modules : List ModuleAsked) (wanted : Wanted) (a b : Opening P) (t u : Turned P) → p.frame.phase ≡ Idle → IsClear p.frame.asked p.frame.ending p.frame.queues → IsOpened w.maker c p a → OpensWanted modules wanted p a → OpensWanted modules wanted p b → Leaves a c p t → Leaves b c p u → AreAlike t u
   wanted_alike modules (an_instance number) a b t u idle clear is one two first second = request_alike (slice_get modules number) a b t u idle clear is one two first second
   wanted_alike modules (a_component info) a b t u idle clear is one two first second = same_opening a b t u is (one ∙ sym two) first second
@@ -281,7 +277,7 @@ module _ {P : Type 0} (w : World) (tells : w.maker.tells ≡ true) (planned : Is
       let L : Turned P → Opening P → Type 0 = λ x o. Leaves o c p x in
       stored_alike one.0 two.0 one.1 two.1 one.2 two.2 t u (subst (L t) one.5 first) (subst (L u) two.5 second) (tables_same op of k one.0 two.0 one.1 two.1 one.2 two.2 one.3 two.3 one.4 two.4)
   act_alike modules (drops of) a b t u idle clear is one two first second = same_opening a b t u is (one ∙ sym two) first second
-  act_alike modules (purges number) a b t u idle clear is one two first second = purges_alike (slice_get modules number) a b t u is one two first second
+  act_alike modules (purges number) a b t u idle clear is one two first second = same_opening a b t u is (one ∙ sym two) first second
   act_alike modules releases a b t u idle clear is one two first second = same_opening a b t u is (one ∙ sym two) first second
 
   next_alike : (modules : List ModuleAsked) (next : Option Command) (keyed : Bool) (a b : Opening P) (t u : Turned P) → p.frame.phase ≡ Idle → IsClear p.frame.asked p.frame.ending p.frame.queues → IsOpened w.maker c p a → OpensNext modules next keyed p a → OpensNext modules next keyed p b → Leaves a c p t → Leaves b c p u → AreAlike t u

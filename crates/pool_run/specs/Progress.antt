@@ -56,11 +56,6 @@ module _ {P : Type 0} where
   bound_returned c None = 1
   bound_returned c (Some grant) = bound_of c (call.GiveBack grant)
 
-  -- At most how many turns the purge of a module takes.
-  abbrev pub bound_purged : PoolCore P PlainHeap → Option ModuleAsked → ℕ
-  bound_purged c None = 1
-  bound_purged c (Some m) = bound_of c (call.Purge m.id)
-
   -- At most how many turns the call takes that an act begins; an operation on bytes or elements takes one.
   abbrev pub bound_begun : List ModuleAsked → Act → PoolCore P PlainHeap → RunningParty P → ℕ
   bound_begun modules (requests (an_instance number)) c p = bound_asked c (slice_get modules number)
@@ -70,7 +65,7 @@ module _ {P : Type 0} where
   bound_begun modules (on_memory of k op) c p = 1
   bound_begun modules (on_table of k op) c p = 1
   bound_begun modules (drops of) c p = bound_returned c (slice_index_or p.live of None)
-  bound_begun modules (purges number) c p = bound_purged c (slice_get modules number)
+  bound_begun modules (purges number) c p = bound_of c (call.Purge (record { 0 = number }))
   bound_begun modules releases c p = bound_of c call.Release
 
   -- At most how many turns a party's next call takes, by whether its stripe is drawn already, which takes one turn.

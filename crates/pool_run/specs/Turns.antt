@@ -335,11 +335,6 @@ module _ {P : Type 0} where
   drop_opening None of p = replies (Refused NoSuchGrant) p.live p.store
   drop_opening (Some grant) of p = makes_step (begun_call (call.GiveBack grant) p.frame) (slice_set p.live of None)
 
-  -- a purge of a module, by its id
-  abbrev pub OpensPurge : Option ModuleAsked → RunningParty P → Opening P → Type 0
-  OpensPurge None p o = ⊥
-  OpensPurge (Some kept) p o = o ≡ makes_step (begun_call (call.Purge kept.id) p.frame) p.live
-
   -- what a command opens with, where these are the calls for the modules by number
   abbrev pub OpensAct : List ModuleAsked → Act → RunningParty P → Opening P → Type 0
   OpensAct modules (requests wanted) p o = OpensWanted modules wanted p o
@@ -349,7 +344,7 @@ module _ {P : Type 0} where
       (reply : Reply) × (live : List (Option (Grant P PlainHeap))) × (store : ListedStore) × MovesObject table_leases (MovesTable op (rule_of p.limits) p.store store) of k p.live reply live
       × (object_at table_leases of k p.live ≡ None → store ≡ p.store) × (o ≡ replies reply live store)
   OpensAct modules (drops of) p o = o ≡ drop_opening (slice_index_or p.live of None) of p
-  OpensAct modules (purges number) p o = OpensPurge (slice_get modules number) p o
+  OpensAct modules (purges number) p o = o ≡ makes_step (begun_call (call.Purge (record { 0 = number })) p.frame) p.live
   OpensAct modules releases p o = o ≡ makes_step (begun_call call.Release p.frame) p.live
 
   -- the next command, if there is one; before its first the party draws its stripe

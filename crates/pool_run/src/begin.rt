@@ -6,7 +6,7 @@ ghost use Rattle.pool_alloc.specs.declared.frame.Asked.TheVariants.{Module as mo
 ghost use Rattle.pool_run.specs.Acts.{requests};
 ghost use Rattle.pool_run.specs.AtOnce.{given_act, given_wanted};
 ghost use Rattle.pool_run.specs.Ties.{IsReserved};
-ghost use Rattle.pool_run.specs.Turns.{makes_step, drop_opening, one_step, IsPlain, OpensRequest, OpensPurge, OpensAct, OpensNext, OpensWanted, BeginsFrom};
+ghost use Rattle.pool_run.specs.Turns.{makes_step, drop_opening, one_step, IsPlain, OpensRequest, OpensAct, OpensNext, OpensWanted, BeginsFrom};
 ghost use Rattle.pool_run.specs.Worlds.{NamesModule, NameModules};
 
 use crate::act::{Act, Wanted, act_of, heap_type};
@@ -20,6 +20,7 @@ use crate::table_commands::act_on_table;
 use pool_alloc::{Call, ModuleCall};
 use pool_pages::Pages;
 use pool_slots::{AllocError as Cause, PlainHeap};
+use pool_types::CompiledModuleId;
 use std::alloc::{AllocError, Global};
 
 /// What the beginning of a party's next command leaves to do.
@@ -101,7 +102,7 @@ fn begin<P: Pages>(
             end_at_once(party, reply)
         }
         Act::Drop { of } => give_back(party, *of),
-        Act::Purge { module } => purge(&modules[*module], party),
+        Act::Purge { module } => begin_plain(Call::Purge(CompiledModuleId(*module as u64)), party),
         Act::Release => begin_plain(Call::Release, party),
     }
 }
@@ -192,15 +193,6 @@ fn share(kept: &ModuleCall) -> Result<ModuleCall, AllocError>
         images,
         id: kept.id,
     })
-}
-
-// Purges a module.
-fn purge<P: Pages>(kept: &ModuleCall, party: &mut RunningParty<P>) -> Begun
-    requires idle { IsIdle party.old.frame }
-    ensures begins { BeginsFrom (OpensPurge (Some kept.now) party.old) party.old party.new result }
-    ensures reserved { (slots : SlotLists) → IsReserved party.old.frame slots → IsReserved party.new.frame slots }
-{
-    begin_plain(Call::Purge(kept.id), party)
 }
 
 // Gives the grant of a command back.

@@ -1,4 +1,4 @@
-ghost use Rattle.std.specs.Prelude.{◌≡◌, true, Err, false, IfOk, IfErr, IfSome, OnOk, option_map};
+ghost use Rattle.std.specs.Prelude.{◌≡◌, true, Err, Some, false, IfOk, IfErr, IfSome, OnOk, option_map};
 ghost use Rattle.std.specs.List.{list_all};
 ghost use Rattle.pool_types.specs.Rising.{Rose};
 ghost use Rattle.std.specs.Arc.{arc_value};
@@ -84,13 +84,13 @@ fn call_of(
     info: &ModuleInfo,
     images: Option<ModuleMemoryImages>,
 ) -> Result<ModuleCall, AllocError>
-    ensures { IfOk result (λ call. call ≡ record { info = info.now; images = images; id = id }) }
+    ensures { IfOk result (λ call. call ≡ record { info = info.now; images = images; id = Some id }) }
 {
     let info = info.copy(alloc)?;
     Ok(ModuleCall {
         info: Arc::new(alloc, info).map_err(AllocError::from)?,
         images: shared(alloc, images)?,
-        id,
+        id: Some(id),
     })
 }
 

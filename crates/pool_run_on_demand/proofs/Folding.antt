@@ -4,7 +4,7 @@ use Rattle.std.proofs.Common.{◌≡◌, ◌≢◌, ℕ, zero, suc, ◌+◌, ◌
 use Rattle.pool_run_on_demand.proofs.Imports.{min-eq_left, min-eq_right, cases_eq, cases_lt, nat_tests, get_or-set_at, get_or-set_other, get_or-map, get_or_append_left, get_or-append-add, length-append, length-set, length-map, length-replicate, sum_by-replicate, get_or-le-sum_by, sum_by-append, sum_by-set, MakerTold, Tunables, IsSameMaker, ModuleAsked, commands_of, replies_to, Terms, PrivateState, with_grants, no_grants, host_for, host_of, Host, World, under, open_host, world_of, commands_in, Command, Input, Party, Reply}
 use Rattle.pool_run_on_demand.specs.Faults.{StepsMeeting, ends_before_last, listed_from}
 use Rattle.pool_run_on_demand.specs.Left.{Spends, live_left}
-use Rattle.pool_run_on_demand.specs.Seen.{IsCallOnDemand, AreCallsOnDemand, state_seen}
+use Rattle.pool_run_on_demand.specs.Seen.{number_of, IsCallOnDemand, AreCallsOnDemand, state_seen}
 use Rattle.pool_run_on_demand.specs.Runs.{party_terms, parties_left, IsPartyReady, IsPartyOnDemand, IsPartyTurned, ArePartiesOnDemand, HaveStepped, HaveNone, HaveAll, replies_told, replies_due, steps_in, steps_of, steps_given, AreToldOnDemand}
 use Rattle.pool_run_on_demand.specs.declared.party.PartyOnDemand.{PartyOnDemand}
 use Rattle.pool_run_on_demand.proofs.Refused.{still_same}
@@ -65,7 +65,7 @@ get_or-any (x ∷ xs) (suc i) d e below = get_or-any xs i d e (omega (arith, bel
 pub calls_under : (host : Host) (w : World) (tunables : Tunables) (calls : List ModuleAsked) → AreCallsOnDemand w.terms tunables calls → AreCallsOnDemand (under host w).terms tunables calls
 calls_under host w tunables calls are = record { settings = are.settings; each = λ number. call_under number (slice_get calls number) (are.each number) }
   where
-    call_under : (number : ℕ) (o : Option ModuleAsked) → IfSome o (λ call. (call.id.0 ≡ number) × IsCallOnDemand w.terms tunables call) → IfSome o (λ call. (call.id.0 ≡ number) × IsCallOnDemand (under host w).terms tunables call)
+    call_under : (number : ℕ) (o : Option ModuleAsked) → IfSome o (λ call. (number_of call ≡ number) × IsCallOnDemand w.terms tunables call) → IfSome o (λ call. (number_of call ≡ number) × IsCallOnDemand (under host w).terms tunables call)
     call_under number None is = tt
     call_under number (Some call) is = (is.0, record { settings = is.1.settings; info = is.1.info; images = is.1.images; usable = is.1.usable })
 

@@ -6,7 +6,7 @@ use Rattle.pool_run_on_demand.specs.OnDemand.{BytesOnDemand, TableMovesOnDemand,
 use Rattle.pool_run_on_demand.specs.Faults.{faults_met, StepsMeeting}
 use Rattle.pool_run_on_demand.specs.Left.{Laying, laying_of, Spends, grant_left, live_left, IsLaidGrant, AreLaidLive, LiveSpends, ActSpends}
 use Rattle.pool_run_on_demand.specs.Runs.{IsPartyReady, IsPartyOnDemand, IsPartyTurned}
-use Rattle.pool_run_on_demand.specs.Seen.{seen_lease, seen_table_lease, seen_instance, seen_grant, grants_made, tables_of_grant, with_table_in, made_tables, IsHeldGrant, AreLive, TableLeaseMovesOnDemand, state_seen, IsCallOnDemand, AreCallsOnDemand}
+use Rattle.pool_run_on_demand.specs.Seen.{number_of, seen_lease, seen_table_lease, seen_instance, seen_grant, grants_made, tables_of_grant, with_table_in, made_tables, IsHeldGrant, AreLive, TableLeaseMovesOnDemand, state_seen, IsCallOnDemand, AreCallsOnDemand}
 use Rattle.pool_run_on_demand.specs.declared.grant.OnDemandGrant.{OnDemandGrant}
 use Rattle.pool_run_on_demand.specs.declared.grant.OnDemandGrant.TheVariants.{Instance as instance, Component as component, Stack as stack, Heap as heap}
 use Rattle.pool_run_on_demand.specs.declared.party.PartyOnDemand.{PartyOnDemand}
@@ -109,9 +109,9 @@ module _ {M L P : Type 0} (tells : Bool) where
       subst Dropped (sym (mapped_at seen live of ∙ ap (option_map seen) is)) (refl, ap (grants_made tells) (taken ∙ ap (slice_set live of) (sym is) ∙ set-get_or live of None))
 
 -- the call for a module that a request names
-pub call_at : (t : Terms) (tunables : Tunables) (calls : List ModuleAsked) (k : ℕ) (x : ModuleAsked) → AreCallsOnDemand t tunables calls → k < length calls → x ≡ slice_index_or calls k x → (x.id.0 ≡ k) × IsCallOnDemand t tunables x
+pub call_at : (t : Terms) (tunables : Tunables) (calls : List ModuleAsked) (k : ℕ) (x : ModuleAsked) → AreCallsOnDemand t tunables calls → k < length calls → x ≡ slice_index_or calls k x → (number_of x ≡ k) × IsCallOnDemand t tunables x
 call_at t tunables calls k x are below is =
-    let For : Option ModuleAsked → Type 0 = λ o. IfSome o (λ call. (call.id.0 ≡ k) × IsCallOnDemand t tunables call) in
+    let For : Option ModuleAsked → Type 0 = λ o. IfSome o (λ call. (number_of call ≡ k) × IsCallOnDemand t tunables call) in
     subst For (slice_get-get_or calls k x below ∙ ap Some (sym is)) (are.each k)
 
 -- What holds of nothing holds of each of some places with nothing in them.

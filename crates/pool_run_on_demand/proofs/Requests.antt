@@ -4,7 +4,7 @@ use Rattle.std.proofs.Common.{◌≡◌, ℕ, zero, suc, ◌+◌, ◌<◌, Bool,
 use Rattle.pool_run_on_demand.proofs.Imports.{option_or, list_all, get_or_from_slice_get, All-nil, All-cons, first_true, told_weaker, second_true, MakerTold, minimum_byte_size, MemoryDecl, MemoryTunables, MemoryType, ModuleInfo, Tunables, TableType, Unsupported, Image, images_from, first_misplaced, ends_in_minimum, Exchange, memory_answer, LimiterTold, LimiterError, Design, IsSameMaker, in_regions, default_design, default_refusal, IsDynamic, ImageOf, minimum_asked, maximum_asked, state_of, AllocError, begins_from, ModuleAsked, first_refused, offset_refused, type_of, type_maximum, TableView, Allocates, AllocatesListed, no_slot, IsMemoryMade, IsTableMade, Stage, IsMemoryTurn, IsTableTurn, MemoryOf, TableOf, GrantsInTurn, GrantsUnless, GrantsInstance, image_at, module_refused, memory_refused, table_refused, answer_given, InTurn, StopsAtOne, HasType, MemoryWant, Want, new_memory, new_table, wants_from, OnDemandInstance, OnDemandMemory, OnDemandTable, PrivateMemory, Terms, Request, module_of, wants_of, images_of, has_images, PrivateTable, answer_told, table_answer_told}
 use Rattle.pool_slots.specs.declared.errors.AllocError.TheVariants as alloc
 use Rattle.pool_run_on_demand.specs.OnDemand.{made_memory, made_table, request_on_demand, unsupported_on_demand, first_unmade, IsUnmade, no_slots}
-use Rattle.pool_run_on_demand.specs.Seen.{seen_lease, seen_table, seen_table_lease, AnswersOnDemand, IsCallOnDemand, IsHeld, IsMakerFor}
+use Rattle.pool_run_on_demand.specs.Seen.{number_of, seen_lease, seen_table, seen_table_lease, AnswersOnDemand, IsCallOnDemand, IsHeld, IsMakerFor}
 use Rattle.pool_run_on_demand.proofs.Made.{IsGood, made_held, made_seen}
 use Rattle.pool_run_on_demand.proofs.Refused.{cause_here, cause_later, granted, listed_granted, made_of, none_or, own_memory, own_table, refused, small_of, some_or, still_same, table_here, type_of_kind, unmade_append}
 
@@ -261,7 +261,7 @@ below_of (y ∷ ys) (suc k) x is = omega (arith, below_of ys k x is)
 
 module _ (t : Terms) (tunables : Tunables) (call : ModuleAsked) (of : IsCallOnDemand t tunables call) where
   abbrev number : ℕ
-  number = call.id.0
+  number = number_of call
 
   abbrev decls : List MemoryDecl
   decls = call.info.memories

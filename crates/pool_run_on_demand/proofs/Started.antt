@@ -2,7 +2,7 @@
 use Rattle.std.proofs.Common.{◌≡◌, ℕ, ◌+◌, ◌<◌, List, [], ◌∷◌, length, refl, sym, ap, ◌∙◌, subst, arith, Option, Some, None, true, IfSome, option_map, slice_get, slice_index_or}
 use Rattle.pool_run_on_demand.proofs.Imports.{get_or-map, get_or_from_slice_get, slice_get-get_or, rounded_up, MakerTold, ModuleInfo, ModuleAsked, IsModule, OnDemandInstanceAllocator, no_module, is_built, is_built_memory, is_built_module, call_made, calls_made, Terms, world_of, is_valid, is_valid_module, NameModules, Command, Input, Party, built_modules, built_memories, small_pages, parties_name, of_all, valid_modules, few_memories, calls_at}
 use Rattle.pool_run_on_demand.specs.Runs.{IsBackground}
-use Rattle.pool_run_on_demand.specs.Seen.{IsAllocatorFor, IsCallOnDemand, AreCallsOnDemand}
+use Rattle.pool_run_on_demand.specs.Seen.{number_of, IsAllocatorFor, IsCallOnDemand, AreCallsOnDemand}
 
 -- a module that can be run can be used
 is_module : (m : ModuleInfo) → is_built_module m ≡ true → is_valid_module m ≡ true → IsModule m
@@ -26,7 +26,7 @@ module _ (input : Input) (maker : MakerTold) (built : is_built input ≡ true) (
   }
 
   abbrev For : ℕ → Option ModuleAsked → Type 0
-  For number o = IfSome o (λ call. (call.id.0 ≡ number) × IsCallOnDemand terms input.tunables call)
+  For number o = IfSome o (λ call. (number_of call ≡ number) × IsCallOnDemand terms input.tunables call)
 
   call_there : (number : ℕ) (o : Option ModuleInfo) → slice_get input.modules number ≡ o → For number (option_map (call_made input.tunables maker.page number) o)
   call_there number None there = tt

@@ -1,6 +1,7 @@
 -- The memories, tables, instances, stacks, heaps and live grants of an allocator on demand, as a party sees them, and what
 -- holds of them meanwhile.
 use Rattle.std.specs.Prelude.{◌≡◌, ℕ, ◌+◌, ◌^◌, ◌<◌, ◌≤◌, ◌⊎◌, List, [], ◌∷◌, length, map, slice_get, slice_set, All, Bool, true, if◌then◌else◌, Option, Some, None, IfSome, option_map, Result, Ok, Err}
+use Rattle.std.specs.Option.{option_map_or}
 use Rattle.pool_run_on_demand.specs.Imports.{rounded_up, MakerTold, risen, LinearMemory, MemoryType, Tunables, page_size, GrowthGiven, GrowthRule, table_answer, LimiterTold, GrowFault, IsGrowth, GrowthLeavesMaker, obstacles, grown_size, Layout, layout_of, Storage, in_slot, stored, MemoryState, bytes_of, state_of, AllocError, ListedHeaps, PlainHeap, IsTableGrowth, table_view, TableView, ListedStore, ModuleAsked, no_slot, IsModule, HasType, OnDemandInstanceAllocator, OnDemandHeap, OnDemandInstance, OnDemandMemory, OnDemandTable, MemoryOp, TableOp, Objects, MovesNamed, PrivateTable, StoredTable, PrivateMemory, PrivateInstance, PrivateGrant, instance_grant, component_grant, stack_grant, heap_grant, heap_memory, CountsRefused, memories_named_in, put_memory, put_stack, PrivateState, Grants, Terms, Request, images_of, module_of, wants_of, StackMoves, seen_stack, Reply}
 use Rattle.pool_limits.specs.declared.errors.GrowFault.TheVariants as fault
 use Rattle.pool_run_on_demand.specs.OnDemand.{most_between, MovesOnDemand, TableMovesOnDemand, first_unmade, IsUnmade, made_instance, made_memory, IsMade, heap_terms, heap_wants, heap_barred_on_demand, IsHeapMade, IsHeapUnmade}
@@ -79,17 +80,21 @@ pub record IsAllocatorFor {M C : Type 0} (t : Terms) (allocator : OnDemandInstan
   pub size : t.stacks.size ≡ rounded_up maker.page allocator.stack_size
   pub zeroing : t.stacks.zeroing ≡ allocator.stack_zeroing
 
+-- The number of the module that a call is for: its name, in a run.
+abbrev pub number_of : ModuleAsked → ℕ
+number_of call = option_map_or (λ id. id.0) call.id 0
+
 -- The call is one for the module of its number, which can be used, by these settings.
 pub record IsCallOnDemand (t : Terms) (tunables : Tunables) (call : ModuleAsked) : Type 0 where
   pub settings : t.settings.tunables ≡ record { tunables = tunables; kind = LinearMemory }
-  pub info : module_of t call.id.0 ≡ call.info
-  pub images : call.images ≡ images_of tunables t.settings.page call.id.0 call.info.memories
+  pub info : module_of t (number_of call) ≡ call.info
+  pub images : call.images ≡ images_of tunables t.settings.page (number_of call) call.info.memories
   pub usable : IsModule call.info
 
 -- The engine's settings are those of the terms, and each call is one with this number.
 pub record AreCallsOnDemand (t : Terms) (tunables : Tunables) (calls : List ModuleAsked) : Type 0 where
   pub settings : t.settings.tunables ≡ record { tunables = tunables; kind = LinearMemory }
-  pub each : (number : ℕ) → IfSome (slice_get calls number) (λ call. (call.id.0 ≡ number) × IsCallOnDemand t tunables call)
+  pub each : (number : ℕ) → IfSome (slice_get calls number) (λ call. (number_of call ≡ number) × IsCallOnDemand t tunables call)
 
 module _ {M L : Type 0} where
   -- A memory that was granted, as its party sees it.

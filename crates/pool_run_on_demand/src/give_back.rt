@@ -7,13 +7,14 @@ ghost use Rattle.pool_run.specs.declared.reply.Reply.TheVariants.{Purged};
 use crate::act::take_from;
 use crate::grant::OnDemandGrant;
 use crate::request::HOME;
-use pool_alloc::{InstanceAllocator, ModuleCall};
+use pool_alloc::InstanceAllocator;
 use pool_limits::Unlimited;
 use pool_memory::{DefaultMemoryCreator, LinearMemory};
 use pool_on_demand::{OnDemandInstanceAllocator, OnDemandSeat};
 use pool_pages::PageMaker;
 use pool_run::{Refusal, Reply};
 use pool_slots::ListedHeaps;
+use pool_types::CompiledModuleId;
 
 // Gives the grant of a command back.
 pub(crate) fn give_back_on_demand<M: PageMaker>(
@@ -75,12 +76,12 @@ fn give_back<M: PageMaker>(
 pub(crate) fn purge_on_demand<M: PageMaker>(
     allocator: &OnDemandInstanceAllocator<M, DefaultMemoryCreator>,
     seat: &mut OnDemandSeat<M>,
-    call: &ModuleCall,
+    id: CompiledModuleId,
 ) -> Reply
     ensures reply { result ≡ Purged 0 }
     ensures seat { seat.new ≡ seat.old }
 {
     Reply::Purged(InstanceAllocator::<Unlimited, ListedHeaps>::purge_module(
-        allocator, HOME, seat, call.id,
+        allocator, HOME, seat, id,
     ))
 }

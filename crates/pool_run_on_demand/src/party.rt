@@ -24,7 +24,7 @@ use pool_run::{
 };
 use pool_slots::ListedHeaps;
 use pool_table::ListedStore;
-use pool_types::Tunables;
+use pool_types::{CompiledModuleId, Tunables};
 use std::alloc::{AllocError, Global};
 
 /// A party whose memories, tables, stacks and heaps are made on demand: the limits on their growth, the store of its GC
@@ -141,7 +141,9 @@ fn act<M: PageMaker>(
             act_on_table_on_demand(live, &mut party.store, *of, *table, op, limits)
         }
         Act::Drop { of } => give_back_on_demand(allocator, seat, live, *of),
-        Act::Purge { module } => purge_on_demand(allocator, seat, &calls[*module]),
+        Act::Purge { module } => {
+            purge_on_demand(allocator, seat, CompiledModuleId(*module as u64))
+        }
         Act::Release => Reply::Released(0),
     }
 }

@@ -9,7 +9,7 @@ ghost use Rattle.pool_run.specs.Acts.{requests};
 ghost use Rattle.pool_run.specs.AtOnce.{given_wanted};
 ghost use Rattle.pool_run_on_demand.specs.OnDemand.{Makes, MakesHeap, MakesStack, MakesWanted, request_on_demand};
 ghost use Rattle.pool_run_on_demand.specs.Left.{HeapSpends, InstanceSpends, LeaseSpends, RequestSpends, laid_for_heap, laying_of};
-ghost use Rattle.pool_run_on_demand.specs.Seen.{AnswersHeap, AnswersHeapMemory, AnswersOnDemand, AreCallsOnDemand, AreLive, IsAllocatorFor, IsCallOnDemand, grants_made};
+ghost use Rattle.pool_run_on_demand.specs.Seen.{number_of, AnswersHeap, AnswersHeapMemory, AnswersOnDemand, AreCallsOnDemand, AreLive, IsAllocatorFor, IsCallOnDemand, grants_made};
 ghost use Rattle.pool_run.specs.PartyRules.{rule_of};
 ghost use Rattle.pool_run.specs.Private.{Terms};
 ghost use Rattle.pool_run.specs.PrivateTables.{goes_through};
@@ -336,7 +336,7 @@ fn request_on_demand<M: PageMaker>(
     requires rule { terms.host.rule ≡ rule_of limits }
     requires place { n < length live.old.items }
     requires held { AreLive terms.tells live.old.items }
-    ensures makes { Makes terms n (request_on_demand terms call.now.id.0) (grants_made terms.tells live.old.items) result (grants_made terms.tells live.new.items) }
+    ensures makes { Makes terms n (request_on_demand terms (number_of call.now)) (grants_made terms.tells live.old.items) result (grants_made terms.tells live.new.items) }
     ensures spends { RequestSpends (laying_of terms (M.told seat.old.maker)) (M.told seat.old.maker) (M.told seat.new.maker) live.old.items live.new.items result }
     ensures held { AreLive terms.tells live.new.items }
     ensures places { length live.new.items ≡ length live.old.items }
@@ -368,7 +368,7 @@ fn request<M: PageMaker>(
     requires maker { IsAllocatorFor terms allocator.now (M.told seat.old.maker) }
     requires call { IsCallOnDemand terms tunables.now call.now }
     requires rule { terms.host.rule ≡ rule_of limits }
-    ensures answer { AnswersOnDemand terms (request_on_demand terms call.now.id.0) result }
+    ensures answer { AnswersOnDemand terms (request_on_demand terms (number_of call.now)) result }
     ensures maker { IsSameMaker (M.told seat.old.maker) (M.told seat.new.maker) }
     ensures spends { InstanceSpends (laying_of terms (M.told seat.old.maker)) (M.told seat.old.maker) (M.told seat.new.maker) result }
     ensures borrows { M.borrows seat.new.maker ≡ M.borrows seat.old.maker }
@@ -399,7 +399,7 @@ fn allocate<'x, M: PageMaker, R: ResourceLimiter>(
     requires call { IsCallOnDemand terms tunables.now call.now }
     requires rule { (R.told limiter.old).rule ≡ Some terms.host.rule }
     requires offsets { first_refused (λ d. offset_refused terms.settings.page d.image) call.now.info.memories ≡ None }
-    ensures answer { AnswersOnDemand terms (request_on_demand terms call.now.id.0) result }
+    ensures answer { AnswersOnDemand terms (request_on_demand terms (number_of call.now)) result }
     ensures maker { IsSameMaker (M.told seat.old.maker) (M.told seat.new.maker) }
     ensures spends { InstanceSpends (laying_of terms (M.told seat.old.maker)) (M.told seat.old.maker) (M.told seat.new.maker) result }
     ensures borrows { M.borrows seat.new.maker ≡ M.borrows seat.old.maker }
@@ -412,7 +412,7 @@ fn allocate<'x, M: PageMaker, R: ResourceLimiter>(
     let mut request = InstanceAllocationRequest {
         module: &*call.info,
         images,
-        unique_id: Some(call.id),
+        unique_id: call.id,
         tunables,
         stripe: None,
         limiter: Some(limiter),

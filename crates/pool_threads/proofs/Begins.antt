@@ -33,7 +33,7 @@ use Rattle.pool_run.specs.PrivateTables.{Host}
 use Rattle.pool_run.specs.Rooms.{World, in_stripe, under}
 use Rattle.pool_run.specs.RunsMade.{is_drawing}
 use Rattle.pool_run.specs.Ties.{CanTurn, IsPrivate, granted_to}
-use Rattle.pool_run.specs.Turns.{Begins, BeginsFrom, IsPlain, Opening, OpensAct, OpensNext, OpensPurge, OpensRequest, OpensWanted, drop_opening, Turned, ended_at_once, host_of_party, makes_step, one_step, replies, rests}
+use Rattle.pool_run.specs.Turns.{Begins, BeginsFrom, IsPlain, Opening, OpensAct, OpensNext, OpensRequest, OpensWanted, drop_opening, Turned, ended_at_once, host_of_party, makes_step, one_step, replies, rests}
 use Rattle.pool_run.specs.Worlds.{AreCallsFor, AreFit, IsFit}
 use Rattle.pool_run.specs.declared.begin.Begun.{Begun}
 use Rattle.pool_run.specs.declared.begin.Begun.TheVariants.{Rests, Replies, Calls}
@@ -115,10 +115,6 @@ module _ {T P : Type 0} (j : Job) (places : ℕ) (v : View T) where
           | inr is ↦ subst (DrivesOpening p) (sym is) (driven_begun places (given_by j p.live) v p.frame (call.Module kept) work.driven (idle, fit.images, fit.places), work.keeps, (λ replies all. all))
         ]
 
-    purges_driven : (kept : Option ModuleAsked) (o : Opening P) → OpensPurge kept p o → DrivesOpening p o
-    purges_driven None o opens = absurd opens
-    purges_driven (Some kept) o opens = subst (DrivesOpening p) (sym opens) (begun_plain p (call.Purge kept.id) tt idle work)
-
     wanted_driven : (modules : List ModuleAsked) (wanted : Wanted) (o : Opening P) → AreFit j.settings modules → OpensWanted modules wanted p o → DrivesOpening p o
     wanted_driven modules (an_instance number) o fit opens = requests_driven (slice_get modules number) o (fit number) opens
     wanted_driven modules (a_component info) o fit opens = subst (DrivesOpening p) (sym opens) (begun_plain p (call.Component info) tt idle work)
@@ -130,7 +126,7 @@ module _ {T P : Type 0} (j : Job) (places : ℕ) (v : View T) where
     act_driven modules (on_memory of k op) o fit opens = subst (DrivesOpening p) (sym opens.3) (bytes_keep j.world.maker (bare_pool j) p work.party.sound (slice_index_or p.live of None) op of k opens.1 opens.0 opens.2 work.keeps, bytes_named p (slice_index_or p.live of None) op of k opens.1 opens.0 opens.2)
     act_driven modules (on_table of k op) o fit opens = subst (DrivesOpening p) (sym opens.5) (table_keep j.world.maker (bare_pool j) p work.party.sound op of k opens.1 opens.2 opens.0 opens.3 work.keeps, table_named p op of k opens.1 opens.2 opens.0 opens.3)
     act_driven modules (drops of) o fit opens = subst (DrivesOpening p) (sym opens) (drops_driven of (slice_index_or p.live of None) refl)
-    act_driven modules (purges number) o fit opens = purges_driven (slice_get modules number) o opens
+    act_driven modules (purges number) o fit opens = subst (DrivesOpening p) (sym opens) (begun_plain p (call.Purge (record { 0 = number })) tt idle work)
     act_driven modules releases o fit opens = subst (DrivesOpening p) (sym opens) (begun_plain p call.Release tt idle work)
 
     next_driven : (modules : List ModuleAsked) (next : Option Command) (keyed : Bool) (o : Opening P) → AreFit j.settings modules → OpensNext modules next keyed p o → DrivesOpening p o
@@ -334,10 +330,6 @@ module _ {P : Type 0} (p : RunningParty P) where
   request_opens None opens = opens
   request_opens (Some kept) opens = elim opens [ inl is ↦ cc | inr is ↦ cc ]
 
-  purge_opens : (kept : Option ModuleAsked) → OpensPurge kept p rests → ⊥
-  purge_opens None opens = opens
-  purge_opens (Some kept) opens = cc
-
   wanted_opens : (modules : List ModuleAsked) (wanted : Wanted) → OpensWanted modules wanted p rests → ⊥
   wanted_opens modules (an_instance number) opens = request_opens (slice_get modules number) opens
   wanted_opens modules (a_component info) opens = cc
@@ -349,7 +341,7 @@ module _ {P : Type 0} (p : RunningParty P) where
   act_opens modules (on_memory of k op) opens = not_replies opens.0 opens.1 p.store opens.3
   act_opens modules (on_table of k op) opens = not_replies opens.0 opens.1 opens.2 opens.5
   act_opens modules (drops of) opens = drop_opens of (slice_index_or p.live of None) opens
-  act_opens modules (purges number) opens = purge_opens (slice_get modules number) opens
+  act_opens modules (purges number) opens = cc
   act_opens modules releases opens = cc
 
   next_opens : (modules : List ModuleAsked) (next : Option Command) (keyed : Bool) → OpensNext modules next keyed p rests → next ≡ None

@@ -19,7 +19,7 @@ use Rattle.pool_alloc.specs.declared.frame.Grant.TheVariants.{Instance, Componen
 use Rattle.pool_driver.specs.Calling.{CallKind, asks_for, asks_component, components_of, draws_key, gives_back, instances_of, kind_at, objects_of, purges as purges_kind, releases as releases_kind}
 use Rattle.pool_driver.proofs.Calling.{begun_kind}
 use Rattle.pool_run.specs.Acts.{Act, requests, on_memory, on_table, drops, purges, releases, act_of, Wanted, an_instance, a_component, a_stack, a_heap, heap_type}
-use Rattle.pool_run.specs.Turns.{Opening, OpensAct, OpensNext, OpensPurge, OpensRequest, OpensWanted, drop_opening, makes_step, replies, rests}
+use Rattle.pool_run.specs.Turns.{Opening, OpensAct, OpensNext, OpensRequest, OpensWanted, drop_opening, makes_step, replies, rests}
 use Rattle.pool_run.specs.declared.command.Command.{Command}
 use Rattle.pool_run.specs.declared.running_party.RunningParty.{RunningParty}
 use Rattle.pool_threads.specs.Asked.{Scarce, slots, instances, components, asked_by, asked_next, asked_with, at_next, faulted_by, objects_asked, one_component, refused_by}
@@ -131,10 +131,6 @@ module _ {P : Type 0} where
                 at_most _ _ (of_call (call.Module kept) p.frame asks_for (begun_kind (call.Module kept) p.frame) k ∙ for_objects (module_asked kept) k ∙ sym there))
           ]
 
-      purge_asks : (number : ℕ) (kept : Option ModuleAsked) (o : Opening P) → OpensPurge kept p o → AsksAtMost (λ k. asked_by k modules (purges number)) o
-      purge_asks number None o opens = absurd opens
-      purge_asks number (Some kept) o opens = subst (AsksAtMost (λ k. asked_by k modules (purges number))) (sym opens) (λ k. at_most _ _ (of_call (call.Purge kept.id) p.frame purges_kind (begun_kind (call.Purge kept.id) p.frame) k ∙ purge_none p.frame.asked k))
-
       wanted_asks : (wanted : Wanted) (o : Opening P) → OpensWanted modules wanted p o → AsksAtMost (λ k. asked_by k modules (requests wanted)) o
       wanted_asks (an_instance number) o opens = request_asks number (slice_get modules number) o refl opens
       wanted_asks (a_component info) o opens = subst (AsksAtMost (λ k. asked_by k modules (requests (a_component info)))) (sym opens) (λ k. at_most _ _ (of_call (call.Component info) p.frame asks_component (begun_kind (call.Component info) p.frame) k ∙ for_component p.frame.asked k))
@@ -146,7 +142,7 @@ module _ {P : Type 0} where
       act_asks (on_memory of n op) o opens = subst (AsksAtMost (λ k. 0)) (sym opens.3) tt
       act_asks (on_table of n op) o opens = subst (AsksAtMost (λ k. 0)) (sym opens.5) tt
       act_asks (drops of) o opens = subst (AsksAtMost (λ k. asked_by k modules (drops of))) (sym opens) (drop_asks of (slice_index_or p.live of None))
-      act_asks (purges number) o opens = purge_asks number (slice_get modules number) o opens
+      act_asks (purges number) o opens = subst (AsksAtMost (λ k. asked_by k modules (purges number))) (sym opens) (λ k. at_most _ _ (of_call (call.Purge (record { 0 = number })) p.frame purges_kind (begun_kind (call.Purge (record { 0 = number })) p.frame) k ∙ purge_none p.frame.asked k))
       act_asks releases o opens = subst (AsksAtMost (λ k. asked_by k modules releases)) (sym opens) (λ k. at_most _ _ (of_call call.Release p.frame releases_kind (begun_kind call.Release p.frame) k ∙ release_none p.frame.asked k))
 
       pub next_asks : (next : Option Command) (keyed : Bool) (o : Opening P) → OpensNext modules next keyed p o → AsksAtMost (λ k. asked_next k modules keyed next) o
@@ -171,10 +167,6 @@ module _ {P : Type 0} where
       request_call None o opens = absurd opens
       request_call (Some kept) o opens = elim opens [ inl ends ↦ subst BeginsCall (sym ends) tt | inr begins ↦ at_call (call.Module kept) p.live o begins ]
 
-      purge_call : (kept : Option ModuleAsked) (o : Opening P) → OpensPurge kept p o → BeginsCall o
-      purge_call None o opens = absurd opens
-      purge_call (Some kept) o opens = at_call (call.Purge kept.id) p.live o opens
-
       wanted_call : (wanted : Wanted) (o : Opening P) → OpensWanted modules wanted p o → BeginsCall o
       wanted_call (an_instance number) o opens = request_call (slice_get modules number) o opens
       wanted_call (a_component info) o opens = at_call (call.Component info) p.live o opens
@@ -186,7 +178,7 @@ module _ {P : Type 0} where
       act_call (on_memory of n op) o opens = subst BeginsCall (sym opens.3) tt
       act_call (on_table of n op) o opens = subst BeginsCall (sym opens.5) tt
       act_call (drops of) o opens = subst BeginsCall (sym opens) (drop_call of (slice_index_or p.live of None))
-      act_call (purges number) o opens = purge_call (slice_get modules number) o opens
+      act_call (purges number) o opens = at_call (call.Purge (record { 0 = number })) p.live o opens
       act_call releases o opens = at_call call.Release p.live o opens
 
       pub next_call : (next : Option Command) (keyed : Bool) (o : Opening P) → OpensNext modules next keyed p o → BeginsCall o
@@ -212,10 +204,6 @@ module _ {P : Type 0} where
             | inr begins ↦ subst (IsQuiet (requests (an_instance number))) (sym begins) tt
           ]
 
-      purge_quiet : (number : ℕ) (kept : Option ModuleAsked) (o : Opening P) → OpensPurge kept p o → IsQuiet (purges number) o
-      purge_quiet number None o opens = absurd opens
-      purge_quiet number (Some kept) o opens = subst (IsQuiet (purges number)) (sym opens) tt
-
       wanted_quiet : (wanted : Wanted) (o : Opening P) → OpensWanted modules wanted p o → IsQuiet (requests wanted) o
       wanted_quiet (an_instance number) o opens = request_quiet number (slice_get modules number) o opens
       wanted_quiet (a_component info) o opens = subst (IsQuiet (requests (a_component info))) (sym opens) tt
@@ -227,7 +215,7 @@ module _ {P : Type 0} where
       act_quiet (on_memory of n op) o opens = subst (IsQuiet (on_memory of n op)) (sym opens.3) ((λ k. refl), refl)
       act_quiet (on_table of n op) o opens = subst (IsQuiet (on_table of n op)) (sym opens.5) ((λ k. refl), refl)
       act_quiet (drops of) o opens = subst (IsQuiet (drops of)) (sym opens) (drop_quiet of (slice_index_or p.live of None))
-      act_quiet (purges number) o opens = purge_quiet number (slice_get modules number) o opens
+      act_quiet (purges number) o opens = subst (IsQuiet (purges number)) (sym opens) tt
       act_quiet releases o opens = subst (IsQuiet releases) (sym opens) tt
 
       abbrev pub NextIsQuiet : Option Command → Opening P → Type 0

@@ -9,7 +9,7 @@ use Rattle.pool_alloc.specs.declared.pool_core.PoolCore.{PoolCore}
 use Rattle.pool_run.specs.Acts.{Act, requests, on_memory, on_table, drops, purges, releases, act_of, Wanted, an_instance, a_component, a_stack, a_heap}
 use Rattle.pool_run.specs.PartyRules.{rule_of}
 use Rattle.pool_run.specs.Ties.{IsSoundParty}
-use Rattle.pool_run.specs.Turns.{Opening, OpensAct, OpensNext, OpensPurge, OpensRequest, OpensWanted, drop_opening, makes_step, replies, rests}
+use Rattle.pool_run.specs.Turns.{Opening, OpensAct, OpensNext, OpensRequest, OpensWanted, drop_opening, makes_step, replies, rests}
 use Rattle.pool_run.specs.declared.command.Command.{Command}
 use Rattle.pool_run.specs.declared.reply.Reply.TheVariants.{Refused}
 use Rattle.pool_run.specs.declared.reply.Refusal.TheVariants.{Alloc, NoSuchGrant}
@@ -38,10 +38,6 @@ module _ {P : Type 0} (maker : MakerTold) (c : PoolCore P PlainHeap) (p : Runnin
         | inr begins ↦ subst (ActCounts (requests (an_instance number))) (sym begins) same
       ]
 
-  purge_counts : (number : ℕ) (kept : Option ModuleAsked) (o : Opening P) → OpensPurge kept p o → ActCounts (purges number) o
-  purge_counts number None o opens = absurd opens
-  purge_counts number (Some kept) o opens = subst (ActCounts (purges number)) (sym opens) same
-
   wanted_counts : (modules : List ModuleAsked) (wanted : Wanted) (o : Opening P) → OpensWanted modules wanted p o → ActCounts (requests wanted) o
   wanted_counts modules (an_instance number) o opens = request_counts number (slice_get modules number) o opens
   wanted_counts modules (a_component info) o opens = subst (ActCounts (requests (a_component info))) (sym opens) same
@@ -53,7 +49,7 @@ module _ {P : Type 0} (maker : MakerTold) (c : PoolCore P PlainHeap) (p : Runnin
   act_counts modules (on_memory of k op) o opens = subst (ActCounts (on_memory of k op)) (sym opens.3) (bytes_counts maker c p sound (slice_index_or p.live of None) op of k opens.1 opens.0 refl opens.2)
   act_counts modules (on_table of k op) o opens = subst (ActCounts (on_table of k op)) (sym opens.5) (counts_none maker (rule_of p.limits) (on_table of k op) opens.0 p.live opens.1 (λ grant n. refl) (table_loses maker c p sound op of k opens.1 opens.2 opens.0 opens.3))
   act_counts modules (drops of) o opens = subst (ActCounts (drops of)) (sym opens) (drop_counts of (slice_index_or p.live of None) refl)
-  act_counts modules (purges number) o opens = purge_counts number (slice_get modules number) o opens
+  act_counts modules (purges number) o opens = subst (ActCounts (purges number)) (sym opens) same
   act_counts modules releases o opens = subst (ActCounts releases) (sym opens) same
 
   -- So of the next command, which is there where it ends at once.

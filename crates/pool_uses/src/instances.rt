@@ -68,7 +68,11 @@ pub fn module_call<M: PageMaker>(
         None => None,
     };
     let info = shared(alloc, info)?;
-    Ok(ModuleCall { info, images, id })
+    Ok(ModuleCall {
+        info,
+        images,
+        id: Some(id),
+    })
 }
 
 // A value that can be shared.

@@ -93,7 +93,10 @@ pub fn memory_call(
     Ok(MemoryCall {
         ty: call.info.memories.as_slice()[index.0 as usize].ty,
         image,
-        affine: Some(MemoryInModule(call.id, index)),
+        affine: match call.id {
+            None => None,
+            Some(id) => Some(MemoryInModule(id, index)),
+        },
     })
 }
 

@@ -110,7 +110,7 @@ fn wanted_of<P: Pages>(frame: &Frame<P, PlainHeap>) -> Option<MemoryInModule> {
     match &frame.asked {
         Asked::Module(call) => {
             let index = u32::try_from(frame.objects.memories.len()).ok()?;
-            Some(MemoryInModule(call.id, DefinedMemoryIndex(index)))
+            Some(MemoryInModule(call.id?, DefinedMemoryIndex(index)))
         }
         Asked::Memory(call) => call.affine,
         _ => None,

@@ -80,10 +80,13 @@ fn wanted_by<P: Pages>(frame: &Frame<P, PlainHeap>) -> Option<MemoryOf>
     ensures { result ≡ option_map memory_of (wanted_of frame.now.asked (length frame.now.objects.memories.items)) }
 {
     match &frame.asked {
-        Asked::Module(call) => Some(MemoryOf {
-            id: call.id,
-            index: frame.objects.memories.len(),
-        }),
+        Asked::Module(call) => match call.id {
+            None => None,
+            Some(id) => Some(MemoryOf {
+                id,
+                index: frame.objects.memories.len(),
+            }),
+        },
         Asked::Memory(call) => match call.affine {
             None => None,
             Some(memory) => Some(MemoryOf {

@@ -262,7 +262,10 @@ impl<P: Pages, H: GcHeap> Frame<P, H> {
     {
         let index = DefinedMemoryIndex(self.objects.memories.len() as u32);
         match &self.asked {
-            Asked::Module(call) => Some(MemoryInModule(call.id, index)),
+            Asked::Module(call) => match call.id {
+                None => None,
+                Some(id) => Some(MemoryInModule(id, index)),
+            },
             Asked::Memory(call) => call.affine,
             _ => None,
         }

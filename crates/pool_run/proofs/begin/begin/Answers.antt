@@ -27,6 +27,3 @@ returns-in-OnTable-clause-begins g c =
 
 pub returns-in-Drop-clause-reserved : goal.returns-in-Drop-clause-reserved
 returns-in-Drop-clause-reserved g c = c.give_back.ensures.reserved c.args.slots.now c.requires.reserved
-
-pub returns-in-Purge-clause-reserved : goal.returns-in-Purge-clause-reserved
-returns-in-Purge-clause-reserved g c = c.purge.ensures.reserved c.args.slots.now c.requires.reserved

@@ -24,8 +24,8 @@ returns-clause-answer g c =
     let result = c.allocate_module.result in
     let from : Stage (Option g.row.R.Denot) = record { maker = told c.args.seat.now.maker; limiter = Some c.args.limiter.now } in
     let to : Stage (Option g.row.R.Denot) = record { maker = told c.allocate_module.new.seat.maker; limiter = lent c.allocate_module.new.request.limiter } in
-    let for = c.requires.1.1.1.1.0 in
-    let of = c.requires.1.1.1.1.1.0 in
+    let for = c.requires.1.1.1.0 in
+    let of = c.requires.1.1.1.1.0 in
     let page : 0 < (told c.args.seat.now.maker).page = omega (arith, c.get-page.ensures.valid.at_least, c.page.ensures) in
     let info : c.deref-2.result.now ≡ call.info = c.deref-2.ensures ∙ ap (λ (k : ModuleAsked). k.info) c.call.view_is in
     let images : option_map (λ i. i.now) c.match-call.images ≡ call.images = images_same g c in
@@ -34,7 +34,7 @@ returns-clause-answer g c =
     let Grants : MemoryTunables → ModuleInfo → Option (List (Option Image)) → Type 0 = λ tunables m i. GrantsInstance limited leads (λ page x tunables minimum y. default_refusal page tunables minimum) (λ page x tunables minimum maximum. Some (default_design page tunables minimum maximum)) tunables m i result from to in
     let given : MemoryTunables = record { tunables = c.args.tunables.now; kind = LinearMemory } in
     let is : Grants t.settings.tunables call.info call.images = subst (λ (s : MemoryTunables). Grants s call.info call.images) (sym of.settings) (subst (λ (m : ModuleInfo). Grants given m call.images) info (subst (Grants given c.deref-2.result.now) images c.allocate_module.ensures.made.0)) in
-    (answered_as t c.args.tunables.now call of (told c.args.seat.now.maker) for.pages.page page limited leads _ _ _ from to c.requires.1.1.1.1.1.1.0 for.pages.tells refl c.requires.1.1.1.1.1.1.1 result is).0
+    (answered_as t c.args.tunables.now call of (told c.args.seat.now.maker) for.pages.page page limited leads _ _ _ from to c.requires.1.1.1.1.1.0 for.pages.tells refl c.requires.1.1.1.1.1.1 result is).0
 
 pub returns-clause-maker : goal.returns-clause-maker
 returns-clause-maker g c =
@@ -44,8 +44,8 @@ returns-clause-maker g c =
     let result = c.allocate_module.result in
     let from : Stage (Option g.row.R.Denot) = record { maker = told c.args.seat.now.maker; limiter = Some c.args.limiter.now } in
     let to : Stage (Option g.row.R.Denot) = record { maker = told c.allocate_module.new.seat.maker; limiter = lent c.allocate_module.new.request.limiter } in
-    let for = c.requires.1.1.1.1.0 in
-    let of = c.requires.1.1.1.1.1.0 in
+    let for = c.requires.1.1.1.0 in
+    let of = c.requires.1.1.1.1.0 in
     let page : 0 < (told c.args.seat.now.maker).page = omega (arith, c.get-page.ensures.valid.at_least, c.page.ensures) in
     let info : c.deref-2.result.now ≡ call.info = c.deref-2.ensures ∙ ap (λ (k : ModuleAsked). k.info) c.call.view_is in
     let images : option_map (λ i. i.now) c.match-call.images ≡ call.images = images_same g c in
@@ -54,7 +54,7 @@ returns-clause-maker g c =
     let Grants : MemoryTunables → ModuleInfo → Option (List (Option Image)) → Type 0 = λ tunables m i. GrantsInstance limited leads (λ page x tunables minimum y. default_refusal page tunables minimum) (λ page x tunables minimum maximum. Some (default_design page tunables minimum maximum)) tunables m i result from to in
     let given : MemoryTunables = record { tunables = c.args.tunables.now; kind = LinearMemory } in
     let is : Grants t.settings.tunables call.info call.images = subst (λ (s : MemoryTunables). Grants s call.info call.images) (sym of.settings) (subst (λ (m : ModuleInfo). Grants given m call.images) info (subst (Grants given c.deref-2.result.now) images c.allocate_module.ensures.made.0)) in
-    (answered_as t c.args.tunables.now call of (told c.args.seat.now.maker) for.pages.page page limited leads _ _ _ from to c.requires.1.1.1.1.1.1.0 for.pages.tells refl c.requires.1.1.1.1.1.1.1 result is).1
+    (answered_as t c.args.tunables.now call of (told c.args.seat.now.maker) for.pages.page page limited leads _ _ _ from to c.requires.1.1.1.1.1.0 for.pages.tells refl c.requires.1.1.1.1.1.1 result is).1
 
 pub returns-clause-spends : goal.returns-clause-spends
 returns-clause-spends g c =
@@ -64,8 +64,8 @@ returns-clause-spends g c =
     let result = c.allocate_module.result in
     let from : Stage (Option g.row.R.Denot) = record { maker = told c.args.seat.now.maker; limiter = Some c.args.limiter.now } in
     let to : Stage (Option g.row.R.Denot) = record { maker = told c.allocate_module.new.seat.maker; limiter = lent c.allocate_module.new.request.limiter } in
-    let for = c.requires.1.1.1.1.0 in
-    let of = c.requires.1.1.1.1.1.0 in
+    let for = c.requires.1.1.1.0 in
+    let of = c.requires.1.1.1.1.0 in
     let limited = limiter_told g.R.ResourceLimiter.told in
     let leads = if_leads g.R.ResourceLimiter.leads in
     let Grants : MemoryTunables → Type 0 = λ tunables. GrantsInstance limited leads (λ page x tunables minimum y. default_refusal page tunables minimum) (λ page x tunables minimum maximum. Some (default_design page tunables minimum maximum)) tunables c.deref-2.result.now (option_map (λ i. i.now) c.match-call.images) result from to in

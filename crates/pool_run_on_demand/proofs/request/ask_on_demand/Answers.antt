@@ -1,7 +1,7 @@
 use Rattle.std.proofs.Common.{rules, ◌≡◌, ℕ, ◌<◌, List, Some, length, refl, sym, ap, subst, arith, slice_index_or, slice_set}
 use Rattle.pool_run_on_demand.proofs.Imports.{MakerTold, MemoryType, ModuleAsked, requests, given_wanted, NamesModule}
 use Rattle.pool_run_on_demand.specs.OnDemand.{Makes, MakesHeap, MakesWanted, request_on_demand}
-use Rattle.pool_run_on_demand.specs.Seen.{grants_made}
+use Rattle.pool_run_on_demand.specs.Seen.{number_of, grants_made}
 use Rattle.pool_run_on_demand.specs.Left.{laying_of}
 use Rattle.pool_run.specs.declared.act.Wanted.{Wanted}
 use Rattle.pool_run.specs.declared.reply.Reply.TheVariants.{Component as granted}
@@ -35,7 +35,7 @@ returns-in-Instance-clause-makes g c stores =
     let x : ModuleAsked = c.index-calls-module.result in
     let is : x ≡ slice_index_or calls c.in-Instance.module x = search rules in
     let Named : Wanted → Type 0 = λ w. NamesModule (length calls) (requests (given_wanted w)) in
-    let same : x.id.0 ≡ c.in-Instance.module = (call_at t c.args.tunables.now calls c.in-Instance.module x c.requires.1.1.1.0 (subst Named c.in-Instance.is c.requires.1.1.1.1.0) is).0 in
+    let same : number_of x ≡ c.in-Instance.module = (call_at t c.args.tunables.now calls c.in-Instance.module x c.requires.1.1.1.0 (subst Named c.in-Instance.is c.requires.1.1.1.1.0) is).0 in
     let Makes_of : Wanted → Type 0 = λ w. MakesWanted t c.args.n (given_wanted w) (record { grants = grants_made t.tells c.args.live.now.items; stores = stores; heaps = heaps }) c.request_on_demand.result (record { grants = grants_made t.tells new; stores = stores; heaps = heaps }) in
     let For : ℕ → Type 0 = λ k. Makes t c.args.n (request_on_demand t k) (grants_made t.tells c.args.live.now.items) c.request_on_demand.result (grants_made t.tells new) in
     subst Makes_of (sym c.in-Instance.is) (grants_made t.tells new, subst For same c.request_on_demand.ensures.makes, refl)

@@ -15,7 +15,7 @@ returns-clause-answer g c =
     let limited = limiter_told g.R.ResourceLimiter.told in
     let leads = if_leads g.R.ResourceLimiter.leads in
     let Turn : MemoryTunables → Type 0 = λ s. IsMemoryTurn limited leads (λ page x tunables minimum y. default_refusal page tunables minimum) (λ page x tunables minimum maximum. Some (default_design page tunables minimum maximum)) s None c.args.ty.now result from to in
-    heap_memory_answered t limited leads _ _ c.args.ty.now from to c.requires.1.1.1.1.1.1.0 c.requires.1.1.1.1.0.pages c.requires.1.1.1.1.1.1.1.0 result (subst Turn (sym (heap_settings t c.args.tunables.now c.requires.1.1.1.1.1.0)) c.allocate_memory.ensures.made.0)
+    heap_memory_answered t limited leads _ _ c.args.ty.now from to c.requires.1.1.1.1.1.0 c.requires.1.1.1.0.pages c.requires.1.1.1.1.1.1.0 result (subst Turn (sym (heap_settings t c.args.tunables.now c.requires.1.1.1.1.0)) c.allocate_memory.ensures.made.0)
 
 pub returns-clause-maker : goal.returns-clause-maker
 returns-clause-maker g c = c.allocate_memory.ensures.made.0.maker
@@ -30,5 +30,5 @@ returns-clause-spends g c =
     let limited = limiter_told g.R.ResourceLimiter.told in
     let leads = if_leads g.R.ResourceLimiter.leads in
     let Turn : MemoryTunables → Type 0 = λ s. IsMemoryTurn limited leads (λ page x tunables minimum y. default_refusal page tunables minimum) (λ page x tunables minimum maximum. Some (default_design page tunables minimum maximum)) s None c.args.ty.now result from to in
-    let turn = subst Turn (sym (heap_settings t c.args.tunables.now c.requires.1.1.1.1.1.0)) c.allocate_memory.ensures.made.0 in
-    turn_paid limited leads _ _ (laid_for_heap (laying_of t from.maker)) None c.args.ty.now result from to (c.requires.1.1.1.1.0.pages.page, refl) turn
+    let turn = subst Turn (sym (heap_settings t c.args.tunables.now c.requires.1.1.1.1.0)) c.allocate_memory.ensures.made.0 in
+    turn_paid limited leads _ _ (laid_for_heap (laying_of t from.maker)) None c.args.ty.now result from to (c.requires.1.1.1.0.pages.page, refl) turn

@@ -1,7 +1,7 @@
 use Rattle.std.proofs.Common.{◌≡◌, length, replicate, ap, ◌∙◌, subst}
 use Rattle.pool_run_on_demand.proofs.Imports.{MakerTold, ModuleInfo, ModuleAsked, no_slot}
 use Rattle.pool_run_on_demand.specs.OnDemand.{request_on_demand}
-use Rattle.pool_run_on_demand.specs.Seen.{AnswersOnDemand}
+use Rattle.pool_run_on_demand.specs.Seen.{number_of, AnswersOnDemand}
 use Rattle.pool_run_on_demand.specs.Left.{Laying, InstanceSpends, laying_of}
 use Rattle.pool_run_on_demand.specs.declared.grant.OnDemandGrant.TheVariants.{Instance}
 use Rattle.pool_run_on_demand.proofs.Parties.{granted_makes, live_with}
@@ -13,7 +13,7 @@ pub returns-in-Ok-request-clause-makes : goal.returns-in-Ok-request-clause-makes
 returns-in-Ok-request-clause-makes g c =
     let t = g.terms in
     let call = c.args.call.now in
-    let request = request_on_demand t call.id.0 in
+    let request = request_on_demand t (number_of call) in
     let is = subst (AnswersOnDemand t request) c.in-Ok-request.is c.request.ensures.answer in
     let info : c.deref.result.now ≡ call.info = c.deref.ensures ∙ ap (λ (k : ModuleAsked). k.info) c.call.view_is in
     let memories = c.in-Ok.ensures.memories ∙ ap (λ (m : ModuleInfo). replicate (length m.memories) no_slot) info ∙ memories_in_none t c.args.tunables.now call c.requires.1.1.1.0 in
@@ -23,7 +23,7 @@ returns-in-Ok-request-clause-makes g c =
 pub returns-in-Ok-request-clause-held : goal.returns-in-Ok-request-clause-held
 returns-in-Ok-request-clause-held g c =
     let t = g.terms in
-    let is = subst (AnswersOnDemand t (request_on_demand t c.args.call.now.id.0)) c.in-Ok-request.is c.request.ensures.answer in
+    let is = subst (AnswersOnDemand t (request_on_demand t (number_of c.args.call.now))) c.in-Ok-request.is c.request.ensures.answer in
     live_with t.tells c.args.live.now.items c.args.n (Instance c.in-Ok-request.grant) is.1.1 c.requires.1.1.1.1.1.1
 
 pub returns-in-Ok-request-clause-spends : goal.returns-in-Ok-request-clause-spends

@@ -10,22 +10,22 @@ use Rattle.pool_threads.specs.Working.{StandsSomewhere, StepsHere}
 use Rattle.pool_threads.proofs.StepsHere.{steps_here, tells_on}
 use Rattle.pool_threads.proofs.party.step_under.Goals as goal
 
-pub step-requires-send-L : goal.step-requires-send-L
-step-requires-send-L g c κs within =
+pub step-requires : goal.step-requires
+step-requires g c κs within =
     let pool : IsSharedOf g.M.PageMaker.told g.given.about c.args.pool.now = search rules in
     let own : IsSeatOf c.args.pool.now.hall c.args.seat.now = search rules in
     let free : IsFree c.args.seat.now = search rules in
     let driven : IsDriven (length (made_with c.args.pool.now.hall)) g.given (view c.args.seat.now) c.args.frame.now None = search rules in
     search rules
 
-pub step-requires-in-Some-send-L : goal.step-requires-in-Some-send-L
-step-requires-in-Some-send-L g c κs within =
+pub step-requires-in-Some : goal.step-requires-in-Some
+step-requires-in-Some g c κs within =
     let pool : IsSharedOf g.M.PageMaker.told g.given.about c.args.pool.now = search rules in
     let own : IsSeatOf c.args.pool.now.hall c.args.seat.now = search rules in
     let free : IsFree c.args.seat.now = search rules in
     let driven : IsDriven (length (made_with c.args.pool.now.hall)) g.given (view c.args.seat.now) c.args.frame.now None = search rules in
     let none : c.args.outcome.now ≡ None = search rules in
-    (search rules, (search rules, (search rules, (search rules, (search rules, (search rules, (search rules, (search rules, (pool, (own, (free, (driven, none))))))))))))
+    (search rules, (search rules, (search rules, (search rules, (search rules, (search rules, (search rules, (pool, (own, (free, (driven, none)))))))))))
 
 pub returns-in-None-clause-steps : goal.returns-in-None-clause-steps
 returns-in-None-clause-steps g c =

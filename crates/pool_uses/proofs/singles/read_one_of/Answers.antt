@@ -23,12 +23,12 @@ validate_memory-requires g c =
     (memory_fits c.args.allocator.now.pool.settings c.args.call.now c.in-Ok.request.ty c.args.index (omega (arith, pool.settings.page.at_least)) c.requires.request.is c.requires.request.images c.in-Ok.ensures.memory).0
 
 pub allocate_memory-requires-clause-page : goal.allocate_memory-requires-clause-page
-allocate_memory-requires-clause-page g c κs within =
+allocate_memory-requires-clause-page g c =
     let pool = c.requires.pool.pool.hall.pool in
     (memory_fits c.args.allocator.now.pool.settings c.args.call.now c.in-Ok.request.ty c.args.index (omega (arith, pool.settings.page.at_least)) c.requires.request.is c.requires.request.images c.in-Ok.ensures.memory).0
 
 pub allocate_memory-requires-clause-image : goal.allocate_memory-requires-clause-image
-allocate_memory-requires-clause-image g c κs within =
+allocate_memory-requires-clause-image g c =
     let pool = c.requires.pool.pool.hall.pool in
     subst (λ (image : Option Image). IfSome image (FitsInto c.args.allocator.now.pool.settings.page (minimum_byte_size c.in-Ok.request.ty))) (sym c.in-Ok.ensures.image)
     (memory_fits c.args.allocator.now.pool.settings c.args.call.now c.in-Ok.request.ty c.args.index (omega (arith, pool.settings.page.at_least)) c.requires.request.is c.requires.request.images c.in-Ok.ensures.memory).1

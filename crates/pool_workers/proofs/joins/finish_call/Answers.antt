@@ -10,8 +10,8 @@ use Rattle.pool_threads.proofs.Adds.{grows_on, grows_still}
 use Rattle.pool_threads.proofs.Growing.{grows_step}
 use Rattle.pool_workers.proofs.joins.finish_call.Goals as goal
 
-pub step-requires-send-L : goal.step-requires-send-L
-step-requires-send-L g c κs within =
+pub step-requires : goal.step-requires
+step-requires g c κs within =
     let pool : IsSharedOf g.M.PageMaker.told g.given.about c.args.pool.now = search rules in
     let own = c.loop.invariant.own in
     let free = c.loop.invariant.free in

@@ -27,7 +27,7 @@ pub step_counted-requires-in-Down-clause-can : goal.step_counted-requires-in-Dow
 step_counted-requires-in-Down-clause-can g c = (can_down c.in-Down.name c.args.self.now c.args.frame.now c.requires.can (sym c.next_target.ensures.value ∙ c.in-Down.is)).0
 
 pub step_alone-requires-clause-can : goal.step_alone-requires-clause-can
-step_alone-requires-clause-can g c κs within = can_alone c.args.self.now c.args.frame.now c.requires.can (sym c.next_target.ensures.value ∙ c.in-Alone.is)
+step_alone-requires-clause-can g c = can_alone c.args.self.now c.args.frame.now c.requires.can (sym c.next_target.ensures.value ∙ c.in-Alone.is)
 
 pub returns-in-Part-clause-row : goal.returns-in-Part-clause-row
 returns-in-Part-clause-row g c =

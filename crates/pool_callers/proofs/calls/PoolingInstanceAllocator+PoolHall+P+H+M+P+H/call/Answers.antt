@@ -8,8 +8,8 @@ use Rattle.pool_callers.specs.Callers.{about_pool, about_shared, given_for}
 use Rattle.pool_callers.proofs.Settling.{begins_driven, settled}
 use Rattle.pool_callers.proofs.calls.PoolingInstanceAllocator+PoolHall+P+H+M+P+H.call.Goals as goal
 
-pub call-requires-send-L : goal.call-requires-send-L
-call-requires-send-L g c κs within =
+pub call-requires : goal.call-requires
+call-requires g c κs within =
     let pool : IsSharedOf g.M.PageMaker.told (about_shared g.M.PageMaker.told c.args.self.now.pool) c.args.self.now.pool = c.requires.pool.pool in
     let own : IsSeatOf c.args.self.now.pool.hall c.args.seat.now.seat = c.requires.seat.own in
     let free : IsFree c.args.seat.now.seat = c.requires.seat.free in

@@ -13,7 +13,7 @@ use Rattle.pool_callers.proofs.instances.PoolingInstanceAllocator+PoolHall+P+H+M
 use Rattle.pool_callers.proofs.instances.PoolingInstanceAllocator+PoolHall+P+H+M+P+H.allocate_module.Goals.{in_default-via-in-Granted+in_default, in_default-via-in_default}
 
 pub call-requires-clause-begins : goal.call-requires-clause-begins
-call-requires-clause-begins g c κs within =
+call-requires-clause-begins g c =
     let pool = c.requires.pool.pool.hall.pool in
     let fit = images_fit c.args.self.now.pool.settings c.args.request (omega (arith, pool.settings.page.at_least)) c.requires.request c.requires.images in
     (c.requires.seat.idle, fit.0, fit.1)

@@ -14,7 +14,7 @@ use Rattle.pool_callers.proofs.singles.PoolingInstanceAllocator+PoolHall+P+H+M+P
 use Rattle.pool_callers.proofs.singles.PoolingInstanceAllocator+PoolHall+P+H+M+P+H.allocate_memory.Goals.{in_default-via-in-Granted+in_default, in_default-via-in_default}
 
 pub call-requires-clause-begins : goal.call-requires-clause-begins
-call-requires-clause-begins g c κs within =
+call-requires-clause-begins g c =
     let pool = c.requires.pool.pool.hall.pool in
     (c.requires.seat.idle, has_shards c.args.self.now.pool.plan (length (made_with c.args.self.now.pool.hall)) memory_kind c.args.seat.now.frame.stripe pool.plan c.requires.seat.driven.frame.stripe, memory_supported c.args.self.now.pool.settings c.args.request c.requires.page c.requires.passes c.requires.image)
 

@@ -15,8 +15,8 @@ use Rattle.pool_driver.proofs.OverWants.{call_wants}
 use Rattle.pool_driver.proofs.Calling.{answers_call, begun_kind, driven_begun, goes_begun, none_had, rested}
 use Rattle.pool_driver.proofs.calls.SharedPool+PoolHall+P+H+M.call.Goals as goal
 
-pub run-requires-send-L : goal.run-requires-send-L
-run-requires-send-L g c κs within =
+pub run-requires : goal.run-requires
+run-requires g c κs within =
     let pool : IsSharedOf g.M.PageMaker.told g.given.about c.args.self.now = search rules in
     let own : IsSeatOf c.args.self.now.hall c.args.seat.now = search rules in
     let may : MayBegin g.given.about.maker g.given.about.settings g.given.about.plan c.args.call c.args.frame.now = search rules in

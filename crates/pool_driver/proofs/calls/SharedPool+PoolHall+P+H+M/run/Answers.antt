@@ -13,8 +13,8 @@ use Rattle.pool_driver.proofs.Asking.{call_asks_on, call_has_asked, call_has_wan
 use Rattle.pool_driver.proofs.Calling.{goes_on, has_ended}
 use Rattle.pool_driver.proofs.calls.SharedPool+PoolHall+P+H+M.run.Goals as goal
 
-pub step-requires-send-L : goal.step-requires-send-L
-step-requires-send-L g c κs within =
+pub step-requires : goal.step-requires
+step-requires g c κs within =
     let pool : IsSharedOf g.M.PageMaker.told g.given.about c.args.self.now = search rules in
     let own = c.loop.invariant.own in
     let free = c.loop.invariant.free in

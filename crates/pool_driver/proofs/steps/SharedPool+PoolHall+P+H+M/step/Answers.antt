@@ -19,7 +19,7 @@ next_target-requires g c =
     record { can = can_find_over g.given.about c.args.frame.now c.args.self.now.settings c.args.self.now.plan pool.settings pool.plan (can_find_next (length (made_with c.args.self.now.hall)) g.given (view c.args.seat.now) c.args.frame.now driven) }
 
 pub step_alone-requires-clause-can : goal.step_alone-requires-clause-can
-step_alone-requires-clause-can g c κs within =
+step_alone-requires-clause-can g c =
     let pool : IsSharedOf g.M.PageMaker.told g.given.about c.args.self.now = search rules in
     let driven : IsDriven (length (made_with c.args.self.now.hall)) g.given (view c.args.seat.now) c.args.frame.now None = search rules in
     let target : next_target g.given.about.settings g.given.about.plan c.args.frame.now.phase c.args.frame.now ≡ Alone = target_is g.given.about c.args.frame.now c.args.self.now.settings c.args.self.now.plan pool.settings pool.plan c.next_target.result _ c.next_target.ensures.value c.in-Alone.is in
