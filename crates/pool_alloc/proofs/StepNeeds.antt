@@ -351,11 +351,6 @@ may_by asked granted objects n none empty = absurd (omega (arith, none))
 may_by asked returned objects n none empty = tt
 may_by asked (refused e) objects n none empty = tt
 
-may_stack : (ending : Ending) (objects n : ℕ) → MayEnd objects (stage_by stack_asked ending n)
-may_stack granted objects n = tt
-may_stack returned objects n = tt
-may_stack (refused e) objects n = tt
-
 may_back : (asked : Asked) (ending : Ending) (objects n : ℕ) → is_granting ending ≡ false → MayEnd objects (stage_by asked ending n)
 may_back asked granted objects n back = absurd cc
 may_back asked returned objects n back = tt

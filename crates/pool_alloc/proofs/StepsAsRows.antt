@@ -1,5 +1,5 @@
 -- A step that the code makes, as a row of the table.
-use Rattle.std.proofs.Common.{◌≡◌, true, false, List, length, sym, ap, subst, ◌∙◌, Option, Some, None, Ok, Err, refl, IfSome, slice_get}
+use Rattle.std.proofs.Common.{◌≡◌, true, false, List, length, sym, ap, subst, ◌∙◌, Option, Some, None, Ok, Err, IfSome, slice_get}
 use Rattle.pool_alloc.proofs.Imports.{no_image_slot, empty_queue, Exchange, Exchanged}
 use Rattle.pool_slots.specs.declared.heap_maker.HeapMakeFault.TheVariants as no_heap
 use Rattle.pool_alloc.specs.PartyTold.{PartyTold}
@@ -56,7 +56,3 @@ module _ {P H : Type 0} where
 
   pub without_limiter : {old new : PartyTold} (c : PoolCore P H) (f : Frame P H) (a : After P H) → StepsTo old new c f a → StepsAsking (λ passed. Unit {0}) old new c f a
   without_limiter c f a steps = (steps.0, (steps.1, passes_at steps.0 f.phase f))
-
-  -- nothing is changed where no call is under way
-  pub idle_row : (g : StepGiven H) (c : PoolCore P H) (f : Frame P H) (left : Phase P H) → left ≡ Idle → ◌≡◌ {A = After P H} (record { core = c; frame = record f { phase = left }; outcome = None }) (stepped (row_of g Idle c (record f { phase = left })))
-  idle_row g c f left gone = refl

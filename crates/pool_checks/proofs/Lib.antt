@@ -1,1 +1,2 @@
 mod Imports
+mod Marks

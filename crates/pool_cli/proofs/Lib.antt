@@ -1,4 +1,3 @@
 pub mod Endings
 pub mod LoadReplies
-pub mod Marks
 pub mod Numerals

@@ -22,24 +22,6 @@ mod words;
 mod failure;
 mod status;
 
-// Tests
-#[cfg(test)]
-mod closing_tests;
-#[cfg(test)]
-mod kind_tests;
-#[cfg(test)]
-mod on_demand_tests;
-#[cfg(test)]
-mod party_tests;
-#[cfg(test)]
-mod run_tests;
-#[cfg(test)]
-mod tests;
-#[cfg(test)]
-mod threads_tests;
-#[cfg(test)]
-mod untold_pages;
-
 use pool_forms::{ReaderSource, WriterSink};
 use pool_pages::MemoryPages;
 use pool_types::PageSize;

@@ -1,17 +1,15 @@
 -- A look at a part leaves a seat what it had, and the call that it drives.
-use Rattle.std.proofs.Common.{◌≡◌, ℕ, ◌+◌, ◌-◌, ◌%◌, ◌^◌, ◌<◌, ◌≤◌, Bool, true, false, zero, suc, List, [], ◌∷◌, ◌++◌, length, min, drop, refl, sym, ap, subst, ◌∙◌, arith, Option, Some, slice_index, if◌then◌else◌, unwrap_or}
+use Rattle.std.proofs.Common.{◌≡◌, ℕ, ◌+◌, ◌-◌, ◌^◌, ◌<◌, ◌≤◌, Bool, true, false, zero, suc, List, [], ◌∷◌, ◌++◌, length, min, drop, refl, sym, ap, subst, ◌∙◌, arith, Option, Some, slice_index, if◌then◌else◌, unwrap_or}
 use Rattle.std.specs.Prelude.{slice_index_or}
 use Rattle.pool_pages.specs.MakerTold.{MakerTold}
-use Rattle.pool_hall.specs.Meaning.{Meaning, StandsAt}
-use Rattle.pool_hall.specs.Seat.{made_with, limits_of, view}
-use Rattle.pool_hall.specs.Held.{IsHeld}
+use Rattle.pool_hall.specs.Meaning.{Meaning}
+use Rattle.pool_hall.specs.Seat.{view}
 use Rattle.pool_hall.specs.Step.{Taken, MayPut, moved, put_view}
-use Rattle.pool_hall.specs.Sum.{often, one_if, total}
-use Rattle.pool_hall.specs.Tally.{additions, low_additions, subtractions, counted, number, rise}
-use Rattle.pool_hall.specs.Unit.{times, pick_of, Beside}
+use Rattle.pool_hall.specs.Sum.{often, total}
+use Rattle.pool_hall.specs.Tally.{counted, rise}
+use Rattle.pool_hall.specs.Unit.{times, pick_of}
 use Rattle.pool_hall.specs.declared.unit_name.SlotKind.{SlotKind}
 use Rattle.pool_hall.specs.declared.unit_name.UnitName.{UnitName}
-use Rattle.pool_hall.specs.declared.view.CountRise.{CountRise}
 use Rattle.pool_hall.specs.declared.view.View.{View}
 use Rattle.pool_hall.proofs.Hands.{times_moved}
 use Rattle.pool_hall.proofs.Totals.{total_append}
@@ -24,11 +22,10 @@ use Rattle.pool_alloc.specs.BetweenSteps.{IsPartFor}
 use Rattle.pool_alloc.specs.PoolTotals.{warm_in}
 use Rattle.pool_alloc.specs.declared.pool_core.Settings.{Settings}
 use Rattle.pool_alloc.proofs.PlanPlaces.{shard_inside}
-use Rattle.pool_alloc.specs.Places.{Counter}
 use Rattle.pool_alloc.specs.declared.frame.Frame.{Frame}
 use Rattle.pool_alloc.specs.declared.frame.Outcome.{Outcome}
 use Rattle.pool_driver.specs.Driving.{Given, IsDriven, counter_number, counter_of}
-use Rattle.pool_driver.specs.Looking.{AreNumbersAt, AreOfAll, AreOfShards, AreSeenFrom, HasLooked, IsCounted, IsFlat, IsSumOf, slots_among}
+use Rattle.pool_driver.specs.Looking.{AreNumbersAt, AreOfAll, AreOfShards, AreSeenFrom, HasLooked, IsCounted, IsSumOf, slots_among}
 use Rattle.pool_driver.specs.Placed.{About, about_made, pool_meaning}
 use Rattle.pool_driver.specs.Pools.{IsPool}
 use Rattle.pool_driver.specs.declared.looking.WarmSlots.{WarmSlots}
@@ -66,11 +63,6 @@ module _ {T : Type 0} (m : Meaning T) (made : List T) (limits : List ℕ) (p : �
     rises = λ each none. omega (arith, ap (λ (z : View T). total each z.rises) is, none (record { place = p; before = m.counts x; after = m.counts x }) (λ i. rise_none (slice_index (m.counts x) i) (told.stands.small i)));
     noted = (put_holds m p x x v w is).noted;
   }
-
--- A seat that holds a place for a call that changes nothing looks at the part there.
-pub looked_held : {T : Type 0} (m : Meaning T) (made : List T) (limits : List ℕ) (p : ℕ) (does : T → T → Type 0) (v w : View T) → ((x y : T) → does x y → y ≡ x) → IsHeld m made limits p does v w → HasLooked v w
-looked_held {T} m made limits p does v w same held =
-    looked_here m made limits p held.before v held.told w (held.view ∙ ap (λ (y : T). put_view m p held.before y v) (same held.before held.after held.did))
 
 -- Nothing is a look, and two looks are one.
 pub not_looked : {T : Type 0} (v : View T) → HasLooked v v

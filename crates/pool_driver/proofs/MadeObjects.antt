@@ -30,7 +30,7 @@ use Rattle.pool_alloc.specs.declared.frame.Grant.TheVariants.{Instance, Componen
 use Rattle.pool_alloc.specs.declared.frame.Outcome.{Outcome}
 use Rattle.pool_alloc.specs.declared.frame.Outcome.TheVariants.{Key, Granted, Returned, Purged, Released, Refused}
 use Rattle.pool_alloc.specs.declared.frame.Phase.{Phase}
-use Rattle.pool_alloc.specs.declared.frame.Phase.TheVariants.{Idle, Pick, TakeQueue, TakeRegion, CountObject, TakeHeap, MakeHeap, PutNoHeap, UncountInstance, Flush}
+use Rattle.pool_alloc.specs.declared.frame.Phase.TheVariants.{Idle, Pick, TakeQueue, TakeRegion, TakeHeap, MakeHeap, PutNoHeap, UncountInstance, Flush}
 use Rattle.pool_alloc.specs.declared.frame.TakenSlot.{TakenSlot}
 use Rattle.pool_alloc.specs.declared.pool_core.PoolCore.{PoolCore}
 use Rattle.pool_alloc.specs.declared.pool_core.Settings.{Settings}
@@ -147,21 +147,7 @@ at_most (asked_for.HeapOver memory) granted k = omega arith
 at_most a returned k = omega arith
 at_most a (refused e) k = omega arith
 
-none_at_back : (aim : Ending) → made_until (stage_back aim) ≡ 0
-none_at_back granted = refl
-none_at_back returned = refl
-none_at_back (refused e) = refl
-
-none_at_release : {P : Type 0} (step : ReleaseStep P) → made_until (stage_of_release step) ≡ 0
-none_at_release Reserve = refl
-none_at_release step = refl
-
 module _ {P H : Type 0} where
-  -- the phase counts an object
-  abbrev pub is_counting : Phase P H → Bool
-  is_counting (CountObject o) = true
-  is_counting _ = false
-
   -- an instance that is answered has at most so many objects, and a memory or a table by itself is one
   abbrev pub HasAtMost : ℕ → Option (Outcome P H) → Type 0
   HasAtMost k None = Unit {0}

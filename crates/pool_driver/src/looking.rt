@@ -68,7 +68,7 @@ impl<P: Pages, H: GcHeap, M: PageMaker> PartCall<HallPart<P, H, M>> for ReadWarm
 
 impl<P: Pages, H: GcHeap, M: PageMaker> SharedPool<PoolHall<P, H, M>> {
     /// How many slots of a kind are warm, and how many bytes they keep resident. Waits for each shard of the kind, holds one at a time, and
-    /// leaves it as it is. With one caller the numbers are those of the moment; with others each shard is counted at another moment. They
+    /// leaves it as it is. Each shard is counted at another moment; with one caller, as no clause says, all are as at one. The numbers
     /// stand still at the end of their types.
     pub fn warm_slots<R: Wait>(
         &self,

@@ -5,8 +5,8 @@
 //! then cold ones or warm ones by the budget. `ShardLayout` splits slots among shards, `Taken` has slots that a purge
 //! or a release took, and `Steps` counts accesses in contracts.
 //!
-//! The index allocators behind locks are for the pool of threads, and no pool uses them yet:
-//! `ModuleAffinityIndexAllocator`, `SimpleIndexAllocator`, and the round over shards (`probe_shards`).
+//! The index allocators behind locks are halls of shards by themselves: `ModuleAffinityIndexAllocator`,
+//! `SimpleIndexAllocator`, and the round over shards (`probe_shards`). The pool for threads has its shards in a hall of its own.
 //!
 //! From Wasmtime: `vm/instance/allocator/pooling/index_allocator.rs`. It stands on `pool_types` and `pool_hall`.
 //!

@@ -11,20 +11,6 @@ one_if : (b : Bool) (x : ℕ) → x ≤ (if b then suc x else x)
 one_if true x = omega arith
 one_if false x = omega arith
 
--- one more call
-pub passes_on : (plan : List ℕ) (made faults : ℕ) → made ≤ 2 ^ 64 - 1 → NoMoreThanListed plan made faults → NoMoreThanListed plan (risen made) faults
-passes_on plan made faults fits h = elim (cases_lt made (2 ^ 64 - 1)) [
-  | inl below ↦
-      let up : suc made ≡ risen made = omega (arith, below) in
-      elim h [
-        | inl few ↦ subst (λ n. NoMoreThanListed plan n faults) up (inl (omega (arith, few, one_if (list_any (λ m. m == suc made) plan) (listed_among plan made))))
-        | inr ends ↦ absurd (omega (arith, below, ends.0))
-      ]
-  | inr past ↦
-      let same : made ≡ risen made = omega (arith, past, fits) in
-      subst (λ n. NoMoreThanListed plan n faults) same h
-]
-
 -- one more call, which the list refuses
 pub refuses_on : (plan : List ℕ) (made faults : ℕ) → list_any (λ m. m == risen made) plan ≡ true → NoMoreThanListed plan made faults → NoMoreThanListed plan (risen made) (risen faults)
 refuses_on plan made faults listed h = elim (cases_lt made (2 ^ 64 - 1)) [

@@ -17,10 +17,6 @@ mod command_limits;
 mod limits;
 mod shared_limits;
 
-// Tests
-#[cfg(test)]
-mod tests;
-
 use pool_forms::{ReaderSource, WriterSink};
 use pool_view_steps::Printer;
 use status::Status;

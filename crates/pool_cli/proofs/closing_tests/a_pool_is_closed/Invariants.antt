@@ -1,5 +1,0 @@
-use Rattle.pool_pages.specs.MemoryTold.{memory_maker}
-use Rattle.pool_cli.proofs.closing_tests.a_pool_is_closed.Given as goal
-
-abbrev pub ghost-close : goal.ghost-close
-ghost-close g a = memory_maker 4096 0
