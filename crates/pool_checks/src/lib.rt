@@ -33,6 +33,8 @@ mod parking_tests;
 
 // Callers of the pool for threads
 #[cfg(test)]
+mod any_allocator_tests;
+#[cfg(test)]
 mod one_caller_tests;
 #[cfg(test)]
 mod page_call_tests;
