@@ -2,6 +2,7 @@
 use Rattle.std.proofs.Common.{◌≡◌, ℕ, ◌+◌, ◌*◌, zero, suc, List, [], ◌∷◌, ◌++◌, length, map, refl, sym, ap, ◌∙◌, subst, arith, Result}
 use Rattle.std.specs.Prelude.{slice_index_or, slice_set}
 use Rattle.std.specs.List.{AllByRecursion}
+use Rattle.std.proofs.lemmas.List.{length-set}
 use Rattle.std.proofs.lemmas.List.Sums.{sum_by-cons}
 use Rattle.pool_hall.specs.Sum.{total}
 use Rattle.pool_hall.specs.Unit.{Beside}
@@ -126,11 +127,6 @@ weigh_set t (l ∷ ls) (suc k) lease same = omega (
   weigh_set t ls k lease same,
 )
 
-length_set : (leases : List Lease) (k : ℕ) (lease : Lease) → length (slice_set leases k lease) ≡ length leases
-length_set [] k lease = refl
-length_set (l ∷ ls) zero lease = refl
-length_set (l ∷ ls) (suc k) lease = ap suc (length_set ls k lease)
-
 -- An instance whose memory was written weighs what it weighed, and counts as often.
 module _ (P H : Type 0) (old new : InstanceLease P) (k at : ℕ) (bytes : List ℕ) (r : Result (Unit {0}) Trap) (changed : IsChanged (λ l m. IsWritten at bytes l m r) k old.memories new.memories) (same : new.tables ≡ old.tables) where
   count_written : (t : Thing) → grant_count {P = P} {H = H} t (Instance new) ≡ grant_count {P = P} {H = H} t (Instance old)
@@ -144,7 +140,7 @@ module _ (P H : Type 0) (old new : InstanceLease P) (k at : ℕ) (bytes : List �
   counted_written : (c : Counter) → grant_counted {P = P} {H = H} (only c) (Instance new) ≡ grant_counted {P = P} {H = H} (only c) (Instance old)
   counted_written c = omega (
     arith,
-    ap (λ (n : ℕ). n * only c (counted_object memory_kind)) (ap (λ (m : Reserved Lease). length m.items) changed.is ∙ length_set old.memories.items k changed.lease),
+    ap (λ (n : ℕ). n * only c (counted_object memory_kind)) (ap (λ (m : Reserved Lease). length m.items) changed.is ∙ length-set old.memories.items k changed.lease),
     ap (λ (x : Reserved LeasedTable). length x.items * only c (counted_object table_kind)) same,
   )
 
